@@ -23,7 +23,7 @@ import tempfile
 import bench
 import other_reading
 
-CRATE = other_reading.TOP / "crates/tests_aper_values"
+CRATE = other_reading.TOP / "crates/tests_aper"
 PROGRAM = CRATE / "out/tests_aper_values_tests"
 TESTS = {"decode": "codec::reads_values", "encode": "codec::writes_values"}
 LARGEST = 2**32 - 8
@@ -35,7 +35,7 @@ def table_of_tests():
     module = re.search(r'MODULE: &\[u8\] = b"(.*?)";', source, re.DOTALL)
     spelled = re.search(r"SPELLED: \[&str; \d+\] = \[(.*?)\];", source, re.DOTALL)
     if not module or not spelled:
-        raise bench.Unmeasured("crates/tests_aper_values/src/codec.rt has no module and no octets")
+        raise bench.Unmeasured("crates/tests_aper/src/values/codec.rt has no module and no octets")
     return module[1].replace("\\n\\\n", "\n").replace("\\n", "\n"), re.findall('"([0-9A-F]+)"', spelled[1])
 
 
@@ -103,7 +103,7 @@ def main():
     if given.runs < 1:
         asked.error("each is run at least once")
     if shutil.which(given.program) is None:
-        print(f"bench_codec: '{given.program}' is no program that can be run; 'rt test' in crates/tests_aper_values builds the one that is measured", file=sys.stderr)
+        print(f"bench_codec: '{given.program}' is no program that can be run; 'rt test' in crates/tests_aper builds the one that is measured", file=sys.stderr)
         return bench.USAGE
     with tempfile.TemporaryDirectory() as folder:
         try:

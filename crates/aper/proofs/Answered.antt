@@ -7,14 +7,14 @@ use Rattle.aper_defs.specs.Fields.{Path}
 use Rattle.aper_defs.specs.Bounds.{IsBounded}
 use Rattle.aper_defs.specs.Spelling.{Spells}
 use Rattle.aper_defs.specs.Reading.{Fault, decoded}
-use Rattle.aper_proof_refused.proofs.aper_proof_spelled.Spelled.{spelled_decoded}
-use Rattle.aper_loose_defs.specs.Wrong.{WrongAt}
-use Rattle.aper_loose_defs.specs.Sets.{HasSets, LeavesIds}
-use Rattle.aper_proof_refused.proofs.Refused.{refused_wrong}
-use Rattle.aper_reading.specs.aper_frames.Paths.{path_view}
-use Rattle.aper_reading.specs.declared.error.DecodeError as reading
-use Rattle.aper_reading.specs.declared.error.DecodeError.TheVariants as undecoded
-use Rattle.aper_reading.specs.Decoding.{Decodes}
+use Rattle.proof_aper.proofs.spelled.Spelled.{spelled_decoded}
+use Rattle.aper_defs.specs.loose_defs.Wrong.{WrongAt}
+use Rattle.aper_defs.specs.loose_defs.Sets.{HasSets, LeavesIds}
+use Rattle.proof_aper.proofs.refused.Refused.{refused_wrong}
+use Rattle.aper_frames.specs.Paths.{path_view}
+use Rattle.aper_decode.specs.declared.error.DecodeError as reading
+use Rattle.aper_decode.specs.declared.error.DecodeError.TheVariants as undecoded
+use Rattle.aper_decode.specs.Decoding.{Decodes}
 use Rattle.aper.specs.declared.error.DecodeError.{DecodeError}
 use Rattle.aper.specs.declared.error.DecodeError.TheVariants.{Refused, Memory}
 use Rattle.aper.specs.Refusals.{OnRefusal, IsRefused}

@@ -2,8 +2,8 @@
 use Rattle.std.proofs.Common.{◌≡◌, ℕ, ◌+◌, ◌<◌, ◌≤◌, List, [], ◌∷◌, ◌++◌, map, length, drop, get_or, refl, sym, ap, ◌∙◌}
 use Rattle.std.specs.Prelude.{reverse, codes}
 use Rattle.std.proofs.lemmas.List.{map-append, reverse-append, reverse-reverse, drop_more, drop_all}
-use Rattle.aper_reading.specs.aper_frames.declared.path.Step.{Step}
-use Rattle.aper_reading.specs.aper_frames.Paths.{step_view, path_view}
+use Rattle.aper_frames.specs.declared.path.Step.{Step}
+use Rattle.aper_frames.specs.Paths.{step_view, path_view}
 use Rattle.aper.specs.PathText.{step_text, steps_after, steps_text, path_text}
 
 pub map-reverse : {A B : Type 0} (f : A → B) (xs : List A) → map f (reverse xs) ≡ reverse (map f xs)

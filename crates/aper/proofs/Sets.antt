@@ -2,26 +2,26 @@
 use Rattle.std.proofs.Common.{◌≡◌, ℕ, zero, suc, ◌+◌, ◌<◌, ◌≤◌, ◌==◌, nat_lt, cond, List, [], ◌∷◌, length, Bool, true, false, refl, sym, ap, subst, ◌∙◌, arith}
 use Rattle.std.specs.Prelude.{Option, Some, None, map}
 use Rattle.asn1_tokens.specs.Words.{is_text}
-use Rattle.asn1_types.specs.declared.definition.TypeId.{TypeId}
-use Rattle.asn1_types.specs.declared.definition.Component.{Component}
-use Rattle.asn1_types.specs.declared.definition.Definition.{Definition}
-use Rattle.asn1_types.specs.declared.definition.Definition.TheVariants as types
-use Rattle.asn1_types.specs.Members.{additions_of}
-use Rattle.asn1_assignments.specs.declared.assignment.Body.{Body}
-use Rattle.asn1_assignments.specs.declared.assignment.Body.TheVariants as bodies
-use Rattle.asn1_assignments.specs.declared.assignment.IeRow.{IeRow}
-use Rattle.asn1_assignments.specs.declared.assignment.ProcedureRow.{ProcedureRow}
-use Rattle.asn1_assignments.specs.declared.assignment.Assignment.{Assignment}
-use Rattle.asn1_assignments.specs.declared.assignment.Syntax.{Syntax}
-use Rattle.aper_reading.proofs.asn1_proof_reading.Readings.{read_of}
-use Rattle.aper_reading.specs.asn1_defs.Targets.{find_type, ie_rows, ie_rows_of, procedure_rows, definition_at, all_of}
-use Rattle.aper_reading.specs.asn1_defs.Modules.{IsModule}
-use Rattle.aper_reading.specs.asn1_proof_module.Proper.{Each, IsNew, AreOnce, ie_id, IsBodyWithin}
-use Rattle.aper_reading.proofs.asn1_proof_module.ModuleBounds.{proper}
+use Rattle.asn1_syntax.specs.declared.types.definition.TypeId.{TypeId}
+use Rattle.asn1_syntax.specs.declared.types.definition.Component.{Component}
+use Rattle.asn1_syntax.specs.declared.types.definition.Definition.{Definition}
+use Rattle.asn1_syntax.specs.declared.types.definition.Definition.TheVariants as types
+use Rattle.asn1_syntax.specs.types.Members.{additions_of}
+use Rattle.asn1_syntax.specs.declared.assignments.assignment.Body.{Body}
+use Rattle.asn1_syntax.specs.declared.assignments.assignment.Body.TheVariants as bodies
+use Rattle.asn1_syntax.specs.declared.assignments.assignment.IeRow.{IeRow}
+use Rattle.asn1_syntax.specs.declared.assignments.assignment.ProcedureRow.{ProcedureRow}
+use Rattle.asn1_syntax.specs.declared.assignments.assignment.Assignment.{Assignment}
+use Rattle.asn1_syntax.specs.declared.assignments.assignment.Syntax.{Syntax}
+use Rattle.proof_asn1.proofs.reading.Readings.{read_of}
+use Rattle.asn1_defs.specs.Targets.{find_type, ie_rows, ie_rows_of, procedure_rows, definition_at, all_of}
+use Rattle.asn1_defs.specs.Modules.{IsModule}
+use Rattle.proof_asn1_modules.specs.asn1_proof_module.Proper.{Each, IsNew, AreOnce, ie_id, IsBodyWithin}
+use Rattle.proof_asn1_modules.proofs.asn1_proof_module.ModuleBounds.{proper}
 use Rattle.aper_defs.specs.Trees.{Tree, slots, has_slot}
-use Rattle.aper_loose_defs.specs.Sets.{AreOwnIds, IsSet, LeavesId, EachSet, EachSetOfParts, EachSetOfRows, EachSetOfProcedures, EachSetOfOutcome, HasSets, LeavesIds}
-use Rattle.aper_proof_answers.proofs.NumberFacts.{by_cases, below, not_below, same, is_same}
-use Rattle.aper_value_checks.specs.aper_types.Types.{parts_of, rows_of, outcome_of, procedures_of, named_tree, definition_tree, tree_by, tree}
+use Rattle.aper_defs.specs.loose_defs.Sets.{AreOwnIds, IsSet, LeavesId, EachSet, EachSetOfParts, EachSetOfRows, EachSetOfProcedures, EachSetOfOutcome, HasSets, LeavesIds}
+use Rattle.proof_aper.proofs.answers.NumberFacts.{by_cases, below, not_below, same, is_same}
+use Rattle.aper_values.specs.types.Types.{parts_of, rows_of, outcome_of, procedures_of, named_tree, definition_tree, tree_by, tree}
 
 -- ---- numbers below a bound, each once, are no more than the bound
 true_not_false : true ≡ false → ⊥

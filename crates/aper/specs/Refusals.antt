@@ -6,8 +6,8 @@ use Rattle.aper_defs.specs.Values as seen
 use Rattle.aper_defs.specs.Fields.{Path}
 use Rattle.aper_defs.specs.Spelling.{Spells}
 use Rattle.aper_defs.specs.Reading.{decoded}
-use Rattle.aper_loose_defs.specs.Wrong.{WrongAt}
-use Rattle.aper_loose_defs.specs.Sets.{LeavesIds}
+use Rattle.aper_defs.specs.loose_defs.Wrong.{WrongAt}
+use Rattle.aper_defs.specs.loose_defs.Sets.{LeavesIds}
 use Rattle.aper_values.specs.declared.value.Value.{Value}
 use Rattle.aper.specs.declared.error.DecodeError.{DecodeError}
 use Rattle.aper.specs.declared.error.DecodeError.TheVariants.{Refused, Memory}

@@ -2,16 +2,16 @@
 
 ghost use Rattle.std.specs.Prelude.{◌<◌, length, IfOk};
 ghost use Rattle.aper_defs.specs.Spelling.{Spells};
-ghost use Rattle.aper_value_checks.specs.aper_types.Types.{tree};
+ghost use Rattle.aper_values.specs.types.Types.{tree};
 ghost use Rattle.aper_values.specs.Views.{view};
 ghost use Rattle.aper.specs.Refusals.{OnRefusal, IsRefused, IsFirstWrong};
 ghost use Rattle.aper.specs.inside.Printed.{IsPrinted};
 
 use crate::error::DecodeError;
 use crate::path::path_text;
-use aper_reading::DecodeError as Undecoded;
-use aper_reading::from_asn1_module::{Module, TypeId};
+use aper_decode::DecodeError as Undecoded;
 use aper_values::value::Value;
+use asn1_module::{Module, TypeId};
 use std::alloc::Global;
 
 /// The value of a type of a module that these octets spell.
@@ -23,7 +23,7 @@ pub fn decode(alloc: Global, m: &Module, id: TypeId, octets: &[u8]) -> Result<Va
 {
     // A module that was read has types within the profile's bounds alone, of which the laws of spellings speak.
     let _ = m.name();
-    match aper_reading::decode(alloc, m, id, octets) {
+    match aper_decode::decode(alloc, m, id, octets) {
         Ok(value) => Ok(value),
         Err(error) => Err(printed(alloc, error)),
     }

@@ -3,18 +3,18 @@
 #![tactic(auto)]
 
 mod decoder;
+pub mod encoding;
 mod error;
+pub mod measures;
+pub mod measuring;
 mod path;
+pub mod value_checks;
+pub mod writing;
 
+pub use crate::encoding::encode;
+pub use crate::value_checks::{is_value, spelled_length};
 pub use aper_defs::Reason;
-pub use aper_encoding::encode;
-pub use aper_value_checks::{is_value, spelled_length};
 pub use aper_values::value::{Element, Ie, Ies, OptValues, Value, Values};
 pub use decoder::decode;
 pub use error::DecodeError;
 pub use path::path_text;
-
-/// Of `aper_reading`, for crates above.
-pub mod from_aper_reading {
-    pub use aper_reading::DecodeError;
-}

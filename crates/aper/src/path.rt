@@ -1,10 +1,10 @@
 //! Ways to values as text.
 
 ghost use Rattle.std.specs.Prelude.{◌≡◌, IfOk};
-ghost use Rattle.aper_reading.specs.aper_frames.Paths.{path_view, step_view};
+ghost use Rattle.aper_frames.specs.Paths.{path_view, step_view};
 ghost use Rattle.aper.specs.PathText.{path_text, step_text, outcome_text};
 
-use aper_reading::from_aper_frames::Step;
+use aper_frames::Step;
 use gnb_types::octets::{Memory, Octets};
 use std::alloc::Global;
 

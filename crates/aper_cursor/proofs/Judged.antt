@@ -2,15 +2,15 @@
 use Rattle.std.proofs.Common.{◌≡◌, ℕ, ◌+◌, ◌^◌, ◌<◌, ◌≤◌, ◌==◌, Bool, true, false, List, [], ◌∷◌, length, take as first, None, Some, Ok, Err, refl, sym, ap, subst, ◌∙◌, arith}
 use Rattle.std.proofs.Math.Nat.{pow-le-pow_right}
 use Rattle.std.proofs.lemmas.Bool.Decides.{nat_tests}
-use Rattle.aper_proof_values.specs.bits_core.Bits.{number_of}
-use Rattle.aper_proof_values.specs.aper_defs.declared.reason.Reason.{Reason}
-use Rattle.aper_proof_values.specs.aper_defs.declared.reason.Reason.TheVariants as reasons
-use Rattle.aper_proof_values.specs.aper_defs.Fields.{Ask, extent, opening, whole}
-use Rattle.aper_proof_values.specs.aper_defs.Bits.{width_at}
-use Rattle.aper_proof_values.specs.aper_defs.Reading.{Cursor, Opened, bits_at, told_width, passes, asked_width, judged, answer_of, answered, read, read_within, opens_after, answered_at, moved_by, unless}
-use Rattle.aper_proof_values.proofs.aper_proof_answers.NumberFacts.{is_same}
-use Rattle.aper_proof_values.proofs.Found.{answer_read}
-use Rattle.aper_proof_values.proofs.FoundBits.{written}
+use Rattle.bits_core.specs.Bits.{number_of}
+use Rattle.aper_defs.specs.declared.reason.Reason.{Reason}
+use Rattle.aper_defs.specs.declared.reason.Reason.TheVariants as reasons
+use Rattle.aper_defs.specs.Fields.{Ask, extent, opening, whole}
+use Rattle.aper_defs.specs.Bits.{width_at}
+use Rattle.aper_defs.specs.Reading.{Cursor, Opened, bits_at, told_width, passes, asked_width, judged, answer_of, answered, read, read_within, opens_after, answered_at, moved_by, unless}
+use Rattle.proof_aper.proofs.answers.NumberFacts.{is_same}
+use Rattle.proof_aper.proofs.values.Found.{answer_read}
+use Rattle.proof_aper.proofs.values.FoundBits.{written}
 use Rattle.aper_cursor.specs.declared.questions.Question.{Question}
 use Rattle.aper_cursor.specs.declared.questions.Question.TheVariants as questions
 use Rattle.aper_cursor.specs.Questions.{question_of, IsNumberOf}

@@ -3,13 +3,13 @@ use Rattle.std.proofs.Common.{◌≡◌, ℕ, ◌+◌, ◌*◌, ◌^◌, ◌<◌
 use Rattle.std.specs.Prelude.{nat_le, reverse}
 use Rattle.std.proofs.lemmas.Bool.Decides.{nat_tests}
 use Rattle.std.proofs.lemmas.List.{reverse-append, length-drop}
-use Rattle.aper_proof_values.specs.bits_core.Bits.{octet_bits}
-use Rattle.aper_proof_values.proofs.bits_core.BitLemmas.{length-octet_bits}
-use Rattle.aper_proof_values.specs.aper_defs.declared.reason.Reason.{Reason}
-use Rattle.aper_proof_values.specs.aper_defs.declared.reason.Reason.TheVariants as reasons
-use Rattle.aper_proof_values.specs.aper_defs.Reading.{Cursor, is_within, passes, bits_at, bit_limit}
-use Rattle.aper_proof_values.proofs.aper_proof_answers.NumberFacts.{is_at_most, is_not_below, is_below}
-use Rattle.aper_proof_values.proofs.Found.{taken_size, taken_limit}
+use Rattle.bits_core.specs.Bits.{octet_bits}
+use Rattle.bits_core.proofs.BitLemmas.{length-octet_bits}
+use Rattle.aper_defs.specs.declared.reason.Reason.{Reason}
+use Rattle.aper_defs.specs.declared.reason.Reason.TheVariants as reasons
+use Rattle.aper_defs.specs.Reading.{Cursor, is_within, passes, bits_at, bit_limit}
+use Rattle.proof_aper.proofs.answers.NumberFacts.{is_at_most, is_not_below, is_below}
+use Rattle.proof_aper.proofs.values.Found.{taken_size, taken_limit}
 use Rattle.aper_cursor.specs.declared.cursor.OpenType.{OpenType}
 use Rattle.aper_cursor.specs.declared.cursor.Cursor.TheInside.{Inside}
 use Rattle.aper_cursor.specs.inside.Places.{opened, place_of, no_end, IsNearest, IsPlace}

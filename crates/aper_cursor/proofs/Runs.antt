@@ -3,17 +3,17 @@ use Rattle.std.proofs.Common.{◌≡◌, ℕ, zero, suc, ◌+◌, ◌-◌, ◌*�
 use Rattle.std.specs.Result.{IsOk}
 use Rattle.std.proofs.lemmas.List.{drop-drop, drop_at, take_at, length-take, length-drop, length-replicate, length-append, take-append-drop, get_or-take, get_or-append-add}
 use Rattle.std.proofs.lemmas.Grind.{flat_map-append}
-use Rattle.aper_proof_values.proofs.bits_core.BitLemmas.{length-octet_bits, length-bits_of, number_is}
-use Rattle.aper_proof_values.specs.bits_core.declared.reader.BitError.{BitError}
-use Rattle.aper_proof_values.specs.bits_core.declared.reader.BitError.TheVariants.{Short, Padding}
-use Rattle.aper_proof_values.specs.bits_core.Bits.{bits_of, number_of, numbers_at, octet_bits}
-use Rattle.aper_proof_values.specs.bits_core.Reading.{Reading, TakesBits, TakesNumber, bits_left, moved}
+use Rattle.bits_core.proofs.BitLemmas.{length-octet_bits, length-bits_of, number_is}
+use Rattle.bits_core.specs.declared.reader.BitError.{BitError}
+use Rattle.bits_core.specs.declared.reader.BitError.TheVariants.{Short, Padding}
+use Rattle.bits_core.specs.Bits.{bits_of, number_of, numbers_at, octet_bits}
+use Rattle.bits_core.specs.Reading.{Reading, TakesBits, TakesNumber, bits_left, moved}
 use Rattle.std.proofs.Math.Nat.{mul-le-mul_left}
-use Rattle.aper_proof_values.proofs.Found.{taken_size}
-use Rattle.aper_proof_values.specs.aper_defs.declared.reason.Reason.{Reason}
-use Rattle.aper_proof_values.specs.aper_defs.Fields.{RunUnit}
-use Rattle.aper_proof_values.specs.aper_defs.Bits.{unit_width}
-use Rattle.aper_proof_values.specs.aper_defs.Reading.{Cursor, passes, bits_at, moved_by, read_units, units_within}
+use Rattle.proof_aper.proofs.values.Found.{taken_size}
+use Rattle.aper_defs.specs.declared.reason.Reason.{Reason}
+use Rattle.aper_defs.specs.Fields.{RunUnit}
+use Rattle.aper_defs.specs.Bits.{unit_width}
+use Rattle.aper_defs.specs.Reading.{Cursor, passes, bits_at, moved_by, read_units, units_within}
 use Rattle.aper_cursor.specs.Answers.{TakesRun}
 
 -- one more number of a run

@@ -1,9 +1,9 @@
 -- What the calls of a cursor answer.
 use Rattle.std.specs.Prelude.{◌≡◌, ℕ, ◌*◌, List, ◌++◌, length, Result, Ok, Err}
-use Rattle.aper_proof_values.specs.aper_defs.declared.reason.Reason.{Reason}
-use Rattle.aper_proof_values.specs.aper_defs.Fields.{Ask, RunUnit}
-use Rattle.aper_proof_values.specs.aper_defs.Bits.{unit_width}
-use Rattle.aper_proof_values.specs.aper_defs.Reading.{Cursor, read, read_units, answered_at, moved_by}
+use Rattle.aper_defs.specs.declared.reason.Reason.{Reason}
+use Rattle.aper_defs.specs.Fields.{Ask, RunUnit}
+use Rattle.aper_defs.specs.Bits.{unit_width}
+use Rattle.aper_defs.specs.Reading.{Cursor, read, read_units, answered_at, moved_by}
 use Rattle.aper_cursor.specs.declared.error.Unanswered.{Unanswered}
 use Rattle.aper_cursor.specs.declared.error.Unanswered.TheVariants.{Wrong, Memory}
 

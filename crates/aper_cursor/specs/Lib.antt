@@ -3,3 +3,5 @@ pub mod Rows
 pub mod Answers
 pub mod Spans
 pub mod inside
+pub mod asking
+pub mod strings

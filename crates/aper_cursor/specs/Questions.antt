@@ -1,11 +1,11 @@
 -- The questions of the code, as the definitions have them.
 use Rattle.std.specs.Prelude.{ℕ, ◌*◌, ◌<◌, ◌≤◌, ◌^◌, List, map, Bool, true, false}
-use Rattle.asn1_assignments.specs.declared.assignment.IeRow.{IeRow}
-use Rattle.asn1_assignments.specs.declared.assignment.Presence.{Presence}
-use Rattle.asn1_assignments.specs.declared.assignment.Presence.TheVariants as presences
-use Rattle.aper_proof_values.specs.aper_defs.Trees.{Slot}
-use Rattle.aper_proof_values.specs.aper_defs.Fields as fields
-use Rattle.aper_proof_values.specs.aper_defs.Reading as reading
+use Rattle.asn1_syntax.specs.declared.assignments.assignment.IeRow.{IeRow}
+use Rattle.asn1_syntax.specs.declared.assignments.assignment.Presence.{Presence}
+use Rattle.asn1_syntax.specs.declared.assignments.assignment.Presence.TheVariants as presences
+use Rattle.aper_defs.specs.Trees.{Slot}
+use Rattle.aper_defs.specs.Fields as fields
+use Rattle.aper_defs.specs.Reading as reading
 use Rattle.aper_cursor.specs.declared.lengths.Extent.{Extent}
 use Rattle.aper_cursor.specs.declared.lengths.Extent.TheVariants as extents
 use Rattle.aper_cursor.specs.declared.lengths.LengthForm.{LengthForm}

@@ -1,7 +1,7 @@
 -- A row that an id finds.
 use Rattle.std.specs.Prelude.{◌≡◌, ℕ, ◌+◌, ◌<◌, List, length, take, drop, true, false, Option, Some, None}
-use Rattle.asn1_assignments.specs.declared.assignment.IeRow.{IeRow}
-use Rattle.aper_proof_values.specs.aper_defs.Trees.{has_slot, slots_before, slots_after}
+use Rattle.asn1_syntax.specs.declared.assignments.assignment.IeRow.{IeRow}
+use Rattle.aper_defs.specs.Trees.{has_slot, slots_before, slots_after}
 use Rattle.aper_cursor.specs.Questions.{slots_of}
 
 pub record IsRow (id : ℕ) (rows : List IeRow) (i : ℕ) : Type 0 where

@@ -1,5 +1,5 @@
 -- Open types around a place, as the definitions have them.
-use Rattle.aper_proof_values.specs.aper_defs.Reading.{Opened}
+use Rattle.aper_defs.specs.Reading.{Opened}
 use Rattle.aper_cursor.specs.declared.cursor.Span.{Span}
 
 abbrev pub span_view : Span → Opened

@@ -1,9 +1,9 @@
 //! A place in octets, with the open types around it.
 
 ghost use Rattle.std.specs.Prelude.{◌≡◌, ◌+◌, ◌*◌, ◌%◌, ◌==◌, ◌<◌, ◌≤◌, ◌^◌, ◌++◌, ◌∷◌, length, map, replicate, reverse, None, IfOk, OnOk};
-ghost use Rattle.aper_proof_values.specs.bits_core.Bits.{pad_of, numbers_at};
-ghost use Rattle.aper_proof_values.specs.aper_defs.Fields.{opening, closing, end};
-ghost use Rattle.aper_proof_values.specs.aper_defs.Reading.{at_first, bits_at, start_of, ends_at, told_width, asked_width, passes, moved_by};
+ghost use Rattle.bits_core.specs.Bits.{pad_of, numbers_at};
+ghost use Rattle.aper_defs.specs.Fields.{opening, closing, end};
+ghost use Rattle.aper_defs.specs.Reading.{at_first, bits_at, start_of, ends_at, told_width, asked_width, passes, moved_by};
 ghost use Rattle.aper_cursor.specs.Questions.{question_of, unit_of, IsAskable};
 ghost use Rattle.aper_cursor.specs.Answers.{Answers, AnswersOrMemory, ReadsRun};
 ghost use Rattle.aper_cursor.specs.inside.Places.{Looks, entered, left_open};
@@ -12,9 +12,9 @@ ghost use Rattle.aper_cursor.specs.Spans.{span_view};
 use crate::error::Unanswered;
 use crate::lengths::Extent;
 use crate::questions::{Question, RunUnit};
-use aper_proof_values::from_aper_defs::Reason;
-use aper_proof_values::from_bits_core::reader::BitReader;
-use asn1_assignments::from_gnb_types::items::Memory;
+use aper_defs::Reason;
+use bits_core::reader::BitReader;
+use gnb_types::items::Memory;
 use std::alloc::Global;
 use std::marker::Model;
 
@@ -46,7 +46,7 @@ pub struct Cursor<'a> {
 }
 
 impl<'a> Model for Cursor<'a> {
-    ghost use Rattle.aper_proof_values.specs.aper_defs.Reading.{Cursor as Place};
+    ghost use Rattle.aper_defs.specs.Reading.{Cursor as Place};
 
     ghost Value = { Place };
 

@@ -1,7 +1,7 @@
 //! Why a question has no answer.
 
-use aper_proof_values::from_aper_defs::Reason;
-use asn1_assignments::from_gnb_types::items::Memory;
+use aper_defs::Reason;
+use gnb_types::items::Memory;
 use std::alloc::{AllocError, AllocFailed};
 
 /// Why a question has no answer.

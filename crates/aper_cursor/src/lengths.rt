@@ -1,12 +1,12 @@
 //! Length determinants (ITU-T X.691, 11.9).
 
 ghost use Rattle.std.specs.Prelude.{◌≡◌, ◌<◌, ◌^◌, nat_le, true, false, ◌&&◌, if◌then◌else◌};
-ghost use Rattle.aper_proof_values.specs.aper_defs.Fields.{whole, part};
-ghost use Rattle.aper_proof_values.specs.aper_defs.Reading.{form_of, told, judged_extent, judged_length, is_inside, unless};
+ghost use Rattle.aper_defs.specs.Fields.{whole, part};
+ghost use Rattle.aper_defs.specs.Reading.{form_of, told, judged_extent, judged_length, is_inside, unless};
 ghost use Rattle.aper_cursor.specs.Questions.{extent_of, length_form_of, IsShortExtent, IsSmallForm};
 
-use aper_proof_values::from_aper_defs::Reason;
-use asn1_assignments::from_asn1_types::Size;
+use aper_defs::Reason;
+use asn1_syntax::types::Size;
 
 /// A part of a string that isn't the last one has so many units, or up to four times so many.
 const PART_UNITS: u64 = 16384;

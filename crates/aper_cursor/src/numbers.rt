@@ -1,7 +1,7 @@
 //! How many bits or octets numbers take, and numbers in two's complement.
 
 ghost use Rattle.std.specs.Prelude.{◌≡◌, ◌+◌, ◌*◌, ◌^◌, ◌<◌, ◌≤◌, true};
-ghost use Rattle.aper_proof_values.specs.aper_defs.Numbers.{bits_for, octets_for, signed_octets_for, signed_number, unsigned_part, is_signed};
+ghost use Rattle.aper_defs.specs.Numbers.{bits_for, octets_for, signed_octets_for, signed_number, unsigned_part, is_signed};
 
 /// The fewest bits of a number below 256; without a loop, since it is asked for each small number that is read.
 pub fn bits_for(number: u64) -> u32

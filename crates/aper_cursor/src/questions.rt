@@ -1,18 +1,18 @@
 //! The questions that octets are asked, and what is wrong with a number that stands there.
 
 ghost use Rattle.std.specs.Prelude.{◌≡◌, ◌+◌, ◌*◌, ◌<◌, ◌≤◌, ◌^◌, nat_le, true, false, ◌&&◌, if◌then◌else◌};
-ghost use Rattle.aper_proof_values.specs.aper_defs.Numbers.{in_range};
-ghost use Rattle.aper_proof_values.specs.aper_defs.Fields.{digits, signed};
-ghost use Rattle.aper_proof_values.specs.aper_defs.Membership.{is_printable};
-ghost use Rattle.aper_proof_values.specs.aper_defs.Bits.{unit_width};
-ghost use Rattle.aper_proof_values.specs.aper_defs.Reading.{Cursor, judged, answer_of, too_great};
+ghost use Rattle.aper_defs.specs.Numbers.{in_range};
+ghost use Rattle.aper_defs.specs.Fields.{digits, signed};
+ghost use Rattle.aper_defs.specs.Membership.{is_printable};
+ghost use Rattle.aper_defs.specs.Bits.{unit_width};
+ghost use Rattle.aper_defs.specs.Reading.{Cursor, judged, answer_of, too_great};
 ghost use Rattle.aper_cursor.specs.Questions.{role_of, unit_of, question_of, IsAskable, IsNumberOf};
 
 use crate::lengths::{Extent, told, unless};
 use crate::numbers::{signed_number, signed_octets_for};
 use crate::rows::judged_id;
-use aper_proof_values::from_aper_defs::Reason;
-use asn1_assignments::IeRow;
+use aper_defs::Reason;
+use asn1_syntax::assignments::IeRow;
 
 /// What a number stands for; a number that is too great is refused for it.
 #[derive(Clone, Copy, PartialEq, Eq)]

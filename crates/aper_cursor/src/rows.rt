@@ -1,15 +1,15 @@
 //! The information elements of a set, as the order of those that are read sees them.
 
 ghost use Rattle.std.specs.Prelude.{◌≡◌, ◌≤◌, ◌<◌, ◌^◌, length};
-ghost use Rattle.aper_proof_values.specs.aper_defs.Trees.{mandatory_count};
-ghost use Rattle.aper_proof_values.specs.aper_defs.Fields.{ie_id};
-ghost use Rattle.aper_proof_values.specs.aper_defs.Reading.{judged, Cursor};
+ghost use Rattle.aper_defs.specs.Trees.{mandatory_count};
+ghost use Rattle.aper_defs.specs.Fields.{ie_id};
+ghost use Rattle.aper_defs.specs.Reading.{judged, Cursor};
 ghost use Rattle.aper_cursor.specs.Questions.{slots_of};
 ghost use Rattle.aper_cursor.specs.Rows.{IsFound};
 
 use crate::lengths::unless;
-use aper_proof_values::from_aper_defs::Reason;
-use asn1_assignments::{IeRow, Presence};
+use aper_defs::Reason;
+use asn1_syntax::assignments::{IeRow, Presence};
 
 /// What is wrong with the id of an information element of a set, of which some may still come, and after which so many elements
 /// come.

@@ -1,9 +1,8 @@
 -- Types within the bounds of the profile, as far as an encoding depends on them.
 use Rattle.std.specs.Prelude.{◌≡◌, true, ◌^◌, ◌<◌, ◌≤◌, Option, Some, None}
 use Rattle.std.specs.Int.Signed.{le_z}
-use Rattle.asn1_types.specs.declared.definition.Size.{Size}
-use Rattle.aper_defs.specs.Trees.{Tree, Parts, Rows, Procedures, Outcome, part_count}
-use Rattle.aper_defs.specs.Trees.{boolean, integer, enumerated, bit_string, octet_string, printable_string, sequence, choice, sequence_of, container, pdu, no_parts, part, no_rows, row, no_procedures, procedure, no_outcome, outcome}
+use Rattle.asn1_syntax.specs.declared.types.definition.Size.{Size}
+use Rattle.aper_defs.specs.Trees.{Tree, Parts, Rows, Procedures, Outcome, part_count, boolean, integer, enumerated, bit_string, octet_string, printable_string, sequence, choice, sequence_of, container, pdu, no_parts, part, no_rows, row, no_procedures, procedure, no_outcome, outcome}
 use Rattle.aper_defs.specs.Numbers.{above}
 
 abbrev pub IsSizeBounded : Option Size → Type 0

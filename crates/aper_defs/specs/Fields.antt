@@ -1,7 +1,7 @@
 -- The fields of an encoding. A field is a question with its answer: what kind of number stands there, and which; or it is a run of
 -- octets, or of bits.
 use Rattle.std.specs.Prelude.{ℕ, List, Option, ℤ}
-use Rattle.asn1_types.specs.declared.definition.Size.{Size}
+use Rattle.asn1_syntax.specs.declared.types.definition.Size.{Size}
 use Rattle.aper_defs.specs.Trees.{Slot}
 
 -- one step of the way from a whole value to a value inside it

@@ -11,6 +11,6 @@ pub mod Questions
 pub mod Asking
 pub mod Reading
 pub mod Bounds
-pub use Rattle.asn1_types.specs as asn1_types
-pub use Rattle.bits_core.specs as bits_core
-pub use Rattle.bits_core.specs.gnb_types as gnb_types
+pub mod loose_defs
+pub mod octet_defs
+pub mod feeding_defs

@@ -1,11 +1,9 @@
 -- What is a value of a type (X.680, in the profile). A value inside is looked at with the way to it, as its layout is.
 use Rattle.std.specs.Prelude.{◌≡◌, ℕ, zero, suc, ◌+◌, ◌-◌, ◌<◌, ◌≤◌, ◌==◌, List, ◌∷◌, length, Bool, true, false, Option, Some, None, nat_lt, nat_le, ◌&&◌, ◌||◌, if◌then◌else◌, ℤ}
 use Rattle.std.specs.List.{list_all}
-use Rattle.asn1_types.specs.declared.definition.Size.{Size}
-use Rattle.aper_defs.specs.Trees.{Tree, Parts, Rows, Procedures, Outcome, Slot, slots, slots_left, slots_before, has_slot, mandatory_count, part_count}
-use Rattle.aper_defs.specs.Trees.{boolean, integer, enumerated, bit_string, octet_string, printable_string, sequence, choice, sequence_of, container, pdu, no_parts, part, no_rows, row, no_procedures, procedure, no_outcome, outcome}
-use Rattle.aper_defs.specs.Values.{Value, Values, Options, Ies, value_count, ie_count, presence}
-use Rattle.aper_defs.specs.Values.{truth, number, enumeral, bits, octets, text, components, chosen, list, elements, message, raw, no_values, value, no_options, absent, present, no_ies, ie}
+use Rattle.asn1_syntax.specs.declared.types.definition.Size.{Size}
+use Rattle.aper_defs.specs.Trees.{Tree, Parts, Rows, Procedures, Outcome, Slot, slots, slots_left, slots_before, has_slot, mandatory_count, part_count, boolean, integer, enumerated, bit_string, octet_string, printable_string, sequence, choice, sequence_of, container, pdu, no_parts, part, no_rows, row, no_procedures, procedure, no_outcome, outcome}
+use Rattle.aper_defs.specs.Values.{Value, Values, Options, Ies, value_count, ie_count, presence, truth, number, enumeral, bits, octets, text, components, chosen, list, elements, message, raw, no_values, value, no_options, absent, present, no_ies, ie}
 use Rattle.aper_defs.specs.Numbers.{in_range, is_signed}
 use Rattle.aper_defs.specs.Fields.{Path, Field}
 use Rattle.aper_defs.specs.Fields as fields

@@ -1,7 +1,7 @@
 -- How many bits or octets a number takes at least (X.691, 11.3 and 11.4), and the numbers of INTEGER.
 use Rattle.std.specs.Prelude.{ℕ, zero, suc, ◌+◌, ◌-◌, ◌*◌, ◌^◌, Bool, nat_lt, ◌&&◌, if◌then◌else◌, ℤ, pos, negsuc, ◌-ℤ◌}
 use Rattle.std.specs.Int.Signed.{le_z}
-pub use Rattle.asn1_types.specs.Sizes.{natural}
+pub use Rattle.asn1_syntax.specs.types.Sizes.{natural}
 
 -- The least count, from one on, such that n is below 2 to the power of so many times the unit; at most so many more are tried.
 abbrev pub least_count : (unit tries count n : ℕ) → ℕ

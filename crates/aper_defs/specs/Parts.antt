@@ -1,9 +1,8 @@
 -- Fields of numbers, lengths and strings.
 use Rattle.std.specs.Prelude.{ℕ, zero, suc, ◌+◌, ◌-◌, ◌*◌, ◌/◌, ◌==◌, List, [], ◌∷◌, ◌++◌, length, take, drop, map, min, Bool, true, false, Option, Some, None, nat_lt, nat_le, ◌&&◌, if◌then◌else◌, ℤ}
-use Rattle.asn1_types.specs.declared.definition.Size.{Size}
+use Rattle.asn1_syntax.specs.declared.types.definition.Size.{Size}
 use Rattle.aper_defs.specs.Numbers.{bits_for, octets_for, signed_octets_for, twos_complement, in_range, above}
-use Rattle.aper_defs.specs.Fields.{Path, Role, Field}
-use Rattle.aper_defs.specs.Fields.{flag, constrained, digits, signed, small, extent, character, pad, whole, part, bit, octet, asked, run}
+use Rattle.aper_defs.specs.Fields.{Path, Role, Field, flag, constrained, digits, signed, small, extent, character, pad, whole, part, bit, octet, asked, run}
 use Rattle.aper_defs.specs.Fields as roles
 use Rattle.aper_defs.specs.Bits.{part_units}
 

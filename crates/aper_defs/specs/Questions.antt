@@ -1,10 +1,9 @@
 -- What is asked of the octets, one question after another: a type as a tree of questions. What comes after an answer depends on it.
 use Rattle.std.specs.Prelude.{ℕ, zero, suc, ◌+◌, ◌-◌, ◌*◌, ◌==◌, List, [], ◌∷◌, ◌++◌, Bool, true, false, Option, Some, None, nat_lt, if◌then◌else◌, ℤ, pos, ◌+ℤ◌}
-use Rattle.asn1_types.specs.declared.definition.Size.{Size}
+use Rattle.asn1_syntax.specs.declared.types.definition.Size.{Size}
 use Rattle.aper_defs.specs.Trees.{Parts, Slot, slots_left}
 use Rattle.aper_defs.specs.Trees as trees
-use Rattle.aper_defs.specs.Values.{Value, Values, Options, Ies}
-use Rattle.aper_defs.specs.Values.{raw, no_values, value, no_options, absent, present, no_ies, ie}
+use Rattle.aper_defs.specs.Values.{Value, Values, Options, Ies, raw, no_values, value, no_options, absent, present, no_ies, ie}
 use Rattle.aper_defs.specs.Numbers.{bits_for, octets_for, signed_number, above}
 use Rattle.aper_defs.specs.Fields.{Path, Role, Ask, RunUnit, flag, constrained, digits, signed, small, extent, character, ie_id, pad, opening, closing, end, whole, part, bit, octet}
 use Rattle.aper_defs.specs.Fields as fields

@@ -2,7 +2,7 @@
 -- end; then one judgement for each kind of question.
 use Rattle.std.specs.Prelude.{ℕ, ◌+◌, ◌-◌, ◌*◌, ◌^◌, ◌==◌, List, [], ◌∷◌, length, drop, take as first, replicate, Bool, true, false, ◌&&◌, Option, Some, None, Result, Ok, Err, nat_lt, nat_le, if◌then◌else◌}
 use Rattle.bits_core.specs.Bits.{number_of, numbers_at, octet_bits, pad_of}
-use Rattle.asn1_types.specs.declared.definition.Size.{Size}
+use Rattle.asn1_syntax.specs.declared.types.definition.Size.{Size}
 use Rattle.aper_defs.specs.declared.reason.Reason.{Reason}
 use Rattle.aper_defs.specs.declared.reason.Reason.TheVariants as reasons
 use Rattle.aper_defs.specs.Trees.{Tree, has_slot, slots_before, slots_left, mandatory_count}

@@ -1,7 +1,7 @@
 -- A type as a tree: names are resolved, and what a set holds stands in the tree (X.680, clause 17; X.681 and X.682 for the two
 -- parameterised types).
 use Rattle.std.specs.Prelude.{ℕ, suc, ◌==◌, List, [], ◌∷◌, Bool, true, false, Option, if◌then◌else◌, ℤ}
-use Rattle.asn1_types.specs.declared.definition.Size.{Size}
+use Rattle.asn1_syntax.specs.declared.types.definition.Size.{Size}
 
 mutual
   pub data Tree : Type 0 where

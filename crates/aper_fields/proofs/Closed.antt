@@ -1,11 +1,11 @@
 -- Complete encodings that were put.
 use Rattle.std.proofs.Common.{◌≡◌, ℕ, ◌+◌, ◌*◌, ◌%◌, ◌==◌, cond, Bool, true, false, List, [], ◌∷◌, ◌++◌, length, refl, sym, ap, ◌∙◌, arith, append-nil}
 use Rattle.std.proofs.lemmas.List.{length-append, length-replicate}
-use Rattle.aper_defs.specs.bits_core.Bits.{bits_of, octet_bits, zeros, pad_of}
-use Rattle.aper_defs.proofs.bits_core.BitLemmas.{length-octet_bits, length-bits_of, bits_of-zero}
+use Rattle.bits_core.specs.Bits.{bits_of, octet_bits, zeros, pad_of}
+use Rattle.bits_core.proofs.BitLemmas.{length-octet_bits, length-bits_of, bits_of-zero}
 use Rattle.aper_defs.specs.Fields.{Path, Field, asked, closing}
 use Rattle.aper_defs.specs.Bits.{width_at, put_all, closed}
-use Rattle.aper_proof_answers.proofs.NumberFacts.{same, by_cases}
+use Rattle.proof_aper.proofs.answers.NumberFacts.{same, by_cases}
 use Rattle.aper_fields.proofs.Followed.{put_first}
 use Rattle.aper_fields.proofs.Opened.{put_both}
 

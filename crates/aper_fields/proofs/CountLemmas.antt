@@ -3,7 +3,7 @@ use Rattle.std.proofs.Common.{◌≡◌, ℕ, zero, suc, ◌+◌, ◌-◌, ◌*�
 use Rattle.std.proofs.Math.Nat.{div-add-mod'}
 use Rattle.std.proofs.lemmas.Nat.{pow_pos, mod_below}
 use Rattle.aper_defs.specs.Numbers.{least_count, bits_for, octets_for}
-use Rattle.aper_proof_answers.proofs.NumberFacts.{is_below, is_not_below}
+use Rattle.proof_aper.proofs.answers.NumberFacts.{is_below, is_not_below}
 
 small : (n d : ℕ) → 0 < d → n / d ≡ 0 → n < d
 small n d some h = at_none (n / d) d n (n % d) h (div-add-mod' n d) (mod_below n d some)

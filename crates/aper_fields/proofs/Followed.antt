@@ -2,11 +2,11 @@
 use Rattle.std.proofs.Common.{◌≡◌, ℕ, ◌+◌, ◌*◌, Bool, true, false, List, [], ◌∷◌, ◌++◌, zero, suc, ◌<◌, ◌≤◌, length, take, get_or, map, Result, Ok, Err, OnOk, refl, sym, ap, ◌∙◌, arith, append_assoc, append-nil}
 use Rattle.std.proofs.lemmas.List.{take_more, length-append}
 use Rattle.std.specs.List.{flat_map}
-use Rattle.aper_defs.specs.bits_core.Bits.{bits_of, bit_value, octet_bits}
+use Rattle.bits_core.specs.Bits.{bits_of, bit_value, octet_bits}
 use Rattle.std.specs.Int.{from_bool}
 use Rattle.gnb_types.specs.declared.items.Memory.{Memory}
-use Rattle.aper_defs.specs.bits_core.Writing.{Written, Puts}
-use Rattle.aper_defs.proofs.bits_core.BitLemmas.{length-bits_of, octet_bits-push}
+use Rattle.bits_core.specs.Writing.{Written, Puts}
+use Rattle.bits_core.proofs.BitLemmas.{length-bits_of, octet_bits-push}
 use Rattle.aper_defs.specs.Fields.{Ask, RunUnit, Field, Path, asked, character, octet, bit}
 use Rattle.aper_defs.specs.Fields as fields
 use Rattle.aper_defs.specs.Bits.{width_at, spelled, unit_width, field_bits, put, put_all}

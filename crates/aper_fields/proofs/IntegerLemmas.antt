@@ -1,7 +1,7 @@
 -- INTEGER: the extension bit, and the number in its range or past it.
 use Rattle.std.proofs.Common.{◌≡◌, ℕ, cond, Bool, true, false, List, ◌++◌, refl, sym, ap, ◌∙◌, append_assoc}
 use Rattle.std.specs.Prelude.{ℤ}
-use Rattle.aper_defs.specs.bits_core.Writing.{Written}
+use Rattle.bits_core.specs.Writing.{Written}
 use Rattle.aper_defs.specs.Numbers.{in_range, above}
 use Rattle.aper_defs.specs.Fields.{Path, Field}
 use Rattle.aper_defs.specs.Fields as roles

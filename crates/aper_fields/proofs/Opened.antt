@@ -2,14 +2,14 @@
 use Rattle.std.proofs.Common.{◌≡◌, ℕ, ◌+◌, ◌*◌, ◌%◌, ◌/◌, cond, nat_lt, Bool, List, [], ◌∷◌, ◌++◌, length, refl, sym, ap, ◌∙◌, arith, append_assoc, append-nil}
 use Rattle.std.proofs.lemmas.List.{length-append}
 use Rattle.std.proofs.lemmas.Grind.{fold-append}
-use Rattle.aper_defs.specs.bits_core.Bits.{bits_of, octet_bits}
-use Rattle.aper_defs.specs.bits_core.Writing.{Written}
-use Rattle.aper_defs.proofs.bits_core.BitLemmas.{length-octet_bits}
+use Rattle.bits_core.specs.Bits.{bits_of, octet_bits}
+use Rattle.bits_core.specs.Writing.{Written}
+use Rattle.bits_core.proofs.BitLemmas.{length-octet_bits}
 use Rattle.aper_defs.specs.Fields.{Path, Field, asked, pad, opening, closing, end, octet}
 use Rattle.aper_defs.specs.Fields as fields
 use Rattle.aper_defs.specs.Bits.{put, put_all, closed, octet_count, open_fields, extent_width}
-use Rattle.aper_proof_answers.proofs.NumberFacts.{by_cases}
-use Rattle.aper_proof_places.proofs.Bits.{all_bits, put_all-is, put_all-nil, all_bits-same}
+use Rattle.proof_aper.proofs.answers.NumberFacts.{by_cases}
+use Rattle.proof_aper.proofs.places.Bits.{all_bits, put_all-is, put_all-nil, all_bits-same}
 use Rattle.aper_fields.specs.Following.{Follows}
 use Rattle.aper_fields.proofs.Followed.{put_first}
 

@@ -1,12 +1,12 @@
 -- Strings in parts, put one part after another.
 use Rattle.std.proofs.Common.{◌≡◌, ℕ, zero, suc, ◌+◌, ◌-◌, ◌*◌, ◌/◌, ◌<◌, ◌≤◌, cond, nat_lt, min, List, ◌++◌, length, take, drop, Option, refl, sym, ap, subst, ◌∙◌, arith, append_assoc}
 use Rattle.std.proofs.lemmas.List.{length-drop}
-use Rattle.aper_defs.specs.asn1_types.declared.definition.Size.{Size}
-use Rattle.aper_defs.specs.bits_core.Writing.{Written}
+use Rattle.asn1_syntax.specs.declared.types.definition.Size.{Size}
+use Rattle.bits_core.specs.Writing.{Written}
 use Rattle.aper_defs.specs.Fields.{Path, Field}
 use Rattle.aper_defs.specs.Bits.{part_units, put_all}
 use Rattle.aper_defs.specs.Parts.{Content, next_part, part_of_fields, part_fields}
-use Rattle.aper_proof_answers.proofs.NumberFacts.{is_below, is_not_below}
+use Rattle.proof_aper.proofs.answers.NumberFacts.{is_below, is_not_below}
 use Rattle.aper_fields.specs.Following.{Follows}
 
 -- the parts of a string were put, whatever stands before them and however many may still come

@@ -1,6 +1,6 @@
 -- What it is that fields were put.
 use Rattle.std.specs.Prelude.{◌≡◌, List, ◌++◌}
-use Rattle.aper_defs.specs.bits_core.Writing.{Written}
+use Rattle.bits_core.specs.Writing.{Written}
 use Rattle.aper_defs.specs.Fields.{Path, Field}
 use Rattle.aper_defs.specs.Bits.{put_all}
 

@@ -1,6 +1,6 @@
 -- What the units of a string are seen as.
 use Rattle.std.specs.Prelude.{ℕ, List, map}
-use Rattle.aper_defs.specs.bits_core.Bits.{bit_value}
+use Rattle.bits_core.specs.Bits.{bit_value}
 use Rattle.aper_defs.specs.Parts.{Content, of_bits, of_octets, of_characters}
 use Rattle.aper_fields.specs.declared.strings.Units.{Units}
 use Rattle.aper_fields.specs.declared.strings.Units.TheVariants.{Bits, Octets, Characters}

@@ -1,14 +1,14 @@
 //! Open types.
 
 ghost use Rattle.std.specs.Prelude.{◌≡◌, ℕ, ◌≤◌, [], ◌∷◌, ◌++◌, false, length, IfOk, OnOk, List, None};
-ghost use Rattle.aper_defs.specs.bits_core.Bits.{octet_bits};
+ghost use Rattle.bits_core.specs.Bits.{octet_bits};
 ghost use Rattle.aper_defs.specs.Fields.{Path, Field, asked, run, pad, extent, whole, octet};
 ghost use Rattle.aper_defs.specs.Bits.{put_all, closed, open_fields};
 
 use crate::fields::put_pad;
 use crate::lengths::put_extent;
 use crate::runs::put_octets;
-use aper_defs::from_bits_core::writer::BitWriter;
+use bits_core::writer::BitWriter;
 use gnb_types::octets::{Memory, Octets};
 
 /// An open type with these octets in it, whether they are a complete encoding or aren't known.

@@ -1,13 +1,12 @@
 //! One field.
 
-ghost use Rattle.std.specs.Prelude.{◌≡◌, ℕ, ℤ, ◌%◌, ◌*◌, ◌<◌, ◌≤◌, ◌^◌, [], ◌∷◌, false, length, OnOk};
+ghost use Rattle.std.specs.Prelude.{◌≡◌, ℕ, ℤ, ◌%◌, ◌*◌, ◌<◌, ◌≤◌, ◌^◌, [], ◌∷◌, false, length, OnOk, List};
 ghost use Rattle.aper_defs.specs.Trees.{Slot};
 ghost use Rattle.aper_defs.specs.Fields.{Role, Extent, asked, flag, constrained, digits, signed, small, extent, addition_bits, ie_count, ie_id, opening, pad};
-ghost use Rattle.aper_defs.specs.bits_core.Bits.{bit_value};
-ghost use Rattle.std.specs.Prelude.{List};
+ghost use Rattle.bits_core.specs.Bits.{bit_value};
 ghost use Rattle.aper_fields.specs.Following.{Follows};
 
-use aper_defs::from_bits_core::writer::BitWriter;
+use bits_core::writer::BitWriter;
 use gnb_types::items::Memory;
 
 /// A bit of its own.

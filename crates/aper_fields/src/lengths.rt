@@ -5,7 +5,7 @@ ghost use Rattle.aper_defs.specs.Fields.{Extent, asked, extent, opening};
 ghost use Rattle.aper_defs.specs.Bits.{extent_width, extent_number, part_units};
 ghost use Rattle.aper_fields.specs.Following.{Follows};
 
-use aper_defs::from_bits_core::writer::BitWriter;
+use bits_core::writer::BitWriter;
 use gnb_types::items::Memory;
 
 /// The units of a part; a string with so many or more has parts.

@@ -5,6 +5,8 @@ pub mod contents;
 pub mod counts;
 pub mod fields;
 pub mod lengths;
+pub mod members;
 pub mod numbers;
 pub mod runs;
 pub mod strings;
+pub mod widths;

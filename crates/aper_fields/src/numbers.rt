@@ -12,7 +12,7 @@ ghost use Rattle.aper_fields.specs.Outside.{outside_fields};
 use crate::counts::{bits_for, octets_for};
 use crate::fields::{put_constrained, put_digits, put_flag, put_pad, put_signed, put_small};
 use crate::lengths::put_extent;
-use aper_defs::from_bits_core::writer::BitWriter;
+use bits_core::writer::BitWriter;
 use gnb_types::items::Memory;
 
 /// The extension bit of a type that is extensible.
@@ -127,7 +127,7 @@ pub fn above(low: i128, number: i128) -> u64
 }
 
 /// An INTEGER from `low` to `high`, or where it is extensible another number of 64 bits.
-#[tactic(auto, unfolding(aper_defs::specs::Parts::integer_fields), using(aper_proof_answers::proofs::NumberFacts::in_range_low, aper_proof_answers::proofs::NumberFacts::above_at_most))]
+#[tactic(auto, unfolding(aper_defs::specs::Parts::integer_fields), using(proof_aper::proofs::answers::NumberFacts::in_range_low, proof_aper::proofs::answers::NumberFacts::above_at_most))]
 pub fn put_integer(
     out: &mut BitWriter,
     low: i128,

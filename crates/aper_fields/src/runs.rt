@@ -1,11 +1,11 @@
 //! Octets, bits and characters as they stand.
 
 ghost use Rattle.std.specs.Prelude.{◌≡◌, ℕ, ◌+◌, ◌%◌, ◌<◌, ◌≤◌, ◌^◌, [], ◌∷◌, ◌++◌, false, length, map, OnOk};
-ghost use Rattle.aper_defs.specs.bits_core.Bits.{bit_value, octet_bits};
+ghost use Rattle.bits_core.specs.Bits.{bit_value, octet_bits};
 ghost use Rattle.aper_defs.specs.Fields.{asked, run, octet, bit, character};
 ghost use Rattle.aper_fields.specs.Following.{Follows};
 
-use aper_defs::from_bits_core::writer::BitWriter;
+use bits_core::writer::BitWriter;
 use gnb_types::items::Memory;
 
 /// Octets, or characters, at an octet's beginning.

@@ -1,7 +1,7 @@
 //! Strings and counts.
 
 ghost use Rattle.std.specs.Prelude.{◌≡◌, ℕ, ◌-◌, ◌%◌, ◌<◌, ◌≤◌, [], true, false, length, take, drop, OnOk, Option, Some, None};
-ghost use Rattle.aper_defs.specs.asn1_types.declared.definition.Size.{Size};
+ghost use Rattle.asn1_syntax.specs.declared.types.definition.Size.{Size};
 ghost use Rattle.aper_defs.specs.Fields.{Role};
 ghost use Rattle.aper_defs.specs.Parts.{in_size, unit_fields, sized_fields, part_of_fields, all_part_fields, string_fields, count_fields, pad_limit, of_characters};
 ghost use Rattle.aper_defs.specs.Membership.{is_count_of};
@@ -13,8 +13,8 @@ use crate::fields::put_pad;
 use crate::lengths::{PART_UNITS, put_extent};
 use crate::numbers::{put_extension, put_number};
 use crate::runs::{put_bit_run, put_few_octets, put_octets};
-use aper_defs::from_asn1_types::Size;
-use aper_defs::from_bits_core::writer::BitWriter;
+use asn1_syntax::types::Size;
+use bits_core::writer::BitWriter;
 use gnb_types::items::Memory;
 
 /// What a string is made of.

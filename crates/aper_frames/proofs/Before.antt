@@ -1,7 +1,7 @@
 -- One more value before those that come, and none that come.
 use Rattle.std.proofs.Common.{◌≡◌, List, [], ◌∷◌, ◌++◌, Option, Some, None, refl}
-use Rattle.aper_values.specs.aper_defs.Values as seen
-use Rattle.aper_values.specs.aper_defs.Questions.{Prog}
+use Rattle.aper_defs.specs.Values as seen
+use Rattle.aper_defs.specs.Questions.{Prog}
 use Rattle.aper_values.specs.declared.value.Value.{Value}
 use Rattle.aper_values.specs.declared.value.Element.{Element}
 use Rattle.aper_values.specs.Views.{view, values_view, options_view, ies_view}

@@ -1,8 +1,8 @@
 -- Steps that leave less to be read.
 use Rattle.std.proofs.Common.{◌≡◌, ℕ, ◌+◌, ◌<◌, ◌≤◌, List, [], ◌∷◌, length, Bool, Some, Result, Ok, Err, ap, ◌∙◌, arith}
-use Rattle.asn1_types.specs.declared.definition.TypeId.{TypeId}
-use Rattle.asn1_types.specs.declared.definition.Component.{Component}
-use Rattle.aper_heads.specs.aper_cursor.declared.error.Unanswered.{Unanswered}
+use Rattle.asn1_syntax.specs.declared.types.definition.TypeId.{TypeId}
+use Rattle.asn1_syntax.specs.declared.types.definition.Component.{Component}
+use Rattle.aper_cursor.specs.declared.error.Unanswered.{Unanswered}
 use Rattle.aper_values.specs.declared.value.Value.{Value}
 use Rattle.aper_frames.specs.declared.frame.Components.{Components}
 use Rattle.aper_frames.specs.declared.frame.Additions.{Additions}

@@ -1,13 +1,13 @@
 -- Steps after what leads to them.
 use Rattle.std.proofs.Common.{◌≡◌, ℕ, List, Result, Ok, Err, ap, ◌∙◌}
-use Rattle.aper_values.specs.aper_defs.declared.reason.Reason.{Reason}
-use Rattle.aper_values.specs.aper_defs.Trees.{Tree}
-use Rattle.aper_values.specs.aper_defs.Fields.{Path}
-use Rattle.aper_values.specs.aper_defs.Questions.{Prog}
-use Rattle.aper_values.specs.aper_defs.Reading.{Cursor, run}
-use Rattle.aper_heads.specs.aper_cursor.declared.error.Unanswered.{Unanswered}
-use Rattle.aper_heads.specs.aper_cursor.declared.error.Unanswered.TheVariants.{Wrong, Memory}
-use Rattle.aper_heads.specs.aper_asking.Going.{GoesOn, GoesOnOrMemory}
+use Rattle.aper_defs.specs.declared.reason.Reason.{Reason}
+use Rattle.aper_defs.specs.Trees.{Tree}
+use Rattle.aper_defs.specs.Fields.{Path}
+use Rattle.aper_defs.specs.Questions.{Prog}
+use Rattle.aper_defs.specs.Reading.{Cursor, run}
+use Rattle.aper_cursor.specs.declared.error.Unanswered.{Unanswered}
+use Rattle.aper_cursor.specs.declared.error.Unanswered.TheVariants.{Wrong, Memory}
+use Rattle.aper_cursor.specs.asking.Going.{GoesOn, GoesOnOrMemory}
 use Rattle.aper_frames.specs.declared.frame.Frame.{Frame}
 use Rattle.aper_frames.specs.declared.frame.Turn.{Turn}
 use Rattle.aper_frames.specs.Frames.{path_of}

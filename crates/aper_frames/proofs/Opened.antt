@@ -1,16 +1,16 @@
 -- Open types inside values.
 use Rattle.std.proofs.Common.{◌≡◌, ℕ, List, ◌∷◌, Ok, Err, sym, ap, ◌∙◌}
-use Rattle.asn1_types.specs.declared.definition.TypeId.{TypeId}
-use Rattle.aper_values.specs.aper_defs.declared.reason.Reason.{Reason}
-use Rattle.aper_values.specs.aper_defs.Fields.{Path, opening, closing, end}
-use Rattle.aper_values.specs.aper_defs.Questions.{Prog, ask, ask_aligned}
-use Rattle.aper_values.specs.aper_defs.Asking.{asks}
-use Rattle.aper_values.specs.aper_defs.Reading.{Cursor, run}
-use Rattle.aper_heads.specs.aper_cursor.declared.error.Unanswered.{Unanswered}
-use Rattle.aper_heads.specs.aper_cursor.declared.error.Unanswered.TheVariants.{Wrong, Memory}
-use Rattle.aper_heads.specs.aper_asking.Going.{fault_at, GoesOnOrMemory}
-use Rattle.aper_heads.specs.declared.raw.RawError.TheVariants as errors
-use Rattle.aper_heads.specs.Raw.{GoesOnRaw}
+use Rattle.asn1_syntax.specs.declared.types.definition.TypeId.{TypeId}
+use Rattle.aper_defs.specs.declared.reason.Reason.{Reason}
+use Rattle.aper_defs.specs.Fields.{Path, opening, closing, end}
+use Rattle.aper_defs.specs.Questions.{Prog, ask, ask_aligned}
+use Rattle.aper_defs.specs.Asking.{asks}
+use Rattle.aper_defs.specs.Reading.{Cursor, run}
+use Rattle.aper_cursor.specs.declared.error.Unanswered.{Unanswered}
+use Rattle.aper_cursor.specs.declared.error.Unanswered.TheVariants.{Wrong, Memory}
+use Rattle.aper_cursor.specs.asking.Going.{fault_at, GoesOnOrMemory}
+use Rattle.aper_frames.specs.declared.heads.raw.RawError.TheVariants as errors
+use Rattle.aper_frames.specs.heads.Raw.{GoesOnRaw}
 use Rattle.aper_values.specs.declared.value.Value.{Value}
 use Rattle.aper_frames.specs.declared.frame.Frame.{Frame}
 use Rattle.aper_frames.specs.declared.frame.Frame.TheVariants as frames

@@ -1,13 +1,13 @@
 -- What is asked of components and additions, one at a time.
 use Rattle.std.proofs.Common.{◌≡◌, ℕ, List, [], ◌∷◌, ◌++◌, Bool, true, false, Option, Some, None, refl, sym, ap, ◌∙◌}
-use Rattle.asn1_types.specs.declared.definition.Component.{Component}
-use Rattle.aper_values.specs.aper_defs.Trees.{Tree}
-use Rattle.aper_values.specs.aper_defs.Values as seen
-use Rattle.aper_values.specs.aper_defs.Fields.{Path}
-use Rattle.aper_values.specs.aper_defs.Fields as fields
-use Rattle.aper_values.specs.aper_defs.Questions.{Prog, ask_open, ask_raw}
-use Rattle.aper_values.specs.aper_defs.Asking.{asks, ask_components, ask_additions, ask_marks}
-use Rattle.aper_heads.specs.aper_types.Types.{parts_of}
+use Rattle.asn1_syntax.specs.declared.types.definition.Component.{Component}
+use Rattle.aper_defs.specs.Trees.{Tree}
+use Rattle.aper_defs.specs.Values as seen
+use Rattle.aper_defs.specs.Fields.{Path}
+use Rattle.aper_defs.specs.Fields as fields
+use Rattle.aper_defs.specs.Questions.{Prog, ask_open, ask_raw}
+use Rattle.aper_defs.specs.Asking.{asks, ask_components, ask_additions, ask_marks}
+use Rattle.aper_values.specs.types.Types.{parts_of}
 use Rattle.aper_values.specs.declared.value.Value.{Value}
 use Rattle.aper_values.specs.Views.{options_view}
 use Rattle.aper_frames.specs.declared.frame.Components.{Components}

@@ -2,7 +2,7 @@
 use Rattle.std.proofs.Common.{◌≡◌, ℕ, ◌+◌, ◌<◌, List, [], ◌∷◌, ◌++◌, length, take, map, reverse, get_or, Option, sym, ap, ◌∙◌, add-one}
 use Rattle.std.proofs.lemmas.List.{reverse-append}
 use Rattle.std.proofs.Math.Seq.{take-suc}
-use Rattle.aper_values.specs.aper_defs.Fields.{Path}
+use Rattle.aper_defs.specs.Fields.{Path}
 use Rattle.aper_frames.specs.declared.frame.Frame.{Frame}
 use Rattle.aper_frames.specs.declared.path.Step.{Step}
 use Rattle.aper_frames.specs.Frames.{inside_of, path_of}

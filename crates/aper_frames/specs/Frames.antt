@@ -1,15 +1,15 @@
 -- What a value that is read asks after the value inside it, and on which way that value lies.
 use Rattle.std.specs.Prelude.{◌≡◌, ℕ, suc, List, [], ◌∷◌, length, Option, Some, None, option_copied, nat_lt, if◌then◌else◌}
-use Rattle.asn1_types.specs.declared.definition.Component.{Component}
-use Rattle.asn1_types.specs.declared.definition.TypeId.{TypeId}
-use Rattle.aper_values.specs.aper_defs.Trees.{Tree}
-use Rattle.aper_values.specs.aper_defs.Values as seen
-use Rattle.aper_values.specs.aper_defs.Fields.{Path, closing, end}
-use Rattle.aper_values.specs.aper_defs.Fields as fields
-use Rattle.aper_values.specs.aper_defs.Questions.{Prog, done, ask, ask_open, ask_raw, ask_members, ask_ies}
-use Rattle.aper_values.specs.aper_defs.Asking.{asks, ask_components, ask_marks, ask_additions, ask_row}
-use Rattle.aper_heads.specs.aper_cursor.Questions.{slots_of}
-use Rattle.aper_heads.specs.aper_types.Types.{parts_of, rows_of}
+use Rattle.asn1_syntax.specs.declared.types.definition.Component.{Component}
+use Rattle.asn1_syntax.specs.declared.types.definition.TypeId.{TypeId}
+use Rattle.aper_defs.specs.Trees.{Tree}
+use Rattle.aper_defs.specs.Values as seen
+use Rattle.aper_defs.specs.Fields.{Path, closing, end}
+use Rattle.aper_defs.specs.Fields as fields
+use Rattle.aper_defs.specs.Questions.{Prog, done, ask, ask_open, ask_raw, ask_members, ask_ies}
+use Rattle.aper_defs.specs.Asking.{asks, ask_components, ask_marks, ask_additions, ask_row}
+use Rattle.aper_cursor.specs.Questions.{slots_of}
+use Rattle.aper_values.specs.types.Types.{parts_of, rows_of}
 use Rattle.aper_values.specs.declared.value.Value.{Value}
 use Rattle.aper_values.specs.declared.value.Element.{Element}
 use Rattle.aper_values.specs.Views.{view, options_view}

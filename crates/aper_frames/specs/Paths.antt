@@ -1,7 +1,7 @@
 -- Ways to values, as the definitions have them.
 use Rattle.std.specs.Prelude.{List, ◌∷◌, map, reverse, Option, Some, None}
-use Rattle.aper_values.specs.aper_defs.Fields.{Path}
-use Rattle.aper_values.specs.aper_defs.Fields as fields
+use Rattle.aper_defs.specs.Fields.{Path}
+use Rattle.aper_defs.specs.Fields as fields
 use Rattle.aper_frames.specs.declared.path.Step.{Step}
 use Rattle.aper_frames.specs.declared.path.Step.TheVariants as steps
 

@@ -1,12 +1,12 @@
 -- A step of a decoder leaves what is asked as it was.
 use Rattle.std.specs.Prelude.{◌≡◌, ℕ, List, Result, Ok, Err}
-use Rattle.aper_values.specs.aper_defs.Trees.{Tree}
-use Rattle.aper_values.specs.aper_defs.Questions.{Prog}
-use Rattle.aper_values.specs.aper_defs.Asking.{asks}
-use Rattle.aper_values.specs.aper_defs.Reading.{Cursor, run}
-use Rattle.aper_heads.specs.aper_cursor.declared.error.Unanswered.{Unanswered}
-use Rattle.aper_heads.specs.aper_cursor.declared.error.Unanswered.TheVariants.{Wrong, Memory}
-use Rattle.aper_heads.specs.aper_asking.Going.{fault_at}
+use Rattle.aper_defs.specs.Trees.{Tree}
+use Rattle.aper_defs.specs.Questions.{Prog}
+use Rattle.aper_defs.specs.Asking.{asks}
+use Rattle.aper_defs.specs.Reading.{Cursor, run}
+use Rattle.aper_cursor.specs.declared.error.Unanswered.{Unanswered}
+use Rattle.aper_cursor.specs.declared.error.Unanswered.TheVariants.{Wrong, Memory}
+use Rattle.aper_cursor.specs.asking.Going.{fault_at}
 use Rattle.aper_values.specs.Views.{view}
 use Rattle.aper_frames.specs.declared.frame.Frame.{Frame}
 use Rattle.aper_frames.specs.declared.frame.Turn.{Turn}

@@ -1,11 +1,11 @@
 -- Internal: how much is left to be read, by the weights of types. Each step of a decoder lessens it, whatever the types weigh: so the
 -- decoder's loop ends, and reads types of its module alone.
 use Rattle.std.specs.Prelude.{ℕ, ◌+◌, ◌*◌, ◌<◌, List, [], ◌∷◌, length, Option, Some, None, Result, Ok, Err}
-use Rattle.asn1_types.specs.declared.definition.TypeId.{TypeId}
-use Rattle.asn1_types.specs.declared.definition.Component.{Component}
-use Rattle.asn1_assignments.specs.declared.assignment.IeRow.{IeRow}
-use Rattle.asn1_assignments.specs.declared.assignment.ProcedureRow.{ProcedureRow}
-use Rattle.aper_heads.specs.aper_cursor.declared.error.Unanswered.{Unanswered}
+use Rattle.asn1_syntax.specs.declared.types.definition.TypeId.{TypeId}
+use Rattle.asn1_syntax.specs.declared.types.definition.Component.{Component}
+use Rattle.asn1_syntax.specs.declared.assignments.assignment.IeRow.{IeRow}
+use Rattle.asn1_syntax.specs.declared.assignments.assignment.ProcedureRow.{ProcedureRow}
+use Rattle.aper_cursor.specs.declared.error.Unanswered.{Unanswered}
 use Rattle.aper_frames.specs.declared.frame.Components.{Components}
 use Rattle.aper_frames.specs.declared.frame.Additions.{Additions}
 use Rattle.aper_frames.specs.declared.frame.Members.{Members}

@@ -1,10 +1,10 @@
 //! Values inside which another one is being read.
 
 use crate::flags::Flags;
-use aper_heads::ElementHead;
+use crate::heads::ElementHead;
 use aper_values::value::{Ies, OptValues, Value, Values};
-use asn1_assignments::IeRow;
-use asn1_types::{Component, TypeId};
+use asn1_syntax::assignments::IeRow;
+use asn1_syntax::types::{Component, TypeId};
 
 /// The components of a SEQUENCE that are still to be read.
 #[derive(Drop)]

@@ -6,11 +6,11 @@ ghost use Rattle.aper_frames.specs.Steps.{Steps};
 ghost use Rattle.aper_frames.specs.Weights.{contents_weight, frame_weight, frames_weight, Lighter};
 
 use crate::frame::{Frame, Turn};
+use crate::heads::{RawError, ask_raw};
 use crate::stack::Stack;
-use aper_heads::from_aper_asking::ask_opening;
-use aper_heads::from_aper_cursor::{Cursor, Unanswered};
-use aper_heads::{RawError, ask_raw};
-use asn1_types::TypeId;
+use aper_cursor::asking::ask_opening;
+use aper_cursor::{Cursor, Unanswered};
+use asn1_syntax::types::TypeId;
 use std::alloc::Global;
 
 /// Begins an open type inside a value, around a value of a type.

@@ -1,15 +1,15 @@
 //! Which part of a SEQUENCE comes next.
 
 ghost use Rattle.std.specs.Prelude.{ℕ, ◌≡◌, ◌+◌, ◌≤◌, [], ◌∷◌, IfOk, MatchOption, option_copied};
-ghost use Rattle.aper_values.specs.aper_defs.Trees.{Tree};
-ghost use Rattle.aper_values.specs.aper_defs.Values as seen;
-ghost use Rattle.aper_values.specs.aper_defs.Fields.{Path};
-ghost use Rattle.aper_values.specs.aper_defs.Questions.{Prog};
+ghost use Rattle.aper_defs.specs.Trees.{Tree};
+ghost use Rattle.aper_defs.specs.Values as seen;
+ghost use Rattle.aper_defs.specs.Fields.{Path};
+ghost use Rattle.aper_defs.specs.Questions.{Prog};
 ghost use Rattle.aper_frames.specs.Frames.{components_left, components_next, additions_left, additions_next, IsNamed};
 ghost use Rattle.aper_frames.specs.Weights.{part_weight, components_weight, addition_weight, additions_weight};
 
 use crate::frame::{Additions, Components};
-use asn1_types::Component;
+use asn1_syntax::types::Component;
 use gnb_types::items::Memory;
 
 /// The next addition that is there.

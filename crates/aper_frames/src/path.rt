@@ -1,7 +1,7 @@
 //! The way to the value that is being read.
 
 ghost use Rattle.std.specs.Prelude.{◌≡◌, IfOk, OnOk, option_copied};
-ghost use Rattle.aper_values.specs.aper_defs.Fields.{Path};
+ghost use Rattle.aper_defs.specs.Fields.{Path};
 ghost use Rattle.aper_frames.specs.Frames.{path_of, inside_of, named_inside, body_inside};
 ghost use Rattle.aper_frames.specs.Paths.{path_view, step_put};
 

@@ -1,2 +1,2 @@
 pub mod Views
-pub use Rattle.aper_defs.specs as aper_defs
+pub mod types

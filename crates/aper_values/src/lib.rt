@@ -2,4 +2,5 @@
 #![tactic(auto)]
 
 pub mod make;
+pub mod types;
 pub mod value;

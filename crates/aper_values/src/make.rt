@@ -5,9 +5,9 @@ ghost use Rattle.aper_defs.specs.Values as seen;
 ghost use Rattle.aper_values.specs.Views.{view, values_view, options_view, ies_view};
 
 use crate::value::{Ies, OptValues, Value, Values};
-use aper_defs::from_gnb_types::bits::Bits;
-use aper_defs::from_gnb_types::items::Memory;
-use aper_defs::from_gnb_types::octets::Octets;
+use gnb_types::bits::Bits;
+use gnb_types::items::Memory;
+use gnb_types::octets::Octets;
 use std::alloc::Global;
 
 pub fn truth(b: bool) -> Value

@@ -1,7 +1,7 @@
 //! Values.
 
-use aper_defs::from_gnb_types::bits::Bits;
-use aper_defs::from_gnb_types::octets::Octets;
+use gnb_types::bits::Bits;
+use gnb_types::octets::Octets;
 
 /// The members of a SEQUENCE OF.
 pub type Values = Vec<Value>;

@@ -1,13 +1,13 @@
 -- The profile's bounds, by the items before the one that passes them, the nearest first (X.680, 19.1, 20.1, 25.1, 29.1, 51.4, 51.5).
 use Rattle.std.specs.Prelude.{◌-◌, ◌^◌, List, ◌∷◌, Bool, true, false, not, ◌&&◌, Option, Some, None, ℤ, pos}
 use Rattle.std.specs.Int.Signed.{le_z}
-use Rattle.asn1_assignments.specs.asn1_tokens.declared.token.Word.{Word}
-use Rattle.asn1_assignments.specs.asn1_tokens.declared.token.Word.TheVariants as words
-use Rattle.asn1_assignments.specs.asn1_tokens.declared.token.Sign.TheVariants as signs
-use Rattle.asn1_assignments.specs.asn1_tokens.declared.token.Token.{Token}
-use Rattle.asn1_assignments.specs.asn1_tokens.declared.token.Token.TheVariants as tokens
-use Rattle.asn1_assignments.specs.asn1_types.Shapes.{shape_of, sizes_characters}
-use Rattle.asn1_assignments.specs.asn1_types.Sizes.{natural, least_high, integer_least, integer_greatest, greatest_beside}
+use Rattle.asn1_tokens.specs.declared.token.Word.{Word}
+use Rattle.asn1_tokens.specs.declared.token.Word.TheVariants as words
+use Rattle.asn1_tokens.specs.declared.token.Sign.TheVariants as signs
+use Rattle.asn1_tokens.specs.declared.token.Token.{Token}
+use Rattle.asn1_tokens.specs.declared.token.Token.TheVariants as tokens
+use Rattle.asn1_syntax.specs.types.Shapes.{shape_of, sizes_characters}
+use Rattle.asn1_syntax.specs.types.Sizes.{natural, least_high, integer_least, integer_greatest, greatest_beside}
 
 -- the least and the greatest number that may stand at a place
 pub record Range : Type 0 where

@@ -1,14 +1,14 @@
 -- The grammar of modules, as productions over lexical items (X.680, clauses 13 and 16 to 29; X.681, 12.3 for the object sets in
 -- their fixed notation). A name has its own form here alone: what it refers to, and the bounds of numbers, are no part of it.
 use Rattle.std.specs.Prelude.{List, [], ◌∷◌, Bool, true, false, Option, Some, None, codes, ◌||◌, ℕ}
-use Rattle.asn1_assignments.specs.asn1_tokens.declared.token.Word.{Word}
-use Rattle.asn1_assignments.specs.asn1_tokens.declared.token.Word.TheVariants as words
-use Rattle.asn1_assignments.specs.asn1_tokens.declared.token.Sign.{Sign}
-use Rattle.asn1_assignments.specs.asn1_tokens.declared.token.Sign.TheVariants as signs
-use Rattle.asn1_assignments.specs.asn1_tokens.declared.token.Token.{Token}
-use Rattle.asn1_assignments.specs.asn1_tokens.declared.token.Token.TheVariants as tokens
-use Rattle.asn1_assignments.specs.asn1_tokens.Words.{all_words, is_word, is_sign, is_text}
-use Rattle.asn1_assignments.specs.asn1_types.Shapes.{Shape, Alone, BoundsFollow, NamesFollow, StringFollows, TextSizeFollows, shape_of}
+use Rattle.asn1_tokens.specs.declared.token.Word.{Word}
+use Rattle.asn1_tokens.specs.declared.token.Word.TheVariants as words
+use Rattle.asn1_tokens.specs.declared.token.Sign.{Sign}
+use Rattle.asn1_tokens.specs.declared.token.Sign.TheVariants as signs
+use Rattle.asn1_tokens.specs.declared.token.Token.{Token}
+use Rattle.asn1_tokens.specs.declared.token.Token.TheVariants as tokens
+use Rattle.asn1_tokens.specs.Words.{all_words, is_word, is_sign, is_text}
+use Rattle.asn1_syntax.specs.types.Shapes.{Shape, Alone, BoundsFollow, NamesFollow, StringFollows, TextSizeFollows, shape_of}
 
 -- what a lexical item must be at its place
 pub data Terminal : Type 0 where

@@ -1,13 +1,13 @@
 -- Which types and assignments lead to which. The vertices are a module's types by their numbers, and then its assignments.
 use Rattle.std.specs.Prelude.{ℕ, zero, suc, ◌+◌, ◌-◌, List, [], ◌∷◌, ◌++◌, length, Option, Some, None}
-use Rattle.asn1_assignments.specs.asn1_types.declared.definition.Component.{Component}
-use Rattle.asn1_assignments.specs.asn1_types.declared.definition.Extensible.{Extensible}
-use Rattle.asn1_assignments.specs.asn1_types.declared.definition.Definition.{Definition}
-use Rattle.asn1_assignments.specs.asn1_types.declared.definition.Definition.TheVariants as types
-use Rattle.asn1_assignments.specs.asn1_types.declared.definition.Node.{Node}
-use Rattle.asn1_assignments.specs.asn1_types.Members.{additions_of}
-use Rattle.asn1_assignments.specs.declared.assignment.Assignment.{Assignment}
-use Rattle.asn1_assignments.specs.declared.assignment.Syntax.{Syntax}
+use Rattle.asn1_syntax.specs.declared.types.definition.Component.{Component}
+use Rattle.asn1_syntax.specs.declared.types.definition.Extensible.{Extensible}
+use Rattle.asn1_syntax.specs.declared.types.definition.Definition.{Definition}
+use Rattle.asn1_syntax.specs.declared.types.definition.Definition.TheVariants as types
+use Rattle.asn1_syntax.specs.declared.types.definition.Node.{Node}
+use Rattle.asn1_syntax.specs.types.Members.{additions_of}
+use Rattle.asn1_syntax.specs.declared.assignments.assignment.Assignment.{Assignment}
+use Rattle.asn1_syntax.specs.declared.assignments.assignment.Syntax.{Syntax}
 use Rattle.asn1_defs.specs.declared.graph.Edge.{Edge}
 use Rattle.asn1_defs.specs.Numbers.{number_in}
 

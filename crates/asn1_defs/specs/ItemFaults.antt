@@ -1,12 +1,12 @@
 -- Which items pass a bound of the profile, or give something that was given before: told of an item, those before it, the nearest
 -- first, and those behind it.
 use Rattle.std.specs.Prelude.{◌≡◌, List, [], ◌∷◌, ◌++◌, Bool, true, false, ◌&&◌, nat_le}
-use Rattle.asn1_assignments.specs.asn1_tokens.declared.token.Sign.{Sign}
-use Rattle.asn1_assignments.specs.asn1_tokens.declared.token.Sign.TheVariants as signs
-use Rattle.asn1_assignments.specs.asn1_tokens.declared.token.Token.{Token}
-use Rattle.asn1_assignments.specs.asn1_tokens.declared.token.Token.TheVariants as tokens
-use Rattle.asn1_assignments.specs.asn1_types.Sizes.{natural}
-use Rattle.asn1_assignments.specs.asn1_types.Members.{all_parts, is_full, has_name}
+use Rattle.asn1_tokens.specs.declared.token.Sign.{Sign}
+use Rattle.asn1_tokens.specs.declared.token.Sign.TheVariants as signs
+use Rattle.asn1_tokens.specs.declared.token.Token.{Token}
+use Rattle.asn1_tokens.specs.declared.token.Token.TheVariants as tokens
+use Rattle.asn1_syntax.specs.types.Sizes.{natural}
+use Rattle.asn1_syntax.specs.types.Members.{all_parts, is_full, has_name}
 use Rattle.asn1_defs.specs.Bounds.{range_behind, is_outside, is_wide, is_one_size}
 use Rattle.asn1_defs.specs.Repetitions.{begins_entry, listed, is_given, begins_assignment, assigned, types_assigned}
 

@@ -1,15 +1,15 @@
 -- What single items and short rows of them mean: numbers, sizes (X.680, 51.5), extension marks and lists of names (clause 20).
 -- Each relation tells what the items from one place to another mean.
 use Rattle.std.specs.Prelude.{◌≡◌, ℕ, List, [], ◌∷◌, Bool, true, false, Option, Some, None, pos}
-use Rattle.asn1_assignments.specs.asn1_tokens.declared.token.Word.TheVariants as words
-use Rattle.asn1_assignments.specs.asn1_tokens.declared.token.Sign.{Sign}
-use Rattle.asn1_assignments.specs.asn1_tokens.declared.token.Sign.TheVariants as signs
-use Rattle.asn1_assignments.specs.asn1_tokens.declared.token.Token.{Token}
-use Rattle.asn1_assignments.specs.asn1_tokens.declared.token.Token.TheVariants as tokens
-use Rattle.asn1_assignments.specs.asn1_tokens.Stream.{Placed, first_place}
-use Rattle.asn1_assignments.specs.asn1_types.declared.definition.Size.{Size}
-use Rattle.asn1_assignments.specs.asn1_types.declared.definition.Extensible.{Extensible}
-use Rattle.asn1_assignments.specs.asn1_types.Reading.{Left, begins_with_sign}
+use Rattle.asn1_tokens.specs.declared.token.Word.TheVariants as words
+use Rattle.asn1_tokens.specs.declared.token.Sign.{Sign}
+use Rattle.asn1_tokens.specs.declared.token.Sign.TheVariants as signs
+use Rattle.asn1_tokens.specs.declared.token.Token.{Token}
+use Rattle.asn1_tokens.specs.declared.token.Token.TheVariants as tokens
+use Rattle.asn1_tokens.specs.Stream.{Placed, first_place}
+use Rattle.asn1_syntax.specs.declared.types.definition.Size.{Size}
+use Rattle.asn1_syntax.specs.declared.types.definition.Extensible.{Extensible}
+use Rattle.asn1_syntax.specs.types.Reading.{Left, begins_with_sign}
 
 -- this item
 pub data The (token : Token) : Left → Left → Type 0 where

@@ -2,11 +2,11 @@
 use Rattle.std.specs.Prelude.{◌≡◌, ℕ, List, [], ◌∷◌, ◌++◌, ◌⊎◌, Bool, true, false, ◌||◌, ◌&&◌, ◌==◌, nat_eq, codes, pos}
 use Rattle.std.specs.List.{starts_with}
 use Rattle.std.proofs.Common.{neg_ℤ}
-use Rattle.asn1_assignments.specs.asn1_tokens.declared.token.Sign.TheVariants as signs
-use Rattle.asn1_assignments.specs.asn1_tokens.declared.token.Token.{Token}
-use Rattle.asn1_assignments.specs.asn1_tokens.declared.token.Token.TheVariants as tokens
-use Rattle.asn1_assignments.specs.asn1_tokens.Scan.{is_upper, is_lower, is_digit, is_name_part, is_white, is_mark, begins, magnitude, name_token, lexeme}
-use Rattle.asn1_assignments.specs.asn1_tokens.Stream.{Placed, placed, is_last}
+use Rattle.asn1_tokens.specs.declared.token.Sign.TheVariants as signs
+use Rattle.asn1_tokens.specs.declared.token.Token.{Token}
+use Rattle.asn1_tokens.specs.declared.token.Token.TheVariants as tokens
+use Rattle.asn1_tokens.specs.Scan.{is_upper, is_lower, is_digit, is_name_part, is_white, is_mark, begins, magnitude, name_token, lexeme}
+use Rattle.asn1_tokens.specs.Stream.{Placed, placed, is_last}
 
 -- What may follow the first letter of a name: letters and digits, and hyphens before one of these.
 abbrev pub IsNameRest : List ℕ → Type 0

@@ -1,14 +1,14 @@
 -- What is wrong with a module whose text is in the grammar: a name that isn't known, an assignment that reaches itself, or one
 -- that nests too deep. The first of these that there is, at its first place.
 use Rattle.std.specs.Prelude.{◌≡◌, ℕ, ◌+◌, ◌<◌, List, [], ◌∷◌, ◌++◌, length, replicate, slice_get, Option, Some, None}
-use Rattle.asn1_assignments.specs.asn1_types.declared.definition.Definition.{Definition}
-use Rattle.asn1_assignments.specs.asn1_types.declared.definition.Definition.TheVariants as types
-use Rattle.asn1_assignments.specs.asn1_types.declared.definition.Node.{Node}
-use Rattle.asn1_assignments.specs.asn1_types.declared.fault.Fault.{Fault}
-use Rattle.asn1_assignments.specs.asn1_types.declared.fault.ModuleReason.{ModuleReason}
-use Rattle.asn1_assignments.specs.asn1_types.declared.fault.ModuleReason.TheVariants as reasons
-use Rattle.asn1_assignments.specs.declared.assignment.Assignment.{Assignment}
-use Rattle.asn1_assignments.specs.declared.assignment.Syntax.{Syntax}
+use Rattle.asn1_syntax.specs.declared.types.definition.Definition.{Definition}
+use Rattle.asn1_syntax.specs.declared.types.definition.Definition.TheVariants as types
+use Rattle.asn1_syntax.specs.declared.types.definition.Node.{Node}
+use Rattle.asn1_syntax.specs.declared.types.fault.Fault.{Fault}
+use Rattle.asn1_syntax.specs.declared.types.fault.ModuleReason.{ModuleReason}
+use Rattle.asn1_syntax.specs.declared.types.fault.ModuleReason.TheVariants as reasons
+use Rattle.asn1_syntax.specs.declared.assignments.assignment.Assignment.{Assignment}
+use Rattle.asn1_syntax.specs.declared.assignments.assignment.Syntax.{Syntax}
 use Rattle.asn1_defs.specs.Names.{first_unknown}
 use Rattle.asn1_defs.specs.Graph.{vertex_count, edges_of}
 use Rattle.asn1_defs.specs.Paths.{Leads, Nests, IsFirst}

@@ -29,6 +29,3 @@ pub mod Readings
 -- what is so of each module that was read
 pub mod Links
 pub mod Modules
-pub use Rattle.asn1_assignments.specs.asn1_tokens as asn1_tokens
-pub use Rattle.asn1_assignments.specs as asn1_assignments
-pub use Rattle.asn1_assignments.specs.asn1_types as asn1_types

@@ -1,18 +1,18 @@
 -- The numbers by which types refer to those inside them.
 use Rattle.std.specs.Prelude.{ℕ, suc, ◌<◌, ◌≤◌, List, [], ◌∷◌, length, Option, Some, None}
-use Rattle.asn1_assignments.specs.asn1_types.declared.definition.TypeId.{TypeId}
-use Rattle.asn1_assignments.specs.asn1_types.declared.definition.Component.{Component}
-use Rattle.asn1_assignments.specs.asn1_types.declared.definition.Extensible.{Extensible}
-use Rattle.asn1_assignments.specs.asn1_types.declared.definition.Definition.{Definition}
-use Rattle.asn1_assignments.specs.asn1_types.declared.definition.Definition.TheVariants as types
-use Rattle.asn1_assignments.specs.asn1_types.declared.definition.Node.{Node}
-use Rattle.asn1_assignments.specs.asn1_types.Members.{additions_of}
-use Rattle.asn1_assignments.specs.declared.assignment.Body.{Body}
-use Rattle.asn1_assignments.specs.declared.assignment.Body.TheVariants as bodies
-use Rattle.asn1_assignments.specs.declared.assignment.IeRow.{IeRow}
-use Rattle.asn1_assignments.specs.declared.assignment.ProcedureRow.{ProcedureRow}
-use Rattle.asn1_assignments.specs.declared.assignment.Assignment.{Assignment}
-use Rattle.asn1_assignments.specs.declared.assignment.Syntax.{Syntax}
+use Rattle.asn1_syntax.specs.declared.types.definition.TypeId.{TypeId}
+use Rattle.asn1_syntax.specs.declared.types.definition.Component.{Component}
+use Rattle.asn1_syntax.specs.declared.types.definition.Extensible.{Extensible}
+use Rattle.asn1_syntax.specs.declared.types.definition.Definition.{Definition}
+use Rattle.asn1_syntax.specs.declared.types.definition.Definition.TheVariants as types
+use Rattle.asn1_syntax.specs.declared.types.definition.Node.{Node}
+use Rattle.asn1_syntax.specs.types.Members.{additions_of}
+use Rattle.asn1_syntax.specs.declared.assignments.assignment.Body.{Body}
+use Rattle.asn1_syntax.specs.declared.assignments.assignment.Body.TheVariants as bodies
+use Rattle.asn1_syntax.specs.declared.assignments.assignment.IeRow.{IeRow}
+use Rattle.asn1_syntax.specs.declared.assignments.assignment.ProcedureRow.{ProcedureRow}
+use Rattle.asn1_syntax.specs.declared.assignments.assignment.Assignment.{Assignment}
+use Rattle.asn1_syntax.specs.declared.assignments.assignment.Syntax.{Syntax}
 
 -- the types of these members have numbers below n
 abbrev pub AreBelow : ℕ → List Component → Type 0

@@ -1,18 +1,18 @@
 -- What modules and their assignments mean (X.680, clauses 13 and 16).
 use Rattle.std.specs.Prelude.{ℕ, List, [], ◌∷◌, length}
-use Rattle.asn1_assignments.specs.asn1_tokens.declared.token.Word.TheVariants as words
-use Rattle.asn1_assignments.specs.asn1_tokens.declared.token.Sign.TheVariants as signs
-use Rattle.asn1_assignments.specs.asn1_tokens.declared.token.Token.TheVariants as tokens
-use Rattle.asn1_assignments.specs.asn1_tokens.Stream.{first_place}
-use Rattle.asn1_assignments.specs.asn1_types.declared.definition.TypeId.{TypeId}
-use Rattle.asn1_assignments.specs.asn1_types.declared.definition.Node.{Node}
-use Rattle.asn1_assignments.specs.asn1_types.Reading.{Left}
-use Rattle.asn1_assignments.specs.declared.assignment.IeRow.{IeRow}
-use Rattle.asn1_assignments.specs.declared.assignment.ProcedureRow.{ProcedureRow}
-use Rattle.asn1_assignments.specs.declared.assignment.Body.{Body}
-use Rattle.asn1_assignments.specs.declared.assignment.Body.TheVariants as bodies
-use Rattle.asn1_assignments.specs.declared.assignment.Assignment.{Assignment}
-use Rattle.asn1_assignments.specs.declared.assignment.Syntax.{Syntax}
+use Rattle.asn1_tokens.specs.declared.token.Word.TheVariants as words
+use Rattle.asn1_tokens.specs.declared.token.Sign.TheVariants as signs
+use Rattle.asn1_tokens.specs.declared.token.Token.TheVariants as tokens
+use Rattle.asn1_tokens.specs.Stream.{first_place}
+use Rattle.asn1_syntax.specs.declared.types.definition.TypeId.{TypeId}
+use Rattle.asn1_syntax.specs.declared.types.definition.Node.{Node}
+use Rattle.asn1_syntax.specs.types.Reading.{Left}
+use Rattle.asn1_syntax.specs.declared.assignments.assignment.IeRow.{IeRow}
+use Rattle.asn1_syntax.specs.declared.assignments.assignment.ProcedureRow.{ProcedureRow}
+use Rattle.asn1_syntax.specs.declared.assignments.assignment.Body.{Body}
+use Rattle.asn1_syntax.specs.declared.assignments.assignment.Body.TheVariants as bodies
+use Rattle.asn1_syntax.specs.declared.assignments.assignment.Assignment.{Assignment}
+use Rattle.asn1_syntax.specs.declared.assignments.assignment.Syntax.{Syntax}
 use Rattle.asn1_defs.specs.ItemMeanings.{The, start_of}
 use Rattle.asn1_defs.specs.TypeMeanings.{AType, Means}
 use Rattle.asn1_defs.specs.RowMeanings.{AnIe, AProcedure, Rows}

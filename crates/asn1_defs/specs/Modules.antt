@@ -1,6 +1,6 @@
 -- What is so of each module that was read.
 use Rattle.std.specs.Prelude.{ℕ, ◌≤◌, List, length}
-use Rattle.asn1_assignments.specs.declared.assignment.Syntax.{Syntax}
+use Rattle.asn1_syntax.specs.declared.assignments.assignment.Syntax.{Syntax}
 use Rattle.asn1_defs.specs.Texts.{IsTextOf}
 use Rattle.asn1_defs.specs.Judgement.{IsSound}
 use Rattle.asn1_defs.specs.Links.{IsLinked}

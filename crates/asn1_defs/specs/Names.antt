@@ -1,14 +1,14 @@
 -- What the names in types refer to.
 use Rattle.std.specs.Prelude.{ℕ, List, [], ◌∷◌, Bool, true, false, Option, Some, None, if◌then◌else◌, ◌==◌}
-use Rattle.asn1_assignments.specs.asn1_tokens.Words.{is_text}
-use Rattle.asn1_assignments.specs.asn1_types.declared.definition.Definition.{Definition}
-use Rattle.asn1_assignments.specs.asn1_types.declared.definition.Definition.TheVariants as types
-use Rattle.asn1_assignments.specs.asn1_types.declared.definition.Node.{Node}
+use Rattle.asn1_tokens.specs.Words.{is_text}
+use Rattle.asn1_syntax.specs.declared.types.definition.Definition.{Definition}
+use Rattle.asn1_syntax.specs.declared.types.definition.Definition.TheVariants as types
+use Rattle.asn1_syntax.specs.declared.types.definition.Node.{Node}
 use Rattle.asn1_defs.specs.declared.names.Kind.{Kind}
 use Rattle.asn1_defs.specs.declared.names.Kind.TheVariants as kinds
-use Rattle.asn1_assignments.specs.declared.assignment.Body.{Body}
-use Rattle.asn1_assignments.specs.declared.assignment.Body.TheVariants as bodies
-use Rattle.asn1_assignments.specs.declared.assignment.Assignment.{Assignment}
+use Rattle.asn1_syntax.specs.declared.assignments.assignment.Body.{Body}
+use Rattle.asn1_syntax.specs.declared.assignments.assignment.Body.TheVariants as bodies
+use Rattle.asn1_syntax.specs.declared.assignments.assignment.Assignment.{Assignment}
 
 abbrev pub kind_of_body : Body → Kind
 kind_of_body (bodies.Type definition) = kinds.Type

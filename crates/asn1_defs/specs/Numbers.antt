@@ -1,11 +1,11 @@
 -- The numbers of the assignments that the names in types refer to.
 use Rattle.std.specs.Prelude.{ℕ, List, [], ◌∷◌, Option, Some, None}
-use Rattle.asn1_assignments.specs.asn1_types.declared.definition.Definition.{Definition}
-use Rattle.asn1_assignments.specs.asn1_types.declared.definition.Definition.TheVariants as types
-use Rattle.asn1_assignments.specs.asn1_types.declared.definition.Node.{Node}
-use Rattle.asn1_assignments.specs.declared.assignment.Assignment.{Assignment}
-use Rattle.asn1_assignments.specs.declared.assignment.Syntax.{Syntax}
-use Rattle.asn1_assignments.specs.Index.{number_of}
+use Rattle.asn1_syntax.specs.declared.types.definition.Definition.{Definition}
+use Rattle.asn1_syntax.specs.declared.types.definition.Definition.TheVariants as types
+use Rattle.asn1_syntax.specs.declared.types.definition.Node.{Node}
+use Rattle.asn1_syntax.specs.declared.assignments.assignment.Assignment.{Assignment}
+use Rattle.asn1_syntax.specs.declared.assignments.assignment.Syntax.{Syntax}
+use Rattle.asn1_syntax.specs.assignments.Index.{number_of}
 
 -- the name in a type: that of a type, or of the set that a container or a PDU is of
 abbrev pub name_in : Definition → Option (List ℕ)

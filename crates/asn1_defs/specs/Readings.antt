@@ -1,8 +1,8 @@
 -- Which texts are read as which module, and what is wrong with the others: what `read_module` promises.
 use Rattle.std.specs.Prelude.{◌≡◌, ℕ, List, take, Some, None}
-use Rattle.asn1_assignments.specs.asn1_types.declared.fault.Fault.{Fault}
-use Rattle.asn1_assignments.specs.asn1_types.declared.fault.ModuleReason.{ModuleReason}
-use Rattle.asn1_assignments.specs.declared.assignment.Syntax.{Syntax}
+use Rattle.asn1_syntax.specs.declared.types.fault.Fault.{Fault}
+use Rattle.asn1_syntax.specs.declared.types.fault.ModuleReason.{ModuleReason}
+use Rattle.asn1_syntax.specs.declared.assignments.assignment.Syntax.{Syntax}
 use Rattle.asn1_defs.specs.Texts.{IsTextOf, IsFirstWrong}
 use Rattle.asn1_defs.specs.Positions.{line_after, column_after}
 use Rattle.asn1_defs.specs.Judgement.{Judged}

@@ -2,16 +2,16 @@
 -- assignments.
 use Rattle.std.specs.Prelude.{ℕ, zero, suc, ◌==◌, List, [], ◌∷◌, ◌++◌, Bool, true, false, if◌then◌else◌}
 use Rattle.std.specs.List.{list_any}
-use Rattle.asn1_assignments.specs.asn1_tokens.declared.token.Word.{Word}
-use Rattle.asn1_assignments.specs.asn1_tokens.declared.token.Word.TheVariants as words
-use Rattle.asn1_assignments.specs.asn1_tokens.declared.token.Sign.TheVariants as signs
-use Rattle.asn1_assignments.specs.asn1_tokens.declared.token.Token.{Token}
-use Rattle.asn1_assignments.specs.asn1_tokens.declared.token.Token.TheVariants as tokens
-use Rattle.asn1_assignments.specs.asn1_types.declared.definition.Extensible.{Extensible}
-use Rattle.asn1_assignments.specs.asn1_tokens.Words.{is_word}
-use Rattle.asn1_assignments.specs.asn1_types.Shapes.{shape_of, ends_alone}
-use Rattle.asn1_assignments.specs.asn1_types.Sizes.{natural}
-use Rattle.asn1_assignments.specs.asn1_types.Members.{no_parts, with_part, extended}
+use Rattle.asn1_tokens.specs.declared.token.Word.{Word}
+use Rattle.asn1_tokens.specs.declared.token.Word.TheVariants as words
+use Rattle.asn1_tokens.specs.declared.token.Sign.TheVariants as signs
+use Rattle.asn1_tokens.specs.declared.token.Token.{Token}
+use Rattle.asn1_tokens.specs.declared.token.Token.TheVariants as tokens
+use Rattle.asn1_syntax.specs.declared.types.definition.Extensible.{Extensible}
+use Rattle.asn1_tokens.specs.Words.{is_word}
+use Rattle.asn1_syntax.specs.types.Shapes.{shape_of, ends_alone}
+use Rattle.asn1_syntax.specs.types.Sizes.{natural}
+use Rattle.asn1_syntax.specs.types.Members.{no_parts, with_part, extended}
 
 -- ---- the names of a list in braces
 

@@ -1,17 +1,17 @@
 -- What the rows of information object sets mean.
 use Rattle.std.specs.Prelude.{◌≡◌, ℕ, List, [], ◌∷◌, false, Option, Some, None, pos}
-use Rattle.asn1_assignments.specs.asn1_tokens.declared.token.Word.{Word}
-use Rattle.asn1_assignments.specs.asn1_tokens.declared.token.Word.TheVariants as words
-use Rattle.asn1_assignments.specs.asn1_tokens.declared.token.Sign.TheVariants as signs
-use Rattle.asn1_assignments.specs.asn1_tokens.declared.token.Token.TheVariants as tokens
-use Rattle.asn1_assignments.specs.asn1_types.declared.definition.TypeId.{TypeId}
-use Rattle.asn1_assignments.specs.asn1_types.declared.definition.Node.{Node}
-use Rattle.asn1_assignments.specs.asn1_types.Reading.{Left, begins_with}
-use Rattle.asn1_assignments.specs.declared.assignment.Criticality.{Criticality}
-use Rattle.asn1_assignments.specs.declared.assignment.Presence.{Presence}
-use Rattle.asn1_assignments.specs.declared.assignment.IeRow.{IeRow}
-use Rattle.asn1_assignments.specs.declared.assignment.ProcedureRow.{ProcedureRow}
-use Rattle.asn1_assignments.specs.Rows.{criticality_of, presence_of}
+use Rattle.asn1_tokens.specs.declared.token.Word.{Word}
+use Rattle.asn1_tokens.specs.declared.token.Word.TheVariants as words
+use Rattle.asn1_tokens.specs.declared.token.Sign.TheVariants as signs
+use Rattle.asn1_tokens.specs.declared.token.Token.TheVariants as tokens
+use Rattle.asn1_syntax.specs.declared.types.definition.TypeId.{TypeId}
+use Rattle.asn1_syntax.specs.declared.types.definition.Node.{Node}
+use Rattle.asn1_syntax.specs.types.Reading.{Left, begins_with}
+use Rattle.asn1_syntax.specs.declared.assignments.assignment.Criticality.{Criticality}
+use Rattle.asn1_syntax.specs.declared.assignments.assignment.Presence.{Presence}
+use Rattle.asn1_syntax.specs.declared.assignments.assignment.IeRow.{IeRow}
+use Rattle.asn1_syntax.specs.declared.assignments.assignment.ProcedureRow.{ProcedureRow}
+use Rattle.asn1_syntax.specs.assignments.Rows.{criticality_of, presence_of}
 use Rattle.asn1_defs.specs.ItemMeanings.{The}
 use Rattle.asn1_defs.specs.TypeMeanings.{AType, Means}
 

@@ -1,7 +1,7 @@
 -- What the grammar spells, and behind which items a module goes on.
 use Rattle.std.specs.Prelude.{◌≡◌, List, [], ◌∷◌, ◌++◌, ◌⊎◌, true, map}
-use Rattle.asn1_assignments.specs.asn1_tokens.declared.token.Token.{Token}
-use Rattle.asn1_assignments.specs.asn1_tokens.Stream.{Placed}
+use Rattle.asn1_tokens.specs.declared.token.Token.{Token}
+use Rattle.asn1_tokens.specs.Stream.{Placed}
 use Rattle.asn1_defs.specs.Grammar.{Terminal, Part, Symbol, Item, Whole, Module, fits, productions}
 
 -- items without their places

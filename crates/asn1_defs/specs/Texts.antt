@@ -1,13 +1,13 @@
 -- Which texts are modules, but for what their names refer to, and what the first wrong item of the others is.
 use Rattle.std.specs.Prelude.{◌≡◌, ℕ, List, [], ◌∷◌, ◌++◌, length, reverse, true, false}
-use Rattle.asn1_assignments.specs.asn1_tokens.declared.token.Token.{Token}
-use Rattle.asn1_assignments.specs.asn1_tokens.Stream.{Placed}
+use Rattle.asn1_tokens.specs.declared.token.Token.{Token}
+use Rattle.asn1_tokens.specs.Stream.{Placed}
 use Rattle.asn1_defs.specs.Items.{AreItems}
-use Rattle.asn1_assignments.specs.asn1_types.declared.fault.ModuleReason.{ModuleReason}
-use Rattle.asn1_assignments.specs.asn1_types.declared.fault.ModuleReason.TheVariants.{Bounds, Twice}
-use Rattle.asn1_assignments.specs.asn1_types.declared.fault.Fault.{Fault}
-use Rattle.asn1_assignments.specs.asn1_types.Reading.{reason_of}
-use Rattle.asn1_assignments.specs.declared.assignment.Syntax.{Syntax}
+use Rattle.asn1_syntax.specs.declared.types.fault.ModuleReason.{ModuleReason}
+use Rattle.asn1_syntax.specs.declared.types.fault.ModuleReason.TheVariants.{Bounds, Twice}
+use Rattle.asn1_syntax.specs.declared.types.fault.Fault.{Fault}
+use Rattle.asn1_syntax.specs.types.Reading.{reason_of}
+use Rattle.asn1_syntax.specs.declared.assignments.assignment.Syntax.{Syntax}
 use Rattle.asn1_defs.specs.Spelling.{tokens_of, IsModuleText, IsOpen, GoesOn}
 use Rattle.asn1_defs.specs.ItemFaults.{passes_bound, is_repeated, AreAllowed}
 use Rattle.asn1_defs.specs.ModuleMeanings.{MeansModule}

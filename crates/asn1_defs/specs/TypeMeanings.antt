@@ -1,23 +1,23 @@
 -- What types mean (X.680, clause 17): each joins the module's list of types where it ends, behind those inside it, and its place in
 -- that list is its number.
 use Rattle.std.specs.Prelude.{◌≡◌, ℕ, List, [], ◌∷◌, ◌++◌, Bool, true, false, Option, Some, None, ℤ}
-use Rattle.asn1_assignments.specs.asn1_tokens.declared.token.Word.{Word}
-use Rattle.asn1_assignments.specs.asn1_tokens.declared.token.Word.TheVariants as words
-use Rattle.asn1_assignments.specs.asn1_tokens.declared.token.Sign.TheVariants as signs
-use Rattle.asn1_assignments.specs.asn1_tokens.declared.token.Token.TheVariants as tokens
-use Rattle.asn1_assignments.specs.asn1_types.declared.definition.Size.{Size}
-use Rattle.asn1_assignments.specs.asn1_types.declared.definition.TypeId.{TypeId}
-use Rattle.asn1_assignments.specs.asn1_types.declared.definition.Component.{Component}
-use Rattle.asn1_assignments.specs.asn1_types.declared.definition.Extensible.{Extensible}
-use Rattle.asn1_assignments.specs.asn1_types.declared.definition.Definition.{Definition}
-use Rattle.asn1_assignments.specs.asn1_types.declared.definition.Definition.TheVariants as types
-use Rattle.asn1_assignments.specs.asn1_types.declared.definition.Node.{Node}
-use Rattle.asn1_assignments.specs.asn1_types.declared.members.Group.{Group}
-use Rattle.asn1_assignments.specs.asn1_types.declared.members.Group.TheVariants as groups
-use Rattle.asn1_assignments.specs.asn1_types.Reading.{Left, begins_with}
-use Rattle.asn1_assignments.specs.asn1_types.Members.{no_parts, component}
-use Rattle.asn1_assignments.specs.asn1_types.Types.{node, next_id}
-use Rattle.asn1_assignments.specs.asn1_types.Shapes.{Shape, Alone, BoundsFollow, NamesFollow, StringFollows, TextSizeFollows, shape_of}
+use Rattle.asn1_tokens.specs.declared.token.Word.{Word}
+use Rattle.asn1_tokens.specs.declared.token.Word.TheVariants as words
+use Rattle.asn1_tokens.specs.declared.token.Sign.TheVariants as signs
+use Rattle.asn1_tokens.specs.declared.token.Token.TheVariants as tokens
+use Rattle.asn1_syntax.specs.declared.types.definition.Size.{Size}
+use Rattle.asn1_syntax.specs.declared.types.definition.TypeId.{TypeId}
+use Rattle.asn1_syntax.specs.declared.types.definition.Component.{Component}
+use Rattle.asn1_syntax.specs.declared.types.definition.Extensible.{Extensible}
+use Rattle.asn1_syntax.specs.declared.types.definition.Definition.{Definition}
+use Rattle.asn1_syntax.specs.declared.types.definition.Definition.TheVariants as types
+use Rattle.asn1_syntax.specs.declared.types.definition.Node.{Node}
+use Rattle.asn1_syntax.specs.declared.types.members.Group.{Group}
+use Rattle.asn1_syntax.specs.declared.types.members.Group.TheVariants as groups
+use Rattle.asn1_syntax.specs.types.Reading.{Left, begins_with}
+use Rattle.asn1_syntax.specs.types.Members.{no_parts, component}
+use Rattle.asn1_syntax.specs.types.Types.{node, next_id}
+use Rattle.asn1_syntax.specs.types.Shapes.{Shape, Alone, BoundsFollow, NamesFollow, StringFollows, TextSizeFollows, shape_of}
 use Rattle.asn1_defs.specs.ItemMeanings.{The, start_of, Extends, OptionalSize, SetName, Names}
 
 -- What follows the word of a type of this shape: the type.

@@ -7,31 +7,3 @@ mod names;
 
 pub use graph::Edge;
 pub use names::Kind;
-
-/// Of `gnb_types`, for crates above.
-pub mod from_gnb_types {
-    pub mod octets {
-        pub use asn1_assignments::from_gnb_types::octets::Memory;
-    }
-}
-
-/// Of `asn1_tokens`, for crates above.
-pub mod from_asn1_tokens {
-    pub use asn1_assignments::from_asn1_tokens::is_text;
-}
-
-/// Of `asn1_types`, for crates above.
-pub mod from_asn1_types {
-    pub use asn1_assignments::from_asn1_types::{
-        Component, Definition, Extensible, Fault, Items, ModuleReason, Node, ReadError, Size,
-        TypeId,
-    };
-}
-
-/// Of `asn1_assignments`, for crates above.
-pub mod from_asn1_assignments {
-    pub use asn1_assignments::{
-        Assignment, Body, Criticality, IeRow, NameIndex, Presence, ProcedureRow, Syntax, index_of,
-        read_syntax,
-    };
-}

@@ -1,17 +1,17 @@
 -- What is so of a module, at one of its types or names.
 use Rattle.std.proofs.Common.{◌≡◌, ℕ, zero, suc, ◌+◌, ◌<◌, List, [], ◌∷◌, length, get_or, Bool, true, false, cond, refl, sym, ap, ◌∙◌, subst, arith}
 use Rattle.std.specs.Prelude.{Option, Some, None, IsSome, IfSome, slice_get, option_map}
-use Rattle.asn1_defs.specs.asn1_tokens.Words.{is_text}
-use Rattle.asn1_defs.specs.asn1_types.declared.definition.TypeId.{TypeId}
-use Rattle.asn1_defs.specs.asn1_types.declared.definition.Definition.{Definition}
-use Rattle.asn1_defs.specs.asn1_types.declared.definition.Definition.TheVariants as types
-use Rattle.asn1_defs.specs.asn1_types.declared.definition.Node.{Node}
-use Rattle.asn1_defs.specs.asn1_assignments.declared.assignment.Body.{Body}
-use Rattle.asn1_defs.specs.asn1_assignments.declared.assignment.Body.TheVariants as bodies
-use Rattle.asn1_defs.specs.asn1_assignments.declared.assignment.IeRow.{IeRow}
-use Rattle.asn1_defs.specs.asn1_assignments.declared.assignment.ProcedureRow.{ProcedureRow}
-use Rattle.asn1_defs.specs.asn1_assignments.declared.assignment.Assignment.{Assignment}
-use Rattle.asn1_defs.specs.asn1_assignments.declared.assignment.Syntax.{Syntax}
+use Rattle.asn1_tokens.specs.Words.{is_text}
+use Rattle.asn1_syntax.specs.declared.types.definition.TypeId.{TypeId}
+use Rattle.asn1_syntax.specs.declared.types.definition.Definition.{Definition}
+use Rattle.asn1_syntax.specs.declared.types.definition.Definition.TheVariants as types
+use Rattle.asn1_syntax.specs.declared.types.definition.Node.{Node}
+use Rattle.asn1_syntax.specs.declared.assignments.assignment.Body.{Body}
+use Rattle.asn1_syntax.specs.declared.assignments.assignment.Body.TheVariants as bodies
+use Rattle.asn1_syntax.specs.declared.assignments.assignment.IeRow.{IeRow}
+use Rattle.asn1_syntax.specs.declared.assignments.assignment.ProcedureRow.{ProcedureRow}
+use Rattle.asn1_syntax.specs.declared.assignments.assignment.Assignment.{Assignment}
+use Rattle.asn1_syntax.specs.declared.assignments.assignment.Syntax.{Syntax}
 use Rattle.asn1_defs.specs.declared.names.Kind.TheVariants as kinds
 use Rattle.asn1_defs.specs.Names.{kind_of_body, kind_of_name, is_such, is_known, first_unknown}
 use Rattle.asn1_defs.specs.Links.{IsInside, AreOrdered, BodyBelow, BodiesBelow, IesBelow, ProceduresBelow}

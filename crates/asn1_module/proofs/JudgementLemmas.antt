@@ -3,11 +3,11 @@ use Rattle.std.proofs.Common.{◌≡◌, ℕ, suc, ◌+◌, ◌-◌, ◌<◌, �
 use Rattle.std.specs.Prelude.{Option, Result, IfOk}
 use Rattle.std.proofs.lemmas.List.{length-replicate, take_all}
 use Rattle.std.proofs.lemmas.Bool.{cases_lt}
-use Rattle.asn1_defs.specs.asn1_types.declared.definition.Node.{Node}
-use Rattle.asn1_defs.specs.asn1_assignments.declared.assignment.Syntax.{Syntax}
+use Rattle.asn1_syntax.specs.declared.types.definition.Node.{Node}
+use Rattle.asn1_syntax.specs.declared.assignments.assignment.Syntax.{Syntax}
 use Rattle.asn1_defs.specs.declared.graph.Edge.{Edge}
 use Rattle.asn1_defs.specs.Graph.{vertex_count, edges_of}
-use Rattle.asn1_graph.specs.Walks.{IsDepth}
+use Rattle.asn1_module.specs.graph.Walks.{IsDepth}
 use Rattle.asn1_defs.specs.Paths.{Nests, IsFirst, Leads}
 use Rattle.asn1_defs.specs.Judgement.{node_weights, weights_of, IsTooDeep, IsFirstRecursive}
 

@@ -1,33 +1,33 @@
 -- The numbers in a module that is read are those of its types.
 use Rattle.std.proofs.Common.{◌≡◌, ℕ, zero, suc, ◌+◌, ◌<◌, ◌≤◌, List, [], ◌∷◌, ◌++◌, length, true, false, ◌&&◌, refl, subst, arith, length-append}
 use Rattle.std.specs.Prelude.{Result, Ok, Err, Option, Some, None}
-use Rattle.asn1_defs.proofs.gnb_types.Choices.{chosen}
-use Rattle.asn1_defs.specs.asn1_tokens.declared.token.Word.{Word}
-use Rattle.asn1_defs.specs.asn1_tokens.declared.token.Word.TheVariants as words
-use Rattle.asn1_defs.specs.asn1_tokens.declared.token.Sign.TheVariants as signs
-use Rattle.asn1_defs.specs.asn1_tokens.Stream.{first_place}
-use Rattle.asn1_defs.specs.asn1_types.declared.fault.Fault.{Fault}
-use Rattle.asn1_defs.specs.asn1_types.declared.definition.TypeId.{TypeId}
-use Rattle.asn1_defs.specs.asn1_types.declared.definition.Component.{Component}
-use Rattle.asn1_defs.specs.asn1_types.declared.definition.Extensible.{Extensible}
-use Rattle.asn1_defs.specs.asn1_types.declared.definition.Definition.{Definition}
-use Rattle.asn1_defs.specs.asn1_types.declared.definition.Node.{Node}
-use Rattle.asn1_defs.specs.asn1_types.declared.members.Group.{Group}
-use Rattle.asn1_defs.specs.asn1_types.declared.members.Group.TheVariants as groups
-use Rattle.asn1_defs.specs.asn1_types.declared.members.Frame.{Frame}
-use Rattle.asn1_defs.specs.asn1_types.declared.members.Frame.TheVariants as frames
-use Rattle.asn1_defs.specs.asn1_types.declared.members.Head.{Head}
-use Rattle.asn1_defs.specs.asn1_types.declared.members.Head.TheVariants as heads
-use Rattle.asn1_defs.specs.asn1_types.Reading.{Left, begins_with_sign}
-use Rattle.asn1_defs.specs.asn1_types.inside.Reading.{◌>>=◌, first_word, word_at, sign_at, upper_at}
-use Rattle.asn1_defs.specs.asn1_types.Sizes.{integer_least, integer_greatest, greatest_beside}
-use Rattle.asn1_defs.specs.asn1_types.inside.Sizes.{size_at, optional_size_at, bounded_at, integer_ellipsis_at, integer_at}
-use Rattle.asn1_defs.specs.asn1_types.Shapes.{Shape, Alone, BoundsFollow, NamesFollow, StringFollows, TextSizeFollows, shape_of, Nothing, StringSize, TextSize}
-use Rattle.asn1_defs.proofs.asn1_types.ShapeLemmas.{alone_parts, string_parts, text_parts}
-use Rattle.asn1_defs.specs.asn1_types.Members.{no_parts, additions_of, put_part, with_part, extended, is_full, all_parts, component}
-use Rattle.asn1_defs.specs.asn1_types.Types.{node, next_id}
-use Rattle.asn1_defs.specs.asn1_types.inside.Members.{can_extend, has_component, new_name_at, list_goes_on_at, names_at, least_members, composed, named_at, entry_at, optional_at, member_end_at, close_at}
-use Rattle.asn1_defs.specs.asn1_types.inside.Types.{enumerated_at, string_at, rest_at, rest_by, simple_rest_at, is_simple, simple_at, list_head_at, components_head_at, sequence_head_at, choice_head_at, set_name_at, container_at, pdu_at, reference_at, head_by, head_at, Risen, risen, rise_at, type_turn_at, type_goes_on, type_within_at, type_at}
+use Rattle.gnb_types.proofs.Choices.{chosen}
+use Rattle.asn1_tokens.specs.declared.token.Word.{Word}
+use Rattle.asn1_tokens.specs.declared.token.Word.TheVariants as words
+use Rattle.asn1_tokens.specs.declared.token.Sign.TheVariants as signs
+use Rattle.asn1_tokens.specs.Stream.{first_place}
+use Rattle.asn1_syntax.specs.declared.types.fault.Fault.{Fault}
+use Rattle.asn1_syntax.specs.declared.types.definition.TypeId.{TypeId}
+use Rattle.asn1_syntax.specs.declared.types.definition.Component.{Component}
+use Rattle.asn1_syntax.specs.declared.types.definition.Extensible.{Extensible}
+use Rattle.asn1_syntax.specs.declared.types.definition.Definition.{Definition}
+use Rattle.asn1_syntax.specs.declared.types.definition.Node.{Node}
+use Rattle.asn1_syntax.specs.declared.types.members.Group.{Group}
+use Rattle.asn1_syntax.specs.declared.types.members.Group.TheVariants as groups
+use Rattle.asn1_syntax.specs.declared.types.members.Frame.{Frame}
+use Rattle.asn1_syntax.specs.declared.types.members.Frame.TheVariants as frames
+use Rattle.asn1_syntax.specs.declared.types.members.Head.{Head}
+use Rattle.asn1_syntax.specs.declared.types.members.Head.TheVariants as heads
+use Rattle.asn1_syntax.specs.types.Reading.{Left, begins_with_sign}
+use Rattle.asn1_syntax.specs.types.inside.Reading.{◌>>=◌, first_word, word_at, sign_at, upper_at}
+use Rattle.asn1_syntax.specs.types.Sizes.{integer_least, integer_greatest, greatest_beside}
+use Rattle.asn1_syntax.specs.types.inside.Sizes.{size_at, optional_size_at, bounded_at, integer_ellipsis_at, integer_at}
+use Rattle.asn1_syntax.specs.types.Shapes.{Shape, Alone, BoundsFollow, NamesFollow, StringFollows, TextSizeFollows, shape_of, Nothing, StringSize, TextSize}
+use Rattle.asn1_syntax.proofs.types.ShapeLemmas.{alone_parts, string_parts, text_parts}
+use Rattle.asn1_syntax.specs.types.Members.{no_parts, additions_of, put_part, with_part, extended, is_full, all_parts, component}
+use Rattle.asn1_syntax.specs.types.Types.{node, next_id}
+use Rattle.asn1_syntax.specs.types.inside.Members.{can_extend, has_component, new_name_at, list_goes_on_at, names_at, least_members, composed, named_at, entry_at, optional_at, member_end_at, close_at}
+use Rattle.asn1_syntax.specs.types.inside.Types.{enumerated_at, string_at, rest_at, rest_by, simple_rest_at, is_simple, simple_at, list_head_at, components_head_at, sequence_head_at, choice_head_at, set_name_at, container_at, pdu_at, reference_at, head_by, head_at, Risen, risen, rise_at, type_turn_at, type_goes_on, type_within_at, type_at}
 use Rattle.asn1_defs.specs.Links.{AreBelow, PartsBelow, IsInside, AreOrdered, OptionBelow, OptionFrom}
 use Rattle.asn1_module.proofs.SimpleTypes.{simple_inside}
 

@@ -3,23 +3,23 @@ use Rattle.std.proofs.Common.{◌≡◌, ℕ, zero, suc, ◌+◌, ◌<◌, List,
 use Rattle.std.specs.Prelude.{Option, Some, None, IfSome, slice_get, option_map}
 use Rattle.std.specs.List.{position_from}
 use Rattle.std.proofs.lemmas.Iterator.Adapters.{position_from-zero}
-use Rattle.asn1_defs.specs.asn1_tokens.Words.{is_text}
-use Rattle.asn1_defs.specs.asn1_types.declared.definition.TypeId.{TypeId}
-use Rattle.asn1_defs.specs.asn1_types.declared.definition.Definition.{Definition}
-use Rattle.asn1_defs.specs.asn1_types.declared.definition.Definition.TheVariants as types
-use Rattle.asn1_defs.specs.asn1_types.declared.definition.Node.{Node}
-use Rattle.asn1_defs.specs.asn1_assignments.declared.assignment.Body.{Body}
-use Rattle.asn1_defs.specs.asn1_assignments.declared.assignment.IeRow.{IeRow}
-use Rattle.asn1_defs.specs.asn1_assignments.declared.assignment.ProcedureRow.{ProcedureRow}
-use Rattle.asn1_defs.specs.asn1_assignments.declared.assignment.Assignment.{Assignment}
-use Rattle.asn1_defs.specs.asn1_assignments.Index.{number_of}
-use Rattle.asn1_defs.specs.asn1_assignments.declared.assignment.Syntax.{Syntax}
+use Rattle.asn1_tokens.specs.Words.{is_text}
+use Rattle.asn1_syntax.specs.declared.types.definition.TypeId.{TypeId}
+use Rattle.asn1_syntax.specs.declared.types.definition.Definition.{Definition}
+use Rattle.asn1_syntax.specs.declared.types.definition.Definition.TheVariants as types
+use Rattle.asn1_syntax.specs.declared.types.definition.Node.{Node}
+use Rattle.asn1_syntax.specs.declared.assignments.assignment.Body.{Body}
+use Rattle.asn1_syntax.specs.declared.assignments.assignment.IeRow.{IeRow}
+use Rattle.asn1_syntax.specs.declared.assignments.assignment.ProcedureRow.{ProcedureRow}
+use Rattle.asn1_syntax.specs.declared.assignments.assignment.Assignment.{Assignment}
+use Rattle.asn1_syntax.specs.assignments.Index.{number_of}
+use Rattle.asn1_syntax.specs.declared.assignments.assignment.Syntax.{Syntax}
 use Rattle.asn1_defs.specs.Links.{IesBelow, ProceduresBelow}
 use Rattle.asn1_defs.specs.Targets.{type_of, find_type, ie_rows_of, ie_rows, procedure_rows_of, procedure_rows, definition_of, definition_at, all_of, referred, element_rows, message_rows}
 use Rattle.asn1_defs.specs.Modules.{IsModule}
 use Rattle.asn1_defs.specs.Numbers.{number_in, all_numbers, numbers_in}
 use Rattle.asn1_module.specs.Numbers.{body_at, found_in}
-use Rattle.asn1_graph.proofs.NumberLemmas.{length-all_numbers}
+use Rattle.asn1_module.proofs.graph.NumberLemmas.{length-all_numbers}
 use Rattle.asn1_defs.specs.declared.names.Kind.{Kind}
 use Rattle.asn1_defs.specs.declared.names.Kind.TheVariants as kinds
 use Rattle.asn1_defs.specs.Names.{kind_of_body, kind_of_name, is_such, is_known}

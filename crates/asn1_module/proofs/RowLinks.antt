@@ -1,25 +1,25 @@
 -- The numbers in the rows and assignments of a module that is read are those of its types.
 use Rattle.std.proofs.Common.{◌≡◌, ℕ, ◌+◌, ◌<◌, ◌≤◌, List, [], ◌∷◌, ◌++◌, length, Bool, refl, sym, subst, arith}
 use Rattle.std.specs.Prelude.{Ok, Option, Some, None}
-use Rattle.asn1_defs.proofs.gnb_types.Choices.{chosen}
-use Rattle.asn1_defs.specs.asn1_tokens.declared.token.Word.{Word}
-use Rattle.asn1_defs.specs.asn1_tokens.declared.token.Word.TheVariants as words
-use Rattle.asn1_defs.specs.asn1_tokens.declared.token.Sign.TheVariants as signs
-use Rattle.asn1_defs.specs.asn1_tokens.Stream.{items_of, first_place}
-use Rattle.asn1_defs.specs.asn1_types.declared.definition.TypeId.{TypeId}
-use Rattle.asn1_defs.specs.asn1_types.declared.definition.Node.{Node}
-use Rattle.asn1_defs.specs.asn1_types.Reading.{Left, begins_with}
-use Rattle.asn1_defs.specs.asn1_types.inside.Reading.{word_at, sign_at, repeat_at}
-use Rattle.asn1_defs.specs.asn1_types.inside.Types.{type_at}
-use Rattle.asn1_defs.specs.asn1_assignments.declared.assignment.IeRow.{IeRow}
-use Rattle.asn1_defs.specs.asn1_assignments.declared.assignment.ProcedureRow.{ProcedureRow}
-use Rattle.asn1_defs.specs.asn1_assignments.declared.assignment.Body.{Body}
-use Rattle.asn1_defs.specs.asn1_assignments.declared.assignment.Body.TheVariants as bodies
-use Rattle.asn1_defs.specs.asn1_assignments.declared.assignment.Assignment.{Assignment}
-use Rattle.asn1_defs.specs.asn1_assignments.declared.assignment.Syntax.{Syntax}
-use Rattle.asn1_defs.specs.asn1_assignments.inside.Rows.{new_number_at, criticality_at, presence_at, has_id, has_code, ie_row_at, outcome_at, messages_at, procedure_row_at}
-use Rattle.asn1_defs.specs.asn1_assignments.inside.Sets.{Rows, rows_with, set_goes_on_at, ie_turn_at, procedure_turn_at, set_start_at, ie_set_at, procedure_set_at}
-use Rattle.asn1_defs.specs.asn1_assignments.inside.Module.{Parts, new_assignment_at, ie_body_at, procedure_body_at, type_body_at, body_at, assignment_at, module_turn_at, header_at, no_assignments, assignments_at, syntax_at, syntax_of}
+use Rattle.gnb_types.proofs.Choices.{chosen}
+use Rattle.asn1_tokens.specs.declared.token.Word.{Word}
+use Rattle.asn1_tokens.specs.declared.token.Word.TheVariants as words
+use Rattle.asn1_tokens.specs.declared.token.Sign.TheVariants as signs
+use Rattle.asn1_tokens.specs.Stream.{items_of, first_place}
+use Rattle.asn1_syntax.specs.declared.types.definition.TypeId.{TypeId}
+use Rattle.asn1_syntax.specs.declared.types.definition.Node.{Node}
+use Rattle.asn1_syntax.specs.types.Reading.{Left, begins_with}
+use Rattle.asn1_syntax.specs.types.inside.Reading.{word_at, sign_at, repeat_at}
+use Rattle.asn1_syntax.specs.types.inside.Types.{type_at}
+use Rattle.asn1_syntax.specs.declared.assignments.assignment.IeRow.{IeRow}
+use Rattle.asn1_syntax.specs.declared.assignments.assignment.ProcedureRow.{ProcedureRow}
+use Rattle.asn1_syntax.specs.declared.assignments.assignment.Body.{Body}
+use Rattle.asn1_syntax.specs.declared.assignments.assignment.Body.TheVariants as bodies
+use Rattle.asn1_syntax.specs.declared.assignments.assignment.Assignment.{Assignment}
+use Rattle.asn1_syntax.specs.declared.assignments.assignment.Syntax.{Syntax}
+use Rattle.asn1_syntax.specs.assignments.inside.Rows.{new_number_at, criticality_at, presence_at, has_id, has_code, ie_row_at, outcome_at, messages_at, procedure_row_at}
+use Rattle.asn1_syntax.specs.assignments.inside.Sets.{Rows, rows_with, set_goes_on_at, ie_turn_at, procedure_turn_at, set_start_at, ie_set_at, procedure_set_at}
+use Rattle.asn1_syntax.specs.assignments.inside.Module.{Parts, new_assignment_at, ie_body_at, procedure_body_at, type_body_at, body_at, assignment_at, module_turn_at, header_at, no_assignments, assignments_at, syntax_at, syntax_of}
 use Rattle.asn1_defs.specs.Links.{AreOrdered, OptionBelow, IesBelow, ProceduresBelow, BodyBelow, BodiesBelow, OptionFrom, IesFrom, ProceduresFrom, BodyFrom, AreParted, IsLinked}
 use Rattle.asn1_module.proofs.LinkLemmas.{type_ok, bind_ok, ok_same}
 use Rattle.asn1_module.proofs.TypeCount.{repeat_keeps}

@@ -1,11 +1,11 @@
 -- A type without another one inside is a word with its content.
 use Rattle.std.proofs.Common.{◌≡◌, ℕ, sym, ap, Some}
-use Rattle.asn1_defs.specs.asn1_tokens.declared.token.Word.{Word}
-use Rattle.asn1_defs.specs.asn1_types.declared.definition.Definition.{Definition}
-use Rattle.asn1_defs.specs.asn1_types.declared.definition.Definition.TheVariants as types
-use Rattle.asn1_defs.specs.asn1_types.Reading.{Left}
-use Rattle.asn1_defs.specs.asn1_types.Shapes.{Shape, shape_of, Content, Nothing, Interval, NameList, StringSize, TextSize, Simple, parts_of}
-use Rattle.asn1_defs.proofs.asn1_types.ShapeLemmas.{alone_parts, string_parts, text_parts, bounds_word, names_word}
+use Rattle.asn1_tokens.specs.declared.token.Word.{Word}
+use Rattle.asn1_syntax.specs.declared.types.definition.Definition.{Definition}
+use Rattle.asn1_syntax.specs.declared.types.definition.Definition.TheVariants as types
+use Rattle.asn1_syntax.specs.types.Reading.{Left}
+use Rattle.asn1_syntax.specs.types.Shapes.{Shape, shape_of, Content, Nothing, Interval, NameList, StringSize, TextSize, Simple, parts_of}
+use Rattle.asn1_syntax.proofs.types.ShapeLemmas.{alone_parts, string_parts, text_parts, bounds_word, names_word}
 use Rattle.asn1_defs.specs.Links.{IsInside}
 use Rattle.asn1_defs.specs.TypeMeanings.{Follows, alone, bounds, names, string, text_size}
 

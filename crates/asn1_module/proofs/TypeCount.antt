@@ -3,21 +3,21 @@ use Rattle.std.proofs.Common.{◌≡◌, ℕ, zero, suc, ◌+◌, ◌<◌, ◌�
 use Rattle.std.proofs.lemmas.Bool.{leb-false}
 use Rattle.std.proofs.lemmas.List.Sums.{sum_by-append}
 use Rattle.std.specs.Prelude.{Result, Ok, Err, count_by}
-use Rattle.asn1_defs.proofs.gnb_types.Choices.{by_test, chosen, clash}
-use Rattle.asn1_defs.specs.asn1_tokens.declared.token.Word.TheVariants as words
-use Rattle.asn1_defs.specs.asn1_tokens.declared.token.Sign.TheVariants as signs
-use Rattle.asn1_defs.specs.asn1_tokens.Stream.{items_of, first_place, others}
-use Rattle.asn1_defs.specs.asn1_types.declared.fault.Fault.{Fault}
-use Rattle.asn1_defs.specs.asn1_types.declared.definition.Node.{Node}
-use Rattle.asn1_defs.specs.asn1_types.Reading.{Left, begins_with, begins_with_sign}
-use Rattle.asn1_defs.specs.asn1_types.inside.Reading.{◌>>=◌, unexpected, word_at, sign_at, upper_at, repeat_at}
-use Rattle.asn1_defs.specs.asn1_assignments.declared.assignment.Body.{Body}
-use Rattle.asn1_defs.specs.asn1_assignments.declared.assignment.Body.TheVariants as bodies
-use Rattle.asn1_defs.specs.asn1_assignments.declared.assignment.Assignment.{Assignment}
-use Rattle.asn1_defs.specs.asn1_assignments.declared.assignment.Syntax.{Syntax}
-use Rattle.asn1_defs.specs.asn1_assignments.inside.Sets.{ie_set_at, procedure_set_at}
-use Rattle.asn1_defs.specs.asn1_assignments.Module.{is_type, is_type_body}
-use Rattle.asn1_defs.specs.asn1_assignments.inside.Module.{Parts, has_all_types, is_assigned, new_assignment_at, ie_body_at, procedure_body_at, type_body_at, body_at, assignment_at, module_turn_at, header_at, no_assignments, assignments_at, syntax_at, syntax_of}
+use Rattle.gnb_types.proofs.Choices.{by_test, chosen, clash}
+use Rattle.asn1_tokens.specs.declared.token.Word.TheVariants as words
+use Rattle.asn1_tokens.specs.declared.token.Sign.TheVariants as signs
+use Rattle.asn1_tokens.specs.Stream.{items_of, first_place, others}
+use Rattle.asn1_syntax.specs.declared.types.fault.Fault.{Fault}
+use Rattle.asn1_syntax.specs.declared.types.definition.Node.{Node}
+use Rattle.asn1_syntax.specs.types.Reading.{Left, begins_with, begins_with_sign}
+use Rattle.asn1_syntax.specs.types.inside.Reading.{◌>>=◌, unexpected, word_at, sign_at, upper_at, repeat_at}
+use Rattle.asn1_syntax.specs.declared.assignments.assignment.Body.{Body}
+use Rattle.asn1_syntax.specs.declared.assignments.assignment.Body.TheVariants as bodies
+use Rattle.asn1_syntax.specs.declared.assignments.assignment.Assignment.{Assignment}
+use Rattle.asn1_syntax.specs.declared.assignments.assignment.Syntax.{Syntax}
+use Rattle.asn1_syntax.specs.assignments.inside.Sets.{ie_set_at, procedure_set_at}
+use Rattle.asn1_syntax.specs.assignments.Module.{is_type, is_type_body}
+use Rattle.asn1_syntax.specs.assignments.inside.Module.{Parts, has_all_types, is_assigned, new_assignment_at, ie_body_at, procedure_body_at, type_body_at, body_at, assignment_at, module_turn_at, header_at, no_assignments, assignments_at, syntax_at, syntax_of}
 use Rattle.asn1_defs.specs.Targets.{type_of, put_type, type_ids}
 
 -- both steps of a reading gave something

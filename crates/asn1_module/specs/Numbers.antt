@@ -1,7 +1,7 @@
 -- Internal: what a module keeps so that no name is searched for twice.
 use Rattle.std.specs.Prelude.{ℕ, List, Option, Some, None, slice_get, option_map}
-use Rattle.asn1_defs.specs.asn1_assignments.declared.assignment.Body.{Body}
-use Rattle.asn1_defs.specs.asn1_assignments.declared.assignment.Assignment.{Assignment}
+use Rattle.asn1_syntax.specs.declared.assignments.assignment.Body.{Body}
+use Rattle.asn1_syntax.specs.declared.assignments.assignment.Assignment.{Assignment}
 
 -- what the assignment of a number stands for
 abbrev pub body_at : List Assignment → Option ℕ → Option Body

@@ -3,8 +3,8 @@
 ghost use Rattle.std.specs.Prelude.{◌≡◌};
 ghost use Rattle.asn1_module.specs.declared.error.ModuleError.TheVariants.{Memory};
 
-use asn1_defs::from_asn1_types::ModuleReason;
-use asn1_defs::from_gnb_types::octets::Memory;
+use asn1_syntax::types::ModuleReason;
+use gnb_types::octets::Memory;
 
 /// Why a text was not read as a module: its first fault, with line and column from 1, or want of memory.
 #[derive(Clone, Copy, Debug, PartialEq, Eq)]

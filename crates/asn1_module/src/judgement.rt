@@ -4,15 +4,15 @@ ghost use Rattle.std.specs.Prelude.{◌≡◌, ◌<◌, IfOk, length, None};
 ghost use Rattle.asn1_defs.specs.Names.{first_unknown};
 ghost use Rattle.asn1_defs.specs.Numbers.{numbers_in};
 ghost use Rattle.asn1_defs.specs.Graph.{vertex_count, edges_of};
-ghost use Rattle.asn1_graph.specs.Walks.{IsDepth};
+ghost use Rattle.asn1_module.specs.graph.Walks.{IsDepth};
 ghost use Rattle.asn1_defs.specs.Judgement.{weight_of, node_weights, weights_of, IsFirstRecursive, IsFirstDeep, Judged, IsAt};
 
+use crate::graph::{depths, edges_of, first_looping, value_at, vertex_count};
 use crate::names::first_unknown;
 use asn1_defs::Edge;
-use asn1_defs::from_asn1_assignments::Syntax;
-use asn1_defs::from_asn1_types::{Definition, Fault, ModuleReason, Node};
-use asn1_defs::from_gnb_types::octets::Memory;
-use asn1_graph::{depths, edges_of, first_looping, value_at, vertex_count};
+use asn1_syntax::assignments::Syntax;
+use asn1_syntax::types::{Definition, Fault, ModuleReason, Node};
+use gnb_types::octets::Memory;
 use std::alloc::Global;
 
 /// As deep types may stand one inside another.

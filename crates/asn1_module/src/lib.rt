@@ -2,19 +2,15 @@
 #![tactic(auto)]
 
 mod error;
+pub mod graph;
 mod judgement;
 mod module;
 mod names;
 mod position;
 
-pub use asn1_defs::from_asn1_assignments::{Criticality, IeRow, Presence, ProcedureRow};
-pub use asn1_defs::from_asn1_types::{
+pub use asn1_syntax::assignments::{Criticality, IeRow, Presence, ProcedureRow};
+pub use asn1_syntax::types::{
     Component, Definition, Extensible, Items, ModuleReason, Size, TypeId,
 };
 pub use error::ModuleError;
 pub use module::{Module, read_module};
-
-/// Of `asn1_assignments`, for crates above.
-pub mod from_asn1_assignments {
-    pub use asn1_defs::from_asn1_assignments::{IeRow, ProcedureRow};
-}

@@ -10,14 +10,12 @@ ghost use Rattle.asn1_module.specs.Numbers.{body_at, found_in};
 ghost use Rattle.asn1_defs.specs.Numbers.{number_in};
 
 use crate::error::ModuleError;
+use crate::graph::numbers_in;
 use crate::judgement::judge;
 use crate::position::position_after;
-use asn1_defs::from_asn1_assignments::{
-    Assignment, Body, IeRow, ProcedureRow, Syntax, read_syntax,
-};
-use asn1_defs::from_asn1_tokens::is_text;
-use asn1_defs::from_asn1_types::{Definition, Fault, ReadError, TypeId};
-use asn1_graph::numbers_in;
+use asn1_syntax::assignments::{Assignment, Body, IeRow, ProcedureRow, Syntax, read_syntax};
+use asn1_syntax::types::{Definition, Fault, ReadError, TypeId};
+use asn1_tokens::is_text;
 use std::alloc::Global;
 use std::marker::Model;
 
@@ -31,7 +29,7 @@ pub struct Module {
 
 impl Model for Module {
     ghost use Rattle.std.specs.Prelude.{◌≡◌};
-    ghost use Rattle.asn1_defs.specs.asn1_assignments.declared.assignment.Syntax.{Syntax};
+    ghost use Rattle.asn1_syntax.specs.declared.assignments.assignment.Syntax.{Syntax};
     ghost use Rattle.asn1_defs.specs.Modules.{IsModule};
     ghost use Rattle.asn1_defs.specs.Numbers.{numbers_in};
 

@@ -6,8 +6,8 @@ ghost use Rattle.asn1_defs.specs.Names.{kind_of_body, is_such, is_known, first_u
 ghost use Rattle.asn1_module.specs.Numbers.{body_at};
 
 use asn1_defs::Kind;
-use asn1_defs::from_asn1_assignments::{Assignment, Body};
-use asn1_defs::from_asn1_types::{Definition, Node};
+use asn1_syntax::assignments::{Assignment, Body};
+use asn1_syntax::types::{Definition, Node};
 
 fn kind_of_body(body: &Body) -> Kind
     ensures { result ≡ kind_of_body body.now }

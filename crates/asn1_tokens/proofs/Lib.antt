@@ -1,2 +1,1 @@
 pub mod StreamLemmas
-pub use Rattle.gnb_types.proofs as gnb_types

@@ -9,14 +9,3 @@ mod words;
 pub use token::{Place, Sign, Token, Word};
 pub use tokens::Tokens;
 pub use words::is_text;
-
-/// Of `gnb_types`, for crates above.
-pub mod from_gnb_types {
-    pub mod items {
-        pub use gnb_types::items::Memory;
-    }
-
-    pub mod octets {
-        pub use gnb_types::octets::{Memory, Octets};
-    }
-}

@@ -1,11 +1,11 @@
 -- The ends that each word has: what the input is, and with other words than a form's.
 use Rattle.std.specs.Prelude.{◌≡◌, ℕ, List, [], ◌∷◌, Some}
 use Rattle.gnb_base.specs.Outside.{SourceAt, SinkAt}
-use Rattle.input_defs.specs.declared.InputEnd.{InputEnd}
-use Rattle.input_defs.specs.declared.InputEnd.TheVariants as inputs
-use Rattle.input_defs.specs.Split.{InputSplit}
-use Rattle.input_defs.specs.Ends.{IsReadFault, IsTooLong}
-use Rattle.input_defs.specs.Near.{StopsNear}
+use Rattle.command_defs.specs.declared.input_defs.InputEnd.{InputEnd}
+use Rattle.command_defs.specs.declared.input_defs.InputEnd.TheVariants as inputs
+use Rattle.command_defs.specs.input_defs.Split.{InputSplit}
+use Rattle.command_defs.specs.input_defs.Ends.{IsReadFault, IsTooLong}
+use Rattle.command_defs.specs.input_defs.Near.{StopsNear}
 use Rattle.scenario_text.specs.Print.{print}
 use Rattle.command_defs.specs.declared.CommonEnd.{CommonEnd}
 use Rattle.command_defs.specs.declared.CommonEnd.TheVariants.{ReadFault, TooLong, WriteFault, Memory}

@@ -1,7 +1,7 @@
 -- What a call of the program sees of its outside, and how its calls there may fail.
 use Rattle.std.specs.Prelude.{◌≡◌, ◌≢◌, ◌⊎◌, ℕ, true}
 use Rattle.gnb_base.specs.Outside.{SourceAt, SinkAt, Rose}
-use Rattle.input_defs.specs.Faults.{NoReadFailed, LastReadFailed}
+use Rattle.command_defs.specs.input_defs.Faults.{NoReadFailed, LastReadFailed}
 
 -- its source and its sink
 pub record OutsideAt : Type 0 where

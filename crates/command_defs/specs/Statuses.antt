@@ -1,10 +1,10 @@
 -- The statuses that each word has, and the line that reports one.
 use Rattle.std.specs.Prelude.{ℕ, List, [], ◌∷◌, ◌++◌, codes}
 use Rattle.std.specs.Fmt.{decimal}
-use Rattle.asn1_types.specs.declared.fault.ModuleReason.{ModuleReason}
-use Rattle.asn1_types.specs.declared.fault.ModuleReason.TheVariants.{Token, Form, Unknown, Twice, Recursive, OutOfProfile, Bounds, Deep, Truncated}
-use Rattle.script_words.specs.declared.reason.TextReason.{TextReason}
-use Rattle.script_words.specs.declared.reason.TextReason.TheVariants.{Word, Number, Hex, Extra, Name}
+use Rattle.asn1_syntax.specs.declared.types.fault.ModuleReason.{ModuleReason}
+use Rattle.asn1_syntax.specs.declared.types.fault.ModuleReason.TheVariants.{Token, Form, Unknown, Twice, Recursive, OutOfProfile, Bounds, Deep, Truncated}
+use Rattle.scenario_text.specs.declared.script_words.reason.TextReason.{TextReason}
+use Rattle.scenario_text.specs.declared.script_words.reason.TextReason.TheVariants.{Word, Number, Hex, Extra, Name}
 use Rattle.scenario_text.specs.declared.line.OutLine.{OutLine}
 use Rattle.scenario_text.specs.declared.line.OutLine.TheVariants as lines
 use Rattle.scenario_text.specs.Print.{◌then◌}

@@ -3,6 +3,8 @@
 //! cites these.
 #![tactic(auto)]
 
+pub mod input_defs;
+
 /// What the program answers.
 #[derive(Clone, Copy, Debug, PartialEq, Eq)]
 pub struct Status {

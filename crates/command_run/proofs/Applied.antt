@@ -3,40 +3,40 @@ use Rattle.std.proofs.Common.{◌≡◌, ℕ, List, [], ◌∷◌, ◌++◌, fal
 use Rattle.gnb_base.specs.declared.lines.Line.{Line}
 use Rattle.gnb_base.specs.Outside.{SourceAt}
 use Rattle.gnb_base.specs.Reading.{Reading, NextMeets}
-use Rattle.input_defs.specs.declared.InputEnd.{InputEnd}
-use Rattle.input_lines.specs.ReadsLine.{StopsReading}
-use Rattle.script_words.specs.declared.reason.TextReason.{TextReason}
-use Rattle.script_words.specs.declared.reason.TextError.{TextError}
-use Rattle.script_words.specs.declared.reason.TextError.TheVariants as texts
-use Rattle.script_words.specs.Answers.{GivesOrMemory}
+use Rattle.command_defs.specs.declared.input_defs.InputEnd.{InputEnd}
+use Rattle.commands.specs.input_lines.ReadsLine.{StopsReading}
+use Rattle.scenario_text.specs.declared.script_words.reason.TextReason.{TextReason}
+use Rattle.scenario_text.specs.declared.script_words.reason.TextError.{TextError}
+use Rattle.scenario_text.specs.declared.script_words.reason.TextError.TheVariants as texts
+use Rattle.scenario_text.specs.script_words.Answers.{GivesOrMemory}
 use Rattle.scenario_text.specs.declared.event.Event.{Event}
 use Rattle.scenario_text.specs.declared.line.OutLine.{OutLine}
 use Rattle.scenario_text.specs.declared.line.OutLine.TheVariants as lines
 use Rattle.scenario_text.specs.Grammar.{is_skipped, event_of}
 use Rattle.scenario_text.specs.Print.{print}
-use Rattle.asn1_assignments.specs.declared.assignment.Syntax.{Syntax}
+use Rattle.asn1_syntax.specs.declared.assignments.assignment.Syntax.{Syntax}
 use Rattle.profile.specs.declared.version.Version.TheVariants.{One}
-use Rattle.profile_module.specs.declared.agreement.AgreeError.{AgreeError}
-use Rattle.profile_module.specs.declared.agreement.AgreeError.TheVariants as errors
-use Rattle.profile_module.specs.Profiles.{IsAgreementOf}
-use Rattle.input_module.specs.declared.module.GivenModule.{GivenModule}
-use Rattle.input_module.specs.declared.module.GivenModule.TheVariants as given
-use Rattle.input_module.specs.declared.stop.ModuleStop.{ModuleStop}
-use Rattle.input_module.specs.Taking.{HasModule, StopsTaking}
+use Rattle.profile.specs.declared.profile_module.agreement.AgreeError.{AgreeError}
+use Rattle.profile.specs.declared.profile_module.agreement.AgreeError.TheVariants as errors
+use Rattle.profile.specs.profile_module.Profiles.{IsAgreementOf}
+use Rattle.commands.specs.declared.input_module.module.GivenModule.{GivenModule}
+use Rattle.commands.specs.declared.input_module.module.GivenModule.TheVariants as given
+use Rattle.commands.specs.declared.input_module.stop.ModuleStop.{ModuleStop}
+use Rattle.commands.specs.input_module.Taking.{HasModule, StopsTaking}
 use Rattle.run_defs.specs.States.{RunStep, Stop, outstanding, spent_counter, goes, stops}
 use Rattle.run_defs.specs.UnitRuns.{unit_world}
 use Rattle.run_links.specs.declared.spans.Outstanding.{Outstanding as Span}
 use Rattle.run_links.specs.Grounds.{OctetState, OctetOutcome}
 use Rattle.run_links.specs.Told.{EndsAt}
-use Rattle.world.specs.world_steps.declared.cause.Cause.{Cause}
-use Rattle.world.specs.world_steps.declared.cause.Cause.TheVariants as causes
-use Rattle.world.specs.world_steps.Gives.{stop_by, EventStops}
+use Rattle.world_steps.specs.declared.cause.Cause.{Cause}
+use Rattle.world_steps.specs.declared.cause.Cause.TheVariants as causes
+use Rattle.world_steps.specs.Gives.{stop_by, EventStops}
 use Rattle.world.specs.declared.stop.Stop.{Stop as WorldStop}
 use Rattle.world.specs.declared.stop.Stop.TheVariants as world_stops
 use Rattle.world.specs.Worlds.{WorldAt, IsUsable, stopped, AppliesTo, AppliesAt, Applies as WorldApplies}
 use Rattle.command_defs.specs.declared.CommonEnd.TheVariants.{WriteFault, Memory}
 use Rattle.command_defs.specs.Ends.{end_of_input}
-use Rattle.command_output.specs.Writes.{WritesAll, WritesFront}
+use Rattle.commands.specs.command_output.Writes.{WritesAll, WritesFront}
 use Rattle.command_run.specs.declared.end.RunEnd.{RunEnd}
 use Rattle.command_run.specs.declared.end.RunEnd.TheVariants.{Differs, Script, Common}
 use Rattle.command_run.specs.declared.script.Meaning.{Meaning}

@@ -7,8 +7,8 @@ use Rattle.std.specs.Option.{option_to_list}
 use Rattle.command_defs.specs.declared.CommonEnd.TheVariants.{ReadFault, TooLong, WriteFault, Memory}
 use Rattle.command_defs.specs.Outside.{OutsideAt, outside, ReadsTo, AllRead, ReadStopped, WritesTo, AllWritten, WriteStopped}
 use Rattle.command_defs.specs.Output.{Prints}
-use Rattle.command_output.specs.Writes.{WritesAll, WritesFront}
-use Rattle.command_output.proofs.Written.{none_then_none, none_then_last, prints_more, front_more, front_all}
+use Rattle.commands.specs.command_output.Writes.{WritesAll, WritesFront}
+use Rattle.commands.proofs.command_output.Written.{none_then_none, none_then_last, prints_more, front_more, front_all}
 use Rattle.command_run.specs.declared.end.RunEnd.{RunEnd}
 use Rattle.command_run.specs.declared.end.RunEnd.TheVariants.{Done, NoModule, Differs, Script, Outstanding, Spent, Common}
 use Rattle.command_run.specs.Ends.{run_status, report_of, run_last_lines, end_text}

@@ -4,24 +4,24 @@ use Rattle.std.proofs.lemmas.Grind.{flat_map-append}
 use Rattle.std.proofs.lemmas.List.{take_all}
 use Rattle.std.specs.List.{flat_map}
 use Rattle.gnb_base.specs.Lines.{line_feed, lines_of}
-use Rattle.input_defs.specs.Split.{InputSplit, joined, Divides, Bare}
-use Rattle.input_defs.specs.Split as division
-use Rattle.input_lines.proofs.Wholes.{TakesOf, lines_of-joined, taken_is, all_lines, next_of}
-use Rattle.asn1_assignments.specs.declared.assignment.Syntax.{Syntax}
-use Rattle.asn1_module.specs.asn1_defs.Readings.{Reads}
-use Rattle.asn1_proof_module.proofs.Faults.{reading_once}
+use Rattle.command_defs.specs.input_defs.Split.{InputSplit, joined, Divides, Bare}
+use Rattle.command_defs.specs.input_defs.Split as division
+use Rattle.commands.proofs.input_lines.Wholes.{TakesOf, lines_of-joined, taken_is, all_lines, next_of}
+use Rattle.asn1_syntax.specs.declared.assignments.assignment.Syntax.{Syntax}
+use Rattle.asn1_defs.specs.Readings.{Reads}
+use Rattle.proof_asn1_modules.proofs.asn1_proof_module.Faults.{reading_once}
 use Rattle.profile.specs.declared.version.Version.{Version}
 use Rattle.profile.specs.declared.version.Version.TheVariants.{One}
-use Rattle.profile_defs.specs.Profile.{profile_types}
-use Rattle.profile_defs.specs.Agreement.{differs}
-use Rattle.input_module.specs.declared.header.ModuleHeader.TheVariants as headers
-use Rattle.input_module.specs.declared.module.GivenModule.{GivenModule}
-use Rattle.input_module.specs.declared.module.GivenModule.TheVariants as given
-use Rattle.input_module.specs.Header.{header_of, builtin_line}
-use Rattle.input_module.specs.Text.{IsClosed, IsUnclosed, IsBlank, is_end}
-use Rattle.input_module.specs.Module.{IsUpToEnd, HasText, GivesModule, IsWrongModule, Empty, NoHeader, Unended}
+use Rattle.message_defs.specs.profile_defs.Profile.{profile_types}
+use Rattle.message_defs.specs.profile_defs.Agreement.{differs}
+use Rattle.commands.specs.declared.input_module.header.ModuleHeader.TheVariants as headers
+use Rattle.commands.specs.declared.input_module.module.GivenModule.{GivenModule}
+use Rattle.commands.specs.declared.input_module.module.GivenModule.TheVariants as given
+use Rattle.commands.specs.input_module.Header.{header_of, builtin_line}
+use Rattle.commands.specs.input_module.Text.{IsClosed, IsUnclosed, IsBlank, is_end}
+use Rattle.commands.specs.input_module.Module.{IsUpToEnd, HasText, GivesModule, IsWrongModule, Empty, NoHeader, Unended}
 use Rattle.scenario_text.specs.declared.event.Event.{Event}
-use Rattle.script_words.specs.declared.reason.TextReason.{TextReason}
+use Rattle.scenario_text.specs.declared.script_words.reason.TextReason.{TextReason}
 use Rattle.scenario_text.specs.Grammar.{is_skipped, event_of}
 use Rattle.command_run.specs.Run.{AreEvents, meanings, IsOther}
 use Rattle.command_run.specs.Whole.{NamesScript, TextScript, text_line}

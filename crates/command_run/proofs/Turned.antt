@@ -4,41 +4,41 @@ use Rattle.gnb_base.specs.declared.lines.Line.{Line}
 use Rattle.gnb_base.specs.declared.lines.ReadPhase.TheVariants as phases
 use Rattle.gnb_base.specs.Outside.{SourceAt, SinkAt}
 use Rattle.gnb_base.specs.Reading.{Reading, fresh, input_limit, NextMeets}
-use Rattle.input_defs.specs.declared.InputEnd.{InputEnd}
-use Rattle.input_defs.specs.declared.InputEnd.TheVariants as inputs
-use Rattle.input_defs.specs.Faults.{FaultsOfEnd}
-use Rattle.input_defs.specs.Split.{InputSplit, input_split, rest_of}
-use Rattle.input_defs.specs.Ends.{EndsReading, IsReadToEnd}
-use Rattle.input_defs.specs.Standing.{StandsAfter, split_of}
-use Rattle.input_lines.specs.ReadsLine.{StopsReading}
-use Rattle.input_lines.proofs.Sources.{none_failed as no_read_failed, none_then_none as no_read_then}
-use Rattle.input_lines.proofs.Standing.{stands_first, takes_of, line_stands, comes_next, ends_at, both_nil}
-use Rattle.input_lines.proofs.Stopped.{stops_at, going_at, takes_on}
-use Rattle.script_words.specs.declared.reason.TextReason.{TextReason}
+use Rattle.command_defs.specs.declared.input_defs.InputEnd.{InputEnd}
+use Rattle.command_defs.specs.declared.input_defs.InputEnd.TheVariants as inputs
+use Rattle.command_defs.specs.input_defs.Faults.{FaultsOfEnd}
+use Rattle.command_defs.specs.input_defs.Split.{InputSplit, input_split, rest_of}
+use Rattle.command_defs.specs.input_defs.Ends.{EndsReading, IsReadToEnd}
+use Rattle.command_defs.specs.input_defs.Standing.{StandsAfter, split_of}
+use Rattle.commands.specs.input_lines.ReadsLine.{StopsReading}
+use Rattle.commands.proofs.input_lines.Sources.{none_failed as no_read_failed, none_then_none as no_read_then}
+use Rattle.commands.proofs.input_lines.Standing.{stands_first, takes_of, line_stands, comes_next, ends_at, both_nil}
+use Rattle.commands.proofs.input_lines.Stopped.{stops_at, going_at, takes_on}
+use Rattle.scenario_text.specs.declared.script_words.reason.TextReason.{TextReason}
 use Rattle.scenario_text.specs.declared.event.Event.{Event}
 use Rattle.scenario_text.specs.Grammar.{is_skipped}
 use Rattle.run_defs.specs.States.{Stop, outstanding, spent_counter}
 use Rattle.run_defs.specs.Runs.{Happened}
 use Rattle.run_links.specs.Grounds.{OctetState}
-use Rattle.world.specs.world_steps.declared.cause.Cause.{Cause}
-use Rattle.world.specs.world_steps.declared.cause.Cause.TheVariants as causes
-use Rattle.world.specs.world_steps.Gives.{stop_by}
+use Rattle.world_steps.specs.declared.cause.Cause.{Cause}
+use Rattle.world_steps.specs.declared.cause.Cause.TheVariants as causes
+use Rattle.world_steps.specs.Gives.{stop_by}
 use Rattle.world.specs.Worlds.{WorldAt, IsNew}
 use Rattle.profile.specs.declared.version.Version.{Version}
 use Rattle.profile.specs.declared.version.Version.TheVariants.{One}
-use Rattle.input_module.specs.declared.module.GivenModule.{GivenModule}
-use Rattle.input_module.specs.declared.module.GivenModule.TheVariants as given
-use Rattle.input_module.specs.declared.stop.ModuleStop.{ModuleStop}
-use Rattle.input_module.specs.declared.stop.ModuleStop.TheVariants as stops
-use Rattle.input_module.specs.Module.{GivesModule, StopsModule, IsWrongModule, Empty, NoHeader, Unended, IsPart, Unfinished, Whole, AtHeader}
-use Rattle.input_module.specs.Taking.{FaultsOfStop, StillGives}
-use Rattle.input_module.proofs.Given.{gives_at_end}
+use Rattle.commands.specs.declared.input_module.module.GivenModule.{GivenModule}
+use Rattle.commands.specs.declared.input_module.module.GivenModule.TheVariants as given
+use Rattle.commands.specs.declared.input_module.stop.ModuleStop.{ModuleStop}
+use Rattle.commands.specs.declared.input_module.stop.ModuleStop.TheVariants as stops
+use Rattle.commands.specs.input_module.Module.{GivesModule, StopsModule, IsWrongModule, Empty, NoHeader, Unended, IsPart, Unfinished, Whole, AtHeader}
+use Rattle.commands.specs.input_module.Taking.{FaultsOfStop, StillGives}
+use Rattle.commands.proofs.input_module.Given.{gives_at_end}
 use Rattle.command_defs.specs.declared.CommonEnd.TheVariants.{Memory}
 use Rattle.command_defs.specs.Ends.{end_of_input}
 use Rattle.command_defs.specs.Outside.{OutsideAt, outside}
 use Rattle.command_defs.specs.Output.{Prints, PrintsFront}
-use Rattle.command_output.specs.Writes.{WritesAll}
-use Rattle.command_output.proofs.Written.{none_failed, none_then_last, all_none, all_more, front_none, front_more, front_of, front_all}
+use Rattle.commands.specs.command_output.Writes.{WritesAll}
+use Rattle.commands.proofs.command_output.Written.{none_failed, none_then_last, all_none, all_more, front_none, front_more, front_of, front_all}
 use Rattle.command_run.specs.declared.end.RunEnd.{RunEnd}
 use Rattle.command_run.specs.declared.end.RunEnd.TheVariants.{Done, Common}
 use Rattle.command_run.specs.Ends.{end_at}

@@ -3,22 +3,22 @@ use Rattle.std.proofs.Common.{◌≡◌, ◌⊎◌, ◌+◌, ℕ, List, [], ◌�
 use Rattle.std.proofs.lemmas.Grind.{flat_map-append}
 use Rattle.std.specs.List.{flat_map}
 use Rattle.std.specs.Io.KnownBytes.{Consumes}
-use Rattle.command_output.proofs.Faults.{no_read_fault, no_write_fault}
+use Rattle.commands.proofs.command_output.Faults.{no_read_fault, no_write_fault}
 use Rattle.gnb_base.specs.Lines.{lines_of}
 use Rattle.gnb_base.specs.Outside.{SourceAt}
-use Rattle.input_defs.specs.Split.{InputSplit, rest_of, TakesInput}
-use Rattle.input_defs.specs.Ends.{IsTooLong}
-use Rattle.input_defs.specs.Near.{StopsNear}
-use Rattle.input_lines.proofs.Near.{near_handed, near_empty, near_next}
-use Rattle.input_lines.proofs.Sources.{rest_known}
-use Rattle.input_lines.proofs.Wholes.{TakesOf, takes_known, all_lines, next_of}
-use Rattle.asn1_types.specs.declared.fault.ModuleReason.{ModuleReason}
-use Rattle.asn1_module.specs.asn1_defs.Readings.{Reads}
-use Rattle.asn1_proof_module.proofs.Faults.{never_both}
+use Rattle.command_defs.specs.input_defs.Split.{InputSplit, rest_of, TakesInput}
+use Rattle.command_defs.specs.input_defs.Ends.{IsTooLong}
+use Rattle.command_defs.specs.input_defs.Near.{StopsNear}
+use Rattle.commands.proofs.input_lines.Near.{near_handed, near_empty, near_next}
+use Rattle.commands.proofs.input_lines.Sources.{rest_known}
+use Rattle.commands.proofs.input_lines.Wholes.{TakesOf, takes_known, all_lines, next_of}
+use Rattle.asn1_syntax.specs.declared.types.fault.ModuleReason.{ModuleReason}
+use Rattle.asn1_defs.specs.Readings.{Reads}
+use Rattle.proof_asn1_modules.proofs.asn1_proof_module.Faults.{never_both}
 use Rattle.profile.specs.declared.version.Version.TheVariants.{One}
-use Rattle.input_module.specs.Module.{IsNoModule, IsWrongModule, Empty, NoHeader, Unended}
+use Rattle.commands.specs.input_module.Module.{IsNoModule, IsWrongModule, Empty, NoHeader, Unended}
 use Rattle.scenario_text.specs.declared.event.Event.{Event}
-use Rattle.script_words.specs.declared.reason.TextReason.{TextReason}
+use Rattle.scenario_text.specs.declared.script_words.reason.TextReason.{TextReason}
 use Rattle.run_defs.specs.States.{Stop, outstanding, spent_counter}
 use Rattle.command_defs.specs.declared.CommonEnd.TheVariants.{ReadFault, TooLong, WriteFault, Memory}
 use Rattle.command_defs.specs.Outside.{OutsideAt, NoneFailed}

@@ -1,15 +1,15 @@
 -- How a run ends, what status reports it, and what is written then.
 use Rattle.std.specs.Prelude.{◌≡◌, ◌⊎◌, ℕ, List, [], ◌∷◌, ◌++◌, codes, Some}
 use Rattle.gnb_base.specs.Outside.{SourceAt}
-use Rattle.input_defs.specs.Near.{StopsNear}
+use Rattle.command_defs.specs.input_defs.Near.{StopsNear}
 use Rattle.scenario_text.specs.declared.line.OutLine.{OutLine}
 use Rattle.scenario_text.specs.declared.line.OutLine.TheVariants as lines
 use Rattle.scenario_text.specs.Print.{◌then◌, print}
 use Rattle.command_defs.specs.declared.Status.{Status}
 use Rattle.command_defs.specs.Statuses.{done_status, module_status, fault_line, line_status, outstanding_status, spent_status, common_status, stop_line, common_last_lines}
 use Rattle.command_defs.specs.declared.CommonEnd.TheVariants.{Memory}
-use Rattle.world.specs.world_steps.declared.cause.Cause.{Cause}
-use Rattle.world.specs.world_steps.declared.cause.Cause.TheVariants as causes
+use Rattle.world_steps.specs.declared.cause.Cause.{Cause}
+use Rattle.world_steps.specs.declared.cause.Cause.TheVariants as causes
 use Rattle.command_run.specs.declared.end.RunEnd.{RunEnd}
 use Rattle.run_links.specs.Told.{outstanding_line}
 use Rattle.command_run.specs.declared.end.RunEnd.TheVariants.{Done, NoModule, Differs, Script, Outstanding, Spent, Common}

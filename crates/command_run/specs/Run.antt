@@ -2,20 +2,20 @@
 use Rattle.std.specs.Prelude.{◌≡◌, ◌+◌, ◌<◌, ◌⊎◌, ℕ, false, List, [], ◌∷◌, ◌++◌, map, length, Option, Some, None, Result, Ok, Err, IfSome, if◌then◌else◌}
 use Rattle.std.specs.List.{flat_map}
 use Rattle.gnb_base.specs.Outside.{SinkAt}
-use Rattle.input_defs.specs.Split.{InputSplit, rest_of, TakesInput}
-use Rattle.input_defs.specs.Ends.{ComesNext, IsReadToEnd, IsReadFault, IsTooLong}
-use Rattle.asn1_assignments.specs.declared.assignment.Syntax.{Syntax}
+use Rattle.command_defs.specs.input_defs.Split.{InputSplit, rest_of, TakesInput}
+use Rattle.command_defs.specs.input_defs.Ends.{ComesNext, IsReadToEnd, IsReadFault, IsTooLong}
+use Rattle.asn1_syntax.specs.declared.assignments.assignment.Syntax.{Syntax}
 use Rattle.profile.specs.declared.version.Version.TheVariants.{One}
-use Rattle.profile_defs.specs.Profile.{profile_types}
-use Rattle.profile_defs.specs.Agreement.{differs, Agrees}
-use Rattle.input_module.specs.declared.module.GivenModule.{GivenModule}
-use Rattle.input_module.specs.declared.module.GivenModule.TheVariants as given
-use Rattle.input_module.specs.Module.{GivesModule, IsNoModule, IsWrongModule, IsUnfinished, IsPart}
+use Rattle.message_defs.specs.profile_defs.Profile.{profile_types}
+use Rattle.message_defs.specs.profile_defs.Agreement.{differs, Agrees}
+use Rattle.commands.specs.declared.input_module.module.GivenModule.{GivenModule}
+use Rattle.commands.specs.declared.input_module.module.GivenModule.TheVariants as given
+use Rattle.commands.specs.input_module.Module.{GivesModule, IsNoModule, IsWrongModule, IsUnfinished, IsPart}
 use Rattle.scenario_text.specs.declared.event.Event.{Event}
-use Rattle.script_words.specs.declared.reason.TextReason.{TextReason}
+use Rattle.scenario_text.specs.declared.script_words.reason.TextReason.{TextReason}
 use Rattle.scenario_text.specs.Grammar.{is_skipped, event_of}
 use Rattle.scenario_text.specs.Print.{print}
-use Rattle.run_defs.specs.unit_octet_defs.Codec.{Codec}
+use Rattle.unit_defs.specs.octet_defs.Codec.{Codec}
 use Rattle.run_defs.specs.States.{Stop, outstanding, spent_counter}
 use Rattle.run_defs.specs.Runs.{Happened, Transcript, lines_of}
 use Rattle.run_defs.specs.Printing.{out_lines}

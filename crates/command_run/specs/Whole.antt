@@ -3,13 +3,13 @@ use Rattle.std.specs.Prelude.{◌≡◌, ◌≤◌, ◌+◌, ◌-◌, ◌⊎◌,
 use Rattle.gnb_base.specs.Lines.{lines_of}
 use Rattle.gnb_base.specs.Outside.{SinkAt}
 use Rattle.gnb_base.specs.Reading.{input_limit}
-use Rattle.input_defs.specs.Split.{joined}
-use Rattle.asn1_assignments.specs.declared.assignment.Syntax.{Syntax}
+use Rattle.command_defs.specs.input_defs.Split.{joined}
+use Rattle.asn1_syntax.specs.declared.assignments.assignment.Syntax.{Syntax}
 use Rattle.profile.specs.declared.version.Version.TheVariants.{One}
-use Rattle.profile_defs.specs.Profile.{profile_types}
-use Rattle.profile_defs.specs.Agreement.{Agrees}
-use Rattle.input_module.specs.Header.{builtin_line}
-use Rattle.input_module.specs.Text.{IsClosed, IsUnclosed, IsOneModule}
+use Rattle.message_defs.specs.profile_defs.Profile.{profile_types}
+use Rattle.message_defs.specs.profile_defs.Agreement.{Agrees}
+use Rattle.commands.specs.input_module.Header.{builtin_line}
+use Rattle.commands.specs.input_module.Text.{IsClosed, IsUnclosed, IsOneModule}
 use Rattle.scenario_text.specs.declared.event.Event.{Event}
 use Rattle.command_defs.specs.declared.Status.{Status}
 use Rattle.command_defs.specs.Outside.{OutsideAt, NoneFailed}

@@ -8,20 +8,20 @@ ghost use Rattle.command_run.specs.Ends.{run_status, differs_line, report_of as 
 ghost use Rattle.command_run.specs.inside.Stops.{end_of_stop};
 ghost use Rattle.command_run.specs.declared.end.RunEnd.TheVariants.{Common as CommonRunEnd};
 
-use asn1_types::ModuleReason;
+use asn1_syntax::types::ModuleReason;
+use command_defs::input_defs::InputEnd;
 use command_defs::{CommonEnd, Status};
-use command_output::{
+use commands::command_output::{
     common_last_line, common_status, end_of_input, fault_text, line_status, module_status,
     stop_line, text_of,
 };
+use commands::input_module::ModuleStop;
 use gnb_types::octets::{Memory, Octets};
-use input_defs::InputEnd;
-use input_module::ModuleStop;
 use run_links::spans::Outstanding;
 use scenario_text::event::TextReason;
 use scenario_text::line::OutLine;
 use std::alloc::Global;
-use world::from_world_steps::cause::Cause;
+use world_steps::cause::Cause;
 
 /// How a run ended.
 #[derive(Drop)]

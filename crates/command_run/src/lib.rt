@@ -3,13 +3,9 @@
 #![tactic(auto)]
 
 mod end;
+pub mod generate;
 mod run;
 mod script;
 
 pub use end::RunEnd;
 pub use run::run_script;
-
-/// Of `world_steps`, for crates above.
-pub mod from_world_steps {
-    pub use world::from_world_steps::Units;
-}

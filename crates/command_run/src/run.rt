@@ -11,13 +11,13 @@ ghost use Rattle.command_run.specs.inside.Stops.{Finishes};
 use crate::end::RunEnd;
 use crate::script;
 use command_defs::CommonEnd;
-use command_output::{text_of, write_all};
+use commands::command_output::{text_of, write_all};
 use gnb_base::outside::{Sink, Source};
 use gnb_types::octets::{Memory, Octets};
 use scenario_text::line::OutLine;
 use std::alloc::Global;
-use world::from_lawful_codecs::LawfulCodec;
-use world::from_world_steps::Units;
+use unit_messages::lawful_codecs::LawfulCodec;
+use world_steps::Units;
 
 /// All that is written at this end, whose last line this is.
 fn text_at(alloc: Global, end: &RunEnd, line: OutLine) -> Result<Octets, Memory>

@@ -13,24 +13,24 @@ ghost use Rattle.gnb_base.specs.Reading.{fresh};
 
 use crate::end::{RunEnd, end_at};
 use command_defs::CommonEnd;
-use command_output::{text_of, write_all};
+use commands::command_output::{text_of, write_all};
+use commands::input_lines::next_line;
+use commands::input_module::{GivenModule, take_module};
 use gnb_base::lines::{Line, LineReader};
 use gnb_base::outside::{Sink, Source};
 use gnb_types::octets::{Memory, Octets};
-use input_lines::next_line;
-use input_module::{GivenModule, take_module};
 use profile::Version;
-use profile_module::{AgreeError, agrees};
+use profile::profile_module::{AgreeError, agrees};
 use run_links::lines::Lines;
 use scenario_text::event::{Event, TextReason};
 use scenario_text::line::OutLine;
 use scenario_text::read::{TextError, is_skipped, read_event};
 use std::alloc::Global;
-use world::from_lawful_codecs::LawfulCodec;
-use world::from_world_steps::Units;
-use world::from_world_steps::cause::Cause;
+use unit_messages::lawful_codecs::LawfulCodec;
 use world::stop::Stop;
 use world::world::World;
+use world_steps::Units;
+use world_steps::cause::Cause;
 
 /// Takes the header, and the module that it names, which is to be the profile, version 1. The codec
 /// is of that profile already, so that it is read here only where another module is compared with it.

@@ -1,10 +1,10 @@
 -- What the calls give together that answer a line.
 use Rattle.std.proofs.Common.{◌≡◌, ℕ, List, Result, Ok, Err, sym, subst, Some}
 use Rattle.gnb_types.specs.Hex.{read_hex}
-use Rattle.asn1_module.specs.asn1_assignments.declared.assignment.Syntax.{Syntax}
+use Rattle.asn1_syntax.specs.declared.assignments.assignment.Syntax.{Syntax}
 use Rattle.aper_defs.specs.Values.{Value}
 use Rattle.json_defs.specs.declared.fault.JsonFault.TheVariants as faults
-use Rattle.values_json.specs.json_type_defs.Types.{named}
+use Rattle.json_defs.specs.type_defs.Types.{named}
 use Rattle.values_json.specs.declared.error.JsonError.{JsonError}
 use Rattle.values_json.specs.declared.error.JsonError.TheVariants as errors
 use Rattle.values_json.specs.Texts.{IsNoJson, IsTextOf, HasFault, OnNotJson, OnFault}

@@ -2,14 +2,14 @@
 use Rattle.std.proofs.Common.{◌≡◌, ℕ, List, [], ◌∷◌, ◌++◌, Option, Some, None, refl, sym, ap, ◌∙◌, subst, inl, inr, arith, append-nil}
 use Rattle.std.specs.Option.{option_to_list}
 use Rattle.gnb_base.specs.Outside.{SourceAt, SinkAt}
-use Rattle.input_defs.specs.Split.{joined}
+use Rattle.command_defs.specs.input_defs.Split.{joined}
 use Rattle.scenario_text.specs.declared.line.OutLine.{OutLine}
 use Rattle.scenario_text.specs.Print.{print}
 use Rattle.command_defs.specs.declared.CommonEnd.TheVariants.{ReadFault, TooLong, WriteFault, Memory}
 use Rattle.command_defs.specs.Outside.{OutsideAt, outside, ReadsTo, AllRead, ReadStopped, WritesTo, AllWritten, WriteStopped}
 use Rattle.command_defs.specs.Output.{Prints}
-use Rattle.command_output.specs.Writes.{WritesAll, WritesFront}
-use Rattle.command_output.proofs.Written.{none_then_none, none_then_last, prints_more, front_more, front_all}
+use Rattle.commands.specs.command_output.Writes.{WritesAll, WritesFront}
+use Rattle.commands.proofs.command_output.Written.{none_then_none, none_then_last, prints_more, front_more, front_all}
 use Rattle.command_values.specs.declared.end.Stop.{Stop}
 use Rattle.command_values.specs.declared.end.Stop.TheVariants.{NoModule, NoType, Script, Value}
 use Rattle.command_values.specs.declared.end.ValuesEnd.{ValuesEnd}

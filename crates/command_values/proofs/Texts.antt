@@ -3,10 +3,10 @@ use Rattle.std.proofs.Common.{◌≡◌, ◌+◌, ◌-◌, ℕ, List, [], ◌∷
 use Rattle.std.proofs.lemmas.Grind.{flat_map-append}
 use Rattle.std.proofs.lemmas.List.{take_all}
 use Rattle.gnb_base.specs.Lines.{line_feed, lines_of}
-use Rattle.input_defs.specs.Split.{InputSplit, joined, Divides, Bare}
-use Rattle.input_defs.specs.Split as division
-use Rattle.input_lines.proofs.Wholes.{TakesOf, lines_of-joined, taken_is, all_lines}
-use Rattle.input_module.specs.Text.{IsClosed, IsUnclosed, is_end}
+use Rattle.command_defs.specs.input_defs.Split.{InputSplit, joined, Divides, Bare}
+use Rattle.command_defs.specs.input_defs.Split as division
+use Rattle.commands.proofs.input_lines.Wholes.{TakesOf, lines_of-joined, taken_is, all_lines}
+use Rattle.commands.specs.input_module.Text.{IsClosed, IsUnclosed, is_end}
 
 -- ---- the lines of a text end once
 

@@ -4,40 +4,40 @@ use Rattle.gnb_base.specs.declared.lines.Line.{Line}
 use Rattle.gnb_base.specs.declared.lines.ReadPhase.TheVariants as phases
 use Rattle.gnb_base.specs.Outside.{SourceAt, SinkAt}
 use Rattle.gnb_base.specs.Reading.{Reading, fresh, NextMeets}
-use Rattle.input_defs.specs.declared.InputEnd.{InputEnd}
-use Rattle.input_defs.specs.declared.InputEnd.TheVariants as inputs
-use Rattle.input_defs.specs.Faults.{FaultsOfEnd}
-use Rattle.input_defs.specs.Split.{InputSplit, input_split, rest_of, joined}
-use Rattle.input_defs.specs.Ends.{EndsReading, IsReadToEnd}
-use Rattle.input_defs.specs.Standing.{StandsAfter, split_of}
-use Rattle.input_lines.specs.ReadsLine.{StopsReading}
-use Rattle.input_lines.proofs.Sources.{none_failed as no_read_failed, none_then_none as no_read_then}
-use Rattle.input_lines.proofs.Standing.{stands_first, takes_of, line_stands, comes_next, ends_at, both_nil, joined-more}
-use Rattle.input_lines.proofs.Stopped.{stops_at, going_at, takes_on}
-use Rattle.asn1_module.specs.asn1_assignments.declared.assignment.Syntax.{Syntax}
-use Rattle.asn1_module.specs.asn1_defs.Readings.{Reads}
-use Rattle.asn1_module.specs.asn1_defs.Targets.{find_type, type_ids}
+use Rattle.command_defs.specs.declared.input_defs.InputEnd.{InputEnd}
+use Rattle.command_defs.specs.declared.input_defs.InputEnd.TheVariants as inputs
+use Rattle.command_defs.specs.input_defs.Faults.{FaultsOfEnd}
+use Rattle.command_defs.specs.input_defs.Split.{InputSplit, input_split, rest_of, joined}
+use Rattle.command_defs.specs.input_defs.Ends.{EndsReading, IsReadToEnd}
+use Rattle.command_defs.specs.input_defs.Standing.{StandsAfter, split_of}
+use Rattle.commands.specs.input_lines.ReadsLine.{StopsReading}
+use Rattle.commands.proofs.input_lines.Sources.{none_failed as no_read_failed, none_then_none as no_read_then}
+use Rattle.commands.proofs.input_lines.Standing.{stands_first, takes_of, line_stands, comes_next, ends_at, both_nil, joined-more}
+use Rattle.commands.proofs.input_lines.Stopped.{stops_at, going_at, takes_on}
+use Rattle.asn1_syntax.specs.declared.assignments.assignment.Syntax.{Syntax}
+use Rattle.asn1_defs.specs.Readings.{Reads}
+use Rattle.asn1_defs.specs.Targets.{find_type, type_ids}
 use Rattle.asn1_tokens.specs.Words.{is_text}
 use Rattle.profile.specs.declared.version.Version.{Version}
 use Rattle.profile.specs.declared.version.Version.TheVariants.{Two}
 use Rattle.profile.specs.Versions.{text_of}
-use Rattle.profile_defs.specs.Profile.{module_name}
-use Rattle.profile_defs.specs.Agreement.{Agrees}
-use Rattle.profile_module.specs.Profiles.{types_of, ProfileAt, IsBuiltin}
-use Rattle.input_module.specs.declared.module.GivenModule.{GivenModule}
-use Rattle.input_module.specs.declared.module.GivenModule.TheVariants as given
-use Rattle.input_module.specs.declared.stop.ModuleStop.{ModuleStop}
-use Rattle.input_module.specs.declared.stop.ModuleStop.TheVariants as stops
-use Rattle.input_module.specs.Module.{GivesModule, StopsModule, IsWrongModule, Empty, NoHeader, Unended, IsPart, Unfinished, Whole, AtHeader}
-use Rattle.input_module.specs.Taking.{FaultsOfStop, StillGives, StopsTaking, HasModule}
-use Rattle.input_module.proofs.Given.{gives_at_end}
-use Rattle.command_check.specs.Check.{IsModuleOf}
+use Rattle.message_defs.specs.profile_defs.Profile.{module_name}
+use Rattle.message_defs.specs.profile_defs.Agreement.{Agrees}
+use Rattle.profile.specs.profile_module.Profiles.{types_of, ProfileAt, IsBuiltin}
+use Rattle.commands.specs.declared.input_module.module.GivenModule.{GivenModule}
+use Rattle.commands.specs.declared.input_module.module.GivenModule.TheVariants as given
+use Rattle.commands.specs.declared.input_module.stop.ModuleStop.{ModuleStop}
+use Rattle.commands.specs.declared.input_module.stop.ModuleStop.TheVariants as stops
+use Rattle.commands.specs.input_module.Module.{GivesModule, StopsModule, IsWrongModule, Empty, NoHeader, Unended, IsPart, Unfinished, Whole, AtHeader}
+use Rattle.commands.specs.input_module.Taking.{FaultsOfStop, StillGives, StopsTaking, HasModule}
+use Rattle.commands.proofs.input_module.Given.{gives_at_end}
+use Rattle.commands.specs.command_check.Check.{IsModuleOf}
 use Rattle.command_defs.specs.declared.CommonEnd.TheVariants.{Memory}
 use Rattle.command_defs.specs.Ends.{end_of_input}
 use Rattle.command_defs.specs.Outside.{OutsideAt, outside}
-use Rattle.command_output.specs.Writes.{WritesAll}
-use Rattle.command_output.proofs.Written.{none_failed, all_none, all_more, front_none, front_all}
-use Rattle.script_words.specs.declared.reason.TextReason.{TextReason}
+use Rattle.commands.specs.command_output.Writes.{WritesAll}
+use Rattle.commands.proofs.command_output.Written.{none_failed, all_none, all_more, front_none, front_all}
+use Rattle.scenario_text.specs.declared.script_words.reason.TextReason.{TextReason}
 use Rattle.command_values.specs.declared.way.Way.{Way}
 use Rattle.command_values.specs.declared.end.Stop.TheVariants.{NoType, Value}
 use Rattle.command_values.specs.declared.end.ValuesEnd.{ValuesEnd}

@@ -4,16 +4,16 @@ use Rattle.std.proofs.lemmas.List.{append_cancel_left}
 use Rattle.std.specs.Io.KnownBytes.{Appends}
 use Rattle.gnb_base.specs.Outside.{SourceAt, SinkAt}
 use Rattle.gnb_base.specs.Reading.{still_to_come}
-use Rattle.input_defs.specs.declared.InputEnd.TheVariants as inputs
-use Rattle.input_defs.specs.Faults.{NoReadFailed, LastReadFailed}
-use Rattle.input_defs.specs.Split.{joined}
-use Rattle.input_defs.specs.Standing.{split_of}
-use Rattle.input_lines.proofs.Standing.{takes_of}
+use Rattle.command_defs.specs.declared.input_defs.InputEnd.TheVariants as inputs
+use Rattle.command_defs.specs.input_defs.Faults.{NoReadFailed, LastReadFailed}
+use Rattle.command_defs.specs.input_defs.Split.{joined}
+use Rattle.command_defs.specs.input_defs.Standing.{split_of}
+use Rattle.commands.proofs.input_lines.Standing.{takes_of}
 use Rattle.command_defs.specs.declared.CommonEnd.TheVariants.{ReadFault, TooLong, WriteFault, Memory}
 use Rattle.command_defs.specs.Outside.{OutsideAt, outside, NoWriteFailed, LastWriteFailed}
 use Rattle.command_defs.specs.Output.{Prints, PrintsFront}
-use Rattle.command_output.specs.Writes.{WritesAll, WritesFront}
-use Rattle.command_output.proofs.Written.{none_then_none, none_then_last, prints_none, prints_more, front_of, all_more}
+use Rattle.commands.specs.command_output.Writes.{WritesAll, WritesFront}
+use Rattle.commands.proofs.command_output.Written.{none_then_none, none_then_last, prints_none, prints_more, front_of, all_more}
 use Rattle.command_values.specs.declared.end.ValuesEnd.{ValuesEnd}
 use Rattle.command_values.specs.declared.end.ValuesEnd.TheVariants.{Done, Stopped, Common}
 use Rattle.command_values.specs.declared.lines.Task.{Task}

@@ -2,33 +2,33 @@
 use Rattle.std.proofs.Common.{◌≡◌, ◌⊎◌, ◌+◌, ◌-◌, ℕ, List, [], ◌∷◌, ◌++◌, length, take, drop, Option, Some, None, Ok, Err, refl, sym, ap, ◌∙◌, subst, inl, inr, append-nil, append_assoc, length-append, arith}
 use Rattle.std.specs.List.{AllByRecursion}
 use Rattle.std.specs.Io.KnownBytes.{Consumes}
-use Rattle.command_output.proofs.Faults.{no_read_fault, no_write_fault}
+use Rattle.commands.proofs.command_output.Faults.{no_read_fault, no_write_fault}
 use Rattle.gnb_base.specs.Lines.{lines_of}
 use Rattle.gnb_base.specs.Outside.{SourceAt}
-use Rattle.input_defs.specs.Split.{InputSplit, rest_of, joined, TakesInput}
-use Rattle.input_defs.specs.Ends.{IsReadToEnd, IsTooLong}
-use Rattle.input_defs.specs.Near.{StopsNear}
-use Rattle.input_lines.proofs.Near.{near_handed, near_empty, near_next}
-use Rattle.input_lines.proofs.Sources.{rest_known}
-use Rattle.input_lines.proofs.Wholes.{TakesOf, takes_known, all_lines, next_of}
-use Rattle.asn1_types.specs.declared.definition.TypeId.{TypeId}
-use Rattle.asn1_types.specs.declared.fault.ModuleReason.{ModuleReason}
-use Rattle.asn1_module.specs.asn1_assignments.declared.assignment.Syntax.{Syntax}
-use Rattle.asn1_module.specs.asn1_defs.Readings.{Reads}
-use Rattle.asn1_module.specs.asn1_defs.Targets.{find_type}
-use Rattle.asn1_proof_module.proofs.Faults.{reading_once, never_both}
+use Rattle.command_defs.specs.input_defs.Split.{InputSplit, rest_of, joined, TakesInput}
+use Rattle.command_defs.specs.input_defs.Ends.{IsReadToEnd, IsTooLong}
+use Rattle.command_defs.specs.input_defs.Near.{StopsNear}
+use Rattle.commands.proofs.input_lines.Near.{near_handed, near_empty, near_next}
+use Rattle.commands.proofs.input_lines.Sources.{rest_known}
+use Rattle.commands.proofs.input_lines.Wholes.{TakesOf, takes_known, all_lines, next_of}
+use Rattle.asn1_syntax.specs.declared.types.definition.TypeId.{TypeId}
+use Rattle.asn1_syntax.specs.declared.types.fault.ModuleReason.{ModuleReason}
+use Rattle.asn1_syntax.specs.declared.assignments.assignment.Syntax.{Syntax}
+use Rattle.asn1_defs.specs.Readings.{Reads}
+use Rattle.asn1_defs.specs.Targets.{find_type}
+use Rattle.proof_asn1_modules.proofs.asn1_proof_module.Faults.{reading_once, never_both}
 use Rattle.profile.specs.declared.version.Version.{Version}
 use Rattle.profile.specs.declared.version.Version.TheVariants.{One, Two}
 use Rattle.profile.specs.Versions.{text_of}
-use Rattle.profile_module.specs.Profiles.{IsBuiltin}
-use Rattle.input_module.specs.declared.header.ModuleHeader.TheVariants as headers
-use Rattle.input_module.specs.declared.module.GivenModule.{GivenModule}
-use Rattle.input_module.specs.declared.module.GivenModule.TheVariants as given
-use Rattle.input_module.specs.Header.{header_of, builtin_line}
-use Rattle.input_module.specs.Text.{IsClosed, IsUnclosed, IsBlank}
-use Rattle.input_module.specs.Module.{IsUpToEnd, HasText, GivesModule, IsNoModule, IsWrongModule, Empty, NoHeader, Unended}
-use Rattle.script_words.specs.declared.reason.TextReason.{TextReason}
-use Rattle.command_check.specs.Check.{IsModuleOf}
+use Rattle.profile.specs.profile_module.Profiles.{IsBuiltin}
+use Rattle.commands.specs.declared.input_module.header.ModuleHeader.TheVariants as headers
+use Rattle.commands.specs.declared.input_module.module.GivenModule.{GivenModule}
+use Rattle.commands.specs.declared.input_module.module.GivenModule.TheVariants as given
+use Rattle.commands.specs.input_module.Header.{header_of, builtin_line}
+use Rattle.commands.specs.input_module.Text.{IsClosed, IsUnclosed, IsBlank}
+use Rattle.commands.specs.input_module.Module.{IsUpToEnd, HasText, GivesModule, IsNoModule, IsWrongModule, Empty, NoHeader, Unended}
+use Rattle.scenario_text.specs.declared.script_words.reason.TextReason.{TextReason}
+use Rattle.commands.specs.command_check.Check.{IsModuleOf}
 use Rattle.command_defs.specs.declared.CommonEnd.TheVariants.{ReadFault, TooLong, WriteFault, Memory}
 use Rattle.command_defs.specs.Outside.{OutsideAt}
 use Rattle.command_defs.specs.Output.{Prints}

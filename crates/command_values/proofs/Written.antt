@@ -3,11 +3,11 @@ use Rattle.std.proofs.Common.{◌≡◌, ℕ, List, Bool, ◌++◌, Option, Some
 use Rattle.gnb_base.specs.declared.lines.Line.{Line}
 use Rattle.gnb_base.specs.Outside.{SinkAt}
 use Rattle.gnb_base.specs.Reading.{NextMeets}
-use Rattle.input_defs.specs.declared.InputEnd.{InputEnd}
-use Rattle.input_lines.specs.ReadsLine.{StopsReading}
+use Rattle.command_defs.specs.declared.input_defs.InputEnd.{InputEnd}
+use Rattle.commands.specs.input_lines.ReadsLine.{StopsReading}
 use Rattle.command_defs.specs.Ends.{end_of_input}
 use Rattle.std.specs.Io.KnownBytes.{Appends}
-use Rattle.command_output.specs.Writes.{WritesAll}
+use Rattle.commands.specs.command_output.Writes.{WritesAll}
 use Rattle.command_values.specs.declared.answer.Wrong.{Wrong}
 use Rattle.command_values.specs.declared.answer.Unanswered.{Unanswered}
 use Rattle.command_values.specs.declared.answer.Unanswered.TheVariants as unanswered

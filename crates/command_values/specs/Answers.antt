@@ -3,18 +3,18 @@
 use Rattle.std.specs.Prelude.{◌≡◌, ◌<◌, ℕ, List, [], ◌∷◌, All, Some, None, codes}
 use Rattle.gnb_types.specs.Hex.{hex_of, read_hex}
 use Rattle.serde_json.specs.Written.{compact_text}
-use Rattle.asn1_module.specs.asn1_assignments.declared.assignment.Syntax.{Syntax}
+use Rattle.asn1_syntax.specs.declared.assignments.assignment.Syntax.{Syntax}
 use Rattle.aper_defs.specs.declared.reason.Reason.{Reason}
 use Rattle.aper_defs.specs.declared.reason.Reason.TheVariants as reasons
 use Rattle.aper_defs.specs.Values.{Value}
 use Rattle.aper_defs.specs.Bits.{octet_count}
 use Rattle.aper_defs.specs.Spelling.{Spells, spelling_limit, whole_layout}
-use Rattle.values_json.specs.aper_types.Types.{tree}
-use Rattle.values_json.specs.aper.Refusals.{IsRefused, IsFirstWrong}
+use Rattle.aper_values.specs.types.Types.{tree}
+use Rattle.aper.specs.Refusals.{IsRefused, IsFirstWrong}
 use Rattle.json_defs.specs.declared.fault.JsonFault.{JsonFault}
 use Rattle.json_defs.specs.declared.fault.JsonFault.TheVariants as faults
-use Rattle.json_shown_defs.specs.Printed.{shown_as}
-use Rattle.values_json.specs.json_type_defs.Types.{named}
+use Rattle.json_defs.specs.shown_defs.Printed.{shown_as}
+use Rattle.json_defs.specs.type_defs.Types.{named}
 use Rattle.values_json.specs.Texts.{IsNoJson, IsReadAgain, IsTextOf, HasFault}
 use Rattle.command_values.specs.declared.way.Way.{Way}
 use Rattle.command_values.specs.declared.way.Way.TheVariants.{Encode, Decode}

@@ -2,8 +2,8 @@
 use Rattle.std.specs.Prelude.{◌≡◌, ◌⊎◌, ℕ, List, [], ◌∷◌, ◌++◌, Some, codes}
 use Rattle.std.specs.Fmt.{decimal}
 use Rattle.gnb_base.specs.Outside.{SourceAt}
-use Rattle.input_defs.specs.Near.{StopsNear}
-use Rattle.asn1_types.specs.declared.fault.ModuleReason.TheVariants.{Unknown}
+use Rattle.command_defs.specs.input_defs.Near.{StopsNear}
+use Rattle.asn1_syntax.specs.declared.types.fault.ModuleReason.TheVariants.{Unknown}
 use Rattle.scenario_text.specs.declared.line.OutLine.{OutLine}
 use Rattle.scenario_text.specs.Print.{◌then◌, print}
 use Rattle.command_defs.specs.declared.Status.{Status}

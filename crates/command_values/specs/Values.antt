@@ -1,15 +1,15 @@
 -- What the words `encode` and `decode` do, for every input, every list of failing calls, and every end.
 use Rattle.std.specs.Prelude.{◌≡◌, ◌+◌, ◌⊎◌, ℕ, List, [], ◌++◌, length, Option, Some, None, IfSome}
 use Rattle.gnb_base.specs.Outside.{SinkAt}
-use Rattle.input_defs.specs.Split.{InputSplit, rest_of, joined, TakesInput}
-use Rattle.input_defs.specs.Ends.{ComesNext, IsReadToEnd, IsReadFault, IsTooLong}
-use Rattle.asn1_types.specs.declared.definition.TypeId.{TypeId}
-use Rattle.asn1_module.specs.asn1_assignments.declared.assignment.Syntax.{Syntax}
-use Rattle.asn1_module.specs.asn1_defs.Targets.{find_type}
+use Rattle.command_defs.specs.input_defs.Split.{InputSplit, rest_of, joined, TakesInput}
+use Rattle.command_defs.specs.input_defs.Ends.{ComesNext, IsReadToEnd, IsReadFault, IsTooLong}
+use Rattle.asn1_syntax.specs.declared.types.definition.TypeId.{TypeId}
+use Rattle.asn1_syntax.specs.declared.assignments.assignment.Syntax.{Syntax}
+use Rattle.asn1_defs.specs.Targets.{find_type}
 use Rattle.profile.specs.declared.version.Version.TheVariants.{Two}
-use Rattle.input_module.specs.declared.module.GivenModule.{GivenModule}
-use Rattle.input_module.specs.Module.{GivesModule, IsNoModule, IsWrongModule, IsUnfinished, IsPart}
-use Rattle.command_check.specs.Check.{IsModuleOf}
+use Rattle.commands.specs.declared.input_module.module.GivenModule.{GivenModule}
+use Rattle.commands.specs.input_module.Module.{GivesModule, IsNoModule, IsWrongModule, IsUnfinished, IsPart}
+use Rattle.commands.specs.command_check.Check.{IsModuleOf}
 use Rattle.command_defs.specs.declared.CommonEnd.TheVariants.{ReadFault, TooLong, WriteFault, Memory}
 use Rattle.command_defs.specs.Outside.{OutsideAt, CallsTo}
 use Rattle.command_defs.specs.Output.{Prints, PrintsFront}

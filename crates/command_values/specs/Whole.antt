@@ -4,14 +4,14 @@ use Rattle.std.specs.List.{AllByRecursion}
 use Rattle.gnb_base.specs.Lines.{lines_of}
 use Rattle.gnb_base.specs.Outside.{SinkAt}
 use Rattle.gnb_base.specs.Reading.{input_limit}
-use Rattle.input_defs.specs.Split.{joined}
-use Rattle.asn1_types.specs.declared.definition.TypeId.{TypeId}
-use Rattle.asn1_module.specs.asn1_assignments.declared.assignment.Syntax.{Syntax}
-use Rattle.asn1_module.specs.asn1_defs.Targets.{find_type}
+use Rattle.command_defs.specs.input_defs.Split.{joined}
+use Rattle.asn1_syntax.specs.declared.types.definition.TypeId.{TypeId}
+use Rattle.asn1_syntax.specs.declared.assignments.assignment.Syntax.{Syntax}
+use Rattle.asn1_defs.specs.Targets.{find_type}
 use Rattle.profile.specs.declared.version.Version.{Version}
-use Rattle.profile_module.specs.Profiles.{IsBuiltin}
-use Rattle.input_module.specs.Header.{builtin_line}
-use Rattle.input_module.specs.Text.{IsClosed, IsUnclosed, IsOneModule}
+use Rattle.profile.specs.profile_module.Profiles.{IsBuiltin}
+use Rattle.commands.specs.input_module.Header.{builtin_line}
+use Rattle.commands.specs.input_module.Text.{IsClosed, IsUnclosed, IsOneModule}
 use Rattle.command_defs.specs.declared.Status.{Status}
 use Rattle.command_defs.specs.Outside.{OutsideAt, NoneFailed}
 use Rattle.command_defs.specs.Output.{Prints}

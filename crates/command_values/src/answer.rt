@@ -3,7 +3,7 @@
 ghost use Rattle.std.specs.Prelude.{◌≡◌, ◌<◌, [], All, length, IfOk};
 ghost use Rattle.gnb_types.specs.Hex.{hex_of};
 ghost use Rattle.aper_defs.specs.Membership.{Has};
-ghost use Rattle.values_json.specs.aper_types.Types.{tree};
+ghost use Rattle.aper_values.specs.types.Types.{tree};
 ghost use Rattle.aper_values.specs.Views.{view};
 ghost use Rattle.command_values.specs.Answers.{wrong_at, reason_number};
 ghost use Rattle.command_values.specs.inside.Answered.{IsWholeWrong, IsWrongJson, SpelledMeets, ShownMeets, AnswerMeets};
@@ -11,11 +11,11 @@ ghost use Rattle.command_values.specs.declared.answer.Unanswered.TheVariants.{Wr
 ghost use Rattle.command_values.specs.declared.way.Way.TheVariants.{Encode as Encoding, Decode as Decoding};
 
 use crate::way::Way;
+use aper::{DecodeError, Reason, Value, decode, encode, spelled_length};
 use asn1_module::{Module, TypeId};
 use gnb_types::hex::{HexError, hex_bytes, hex_text};
 use gnb_types::octets::{Memory, Octets};
 use std::alloc::Global;
-use values_json::from_aper::{DecodeError, Reason, Value, decode, encode, spelled_length};
 use values_json::{JsonError, json_of_value, value_from_json};
 
 /// The octets of a spelling at most.

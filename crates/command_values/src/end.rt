@@ -8,15 +8,15 @@ ghost use Rattle.command_values.specs.inside.Stops.{end_of_stop};
 ghost use Rattle.command_values.specs.declared.end.ValuesEnd.TheVariants.{Common as CommonValuesEnd};
 
 use crate::answer::Wrong;
-use asn1_types::ModuleReason;
+use asn1_syntax::types::ModuleReason;
+use command_defs::input_defs::InputEnd;
 use command_defs::{CommonEnd, Status};
-use command_output::{
+use commands::command_output::{
     common_last_line, common_status, end_of_input, fault_text, line_status, module_status,
     stop_line,
 };
+use commands::input_module::ModuleStop;
 use gnb_types::octets::{Memory, Octets};
-use input_defs::InputEnd;
-use input_module::ModuleStop;
 use scenario_text::event::TextReason;
 use scenario_text::line::OutLine;
 use std::alloc::Global;

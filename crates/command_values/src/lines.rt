@@ -2,7 +2,7 @@
 
 ghost use Rattle.std.specs.Prelude.{◌<◌, ◌≡◌, length, IfOk, OnOk, OnErr};
 ghost use Rattle.gnb_base.specs.Outside.{SinkAt};
-ghost use Rattle.command_output.specs.Writes.{WritesFront};
+ghost use Rattle.commands.specs.command_output.Writes.{WritesFront};
 ghost use Rattle.command_values.specs.inside.Answered.{AnswerMeets};
 ghost use Rattle.command_values.specs.inside.Turns.{run_at, with_feed, once_written, WriteMeets, TurnMeets, Waits, Finishing, Continues};
 
@@ -11,11 +11,11 @@ use crate::end::{Stop, ValuesEnd};
 use crate::way::Way;
 use asn1_module::{Module, TypeId};
 use command_defs::CommonEnd;
-use command_output::write_all;
+use commands::command_output::write_all;
+use commands::input_lines::next_line;
 use gnb_base::lines::{Line, LineReader};
 use gnb_base::outside::{Failed, Sink, Source};
 use gnb_types::octets::{Memory, Octets};
-use input_lines::next_line;
 use std::alloc::Global;
 
 /// Which way values go, and the type whose values they are.

@@ -1,7 +1,7 @@
 //! The words `encode` and `decode`.
 
 ghost use Rattle.std.specs.Prelude.{◌≡◌, ◌++◌, ◌∷◌, [], IfOk};
-ghost use Rattle.profile_module.specs.Profiles.{IsBuiltin};
+ghost use Rattle.profile.specs.profile_module.Profiles.{IsBuiltin};
 ghost use Rattle.scenario_text.specs.Print.{print};
 ghost use Rattle.command_defs.specs.Outside.{outside};
 ghost use Rattle.command_values.specs.Ends.{values_status, values_report, StopsAtValue};
@@ -15,13 +15,13 @@ use crate::lines::{Task, answer_lines};
 use crate::way::Way;
 use asn1_module::Module;
 use command_defs::CommonEnd;
-use command_output::{text_of, write_all};
+use commands::command_output::{text_of, write_all};
+use commands::input_module::{GivenModule, take_module};
 use gnb_base::lines::LineReader;
 use gnb_base::outside::{Sink, Source};
 use gnb_types::octets::{Memory, Octets};
-use input_module::{GivenModule, take_module};
 use profile::Version;
-use profile_module::{Profile, builtin, builtin_2};
+use profile::profile_module::{Profile, builtin, builtin_2};
 use scenario_text::line::OutLine;
 use std::alloc::Global;
 

@@ -11,11 +11,11 @@ use aper_values::value::Value;
 use gnb_types::items::Memory;
 use gnb_types::names::UeId;
 use gnb_types::plans::{Peer, TunnelList};
+use gnb_types::results::beside;
 use message_types::CoreMessage;
 use message_values::elements::ElementName;
 use message_values::fields::{from_number, from_peer, from_tunnels, from_ue};
 use message_values::places::{INITIATING, Place, SUCCESSFUL, message_of};
-use results::beside;
 use std::alloc::Global;
 
 /// The value of a message: its information elements in the order of the profile's table, each with criticality reject.

@@ -10,9 +10,9 @@ use Rattle.message_types.specs.declared.xn.CoreMessage.TheVariants as cores
 use Rattle.unit_defs.specs.Ways.{core}
 use Rattle.unit_defs.specs.Transactions.{replied}
 use Rattle.unit_defs.specs.Core.{moved, switch_path}
-use Rattle.unit_octet_defs.specs.Codec.{Codec, octet_way}
-use Rattle.unit_requests.specs.unit_steps.declared.StepError.{StepError}
-use Rattle.unit_requests.specs.unit_steps.Steps.{stepped, step_after, IsStep}
+use Rattle.unit_defs.specs.octet_defs.Codec.{Codec, octet_way}
+use Rattle.unit_messages.specs.declared.steps.StepError.{StepError}
+use Rattle.unit_messages.specs.steps.Steps.{stepped, step_after, IsStep}
 use Rattle.unit_requests.specs.Requests.{Kept}
 use Rattle.unit_requests.proofs.Thens.{goes_on}
 use Rattle.core_node.specs.Cores.{OctetCore}

@@ -6,10 +6,10 @@ ghost use Rattle.unit_defs.specs.Messages.{shares_interface};
 ghost use Rattle.unit_defs.specs.Transactions.{kind_of, on_request};
 ghost use Rattle.unit_defs.specs.Ways.{core};
 ghost use Rattle.unit_defs.specs.Core.{asked, came, core_acts, switch_path};
-ghost use Rattle.unit_octet_defs.specs.Codec.{octet_way};
-ghost use Rattle.unit_octet_defs.specs.Units.{core_steps};
-ghost use Rattle.unit_requests.specs.unit_messages.Messages.{message_as};
-ghost use Rattle.unit_requests.specs.unit_steps.Steps.{IsStep, step_after};
+ghost use Rattle.unit_defs.specs.octet_defs.Codec.{octet_way};
+ghost use Rattle.unit_defs.specs.octet_defs.Units.{core_steps};
+ghost use Rattle.unit_messages.specs.Messages.{message_as};
+ghost use Rattle.unit_messages.specs.steps.Steps.{IsStep, step_after};
 
 use crate::node::CoreNode;
 use gnb_types::items::Items;
@@ -20,9 +20,9 @@ use gnb_types::plans::{Peer, TunnelList};
 use gnb_types::reasons::DropReason;
 use message_types::CoreMessage;
 use std::alloc::Global;
-use unit_requests::from_transactions::callee::Verdict;
-use unit_requests::from_unit_messages::{Kind, Message, MessageCodec};
-use unit_requests::from_unit_steps::StepError;
+use transactions::callee::Verdict;
+use unit_messages::steps::StepError;
+use unit_messages::{Kind, Message, MessageCodec};
 use unit_requests::put;
 
 /// A path switch that is asked for: whose downlink goes to which CU-UP, and to which N3 tunnel for each bearer.
@@ -47,7 +47,7 @@ fn hears(from: NodeId) -> bool
 
 impl CoreNode {
     /// One step: what the core does with a control message, in octets. What it can't read it drops, and its record is as before.
-    #[tactic(auto, unfolding(unit_octet_defs::specs::Units::core_steps, unit_defs::specs::Core::core_acts))]
+    #[tactic(auto, unfolding(unit_defs::specs::octet_defs::Units::core_steps, unit_defs::specs::Core::core_acts))]
     pub fn step<C: MessageCodec>(
         &mut self,
         alloc: Global,

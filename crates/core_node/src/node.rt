@@ -4,9 +4,9 @@ ghost use Rattle.std.specs.Prelude.{◌≡◌, ◌++◌, OnOk, OnErr, option_cop
 ghost use Rattle.gnb_types.specs.Orders.{ue_cmp};
 ghost use Rattle.tables.specs.Tables.{find, put};
 ghost use Rattle.unit_defs.specs.Core.{new_core, old_ends, moved};
-ghost use Rattle.unit_octet_defs.specs.Codec.{Codec, octet_way};
-ghost use Rattle.unit_octet_defs.specs.Writing.{outputs_of};
-ghost use Rattle.unit_requests.specs.unit_steps.Steps.{IsStep, step_after};
+ghost use Rattle.unit_defs.specs.octet_defs.Codec.{Codec, octet_way};
+ghost use Rattle.unit_defs.specs.octet_defs.Writing.{outputs_of};
+ghost use Rattle.unit_messages.specs.steps.Steps.{IsStep, step_after};
 
 use crate::paths::CorePath;
 use gnb_types::items::Memory;
@@ -16,8 +16,8 @@ use gnb_types::plans::{Peer, TunnelList};
 use std::alloc::Global;
 use std::marker::Model;
 use tables::table::Table;
+use unit_messages::steps::StepError;
 use unit_requests::Requests;
-use unit_requests::from_unit_steps::StepError;
 
 /// The path of each terminal, and the replies that are kept. Contracts see the record of the table of rows.
 #[derive(Drop)]

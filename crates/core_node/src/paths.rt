@@ -3,8 +3,8 @@
 ghost use Rattle.std.specs.Prelude.{◌≡◌, ◌++◌, map, OnOk};
 ghost use Rattle.unit_defs.specs.Core.{end_of};
 ghost use Rattle.unit_defs.specs.Messages.{teid_of};
-ghost use Rattle.unit_octet_defs.specs.Codec.{Codec, octet_way};
-ghost use Rattle.unit_octet_defs.specs.Writing.{outputs_of};
+ghost use Rattle.unit_defs.specs.octet_defs.Codec.{Codec, octet_way};
+ghost use Rattle.unit_defs.specs.octet_defs.Writing.{outputs_of};
 
 use gnb_types::items::Memory;
 use gnb_types::names::{BearerId, Dir, NodeId, UeId};

@@ -7,16 +7,16 @@ use Rattle.gnb_types.specs.declared.outputs.Output.{Output}
 use Rattle.unit_defs.specs.Ways.{Message}
 use Rattle.unit_defs.specs.CpRecords.{CuCpRecord, Row, carry_out}
 use Rattle.unit_defs.specs.CuCp.{Answered, answers_with, closed_at, put_next, answered_by}
-use Rattle.unit_octet_defs.specs.Codec.{Codec, octet_way}
-use Rattle.control_steps.specs.unit_steps.declared.StepError.{StepError}
-use Rattle.control_steps.specs.unit_steps.declared.StepError.TheVariants as errors
-use Rattle.control_steps.specs.unit_steps.Steps.{Step, stepped, step_after, IsStep}
-use Rattle.control_steps.proofs.unit_requests.Thens.{goes_on, stops}
-use Rattle.control_steps.specs.control_says.declared.row.Row.{Row as CodeRow}
-use Rattle.control_steps.specs.control_says.Rows.{row_as}
-use Rattle.control_answers.specs.declared.states.Answered.{Answered as CodeAnswered}
-use Rattle.control_answers.specs.declared.states.Answered.TheVariants.{Awaited}
-use Rattle.control_answers.specs.Answers.{some_row_as, AnswerGives}
+use Rattle.unit_defs.specs.octet_defs.Codec.{Codec, octet_way}
+use Rattle.unit_messages.specs.declared.steps.StepError.{StepError}
+use Rattle.unit_messages.specs.declared.steps.StepError.TheVariants as errors
+use Rattle.unit_messages.specs.steps.Steps.{Step, stepped, step_after, IsStep}
+use Rattle.unit_requests.proofs.Thens.{goes_on, stops}
+use Rattle.cu_cp_records.specs.declared.control_says.row.Row.{Row as CodeRow}
+use Rattle.cu_cp_records.specs.control_says.Rows.{row_as}
+use Rattle.cu_cp_answers.specs.declared.control_answers.states.Answered.{Answered as CodeAnswered}
+use Rattle.cu_cp_answers.specs.declared.control_answers.states.Answered.TheVariants.{Awaited}
+use Rattle.cu_cp_answers.specs.control_answers.Answers.{some_row_as, AnswerGives}
 
 abbrev OctetCp : Type 0
 OctetCp = CuCpRecord (List ℕ) (List ℕ)

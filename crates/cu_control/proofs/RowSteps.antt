@@ -6,10 +6,10 @@ use Rattle.gnb_types.specs.declared.outputs.Output.{Output}
 use Rattle.unit_defs.specs.Ways.{Way}
 use Rattle.unit_defs.specs.CpRecords.{CuCpRecord, Row, carry_out}
 use Rattle.unit_defs.specs.CuCp.{by_row}
-use Rattle.control_steps.specs.unit_steps.declared.StepError.{StepError}
-use Rattle.control_steps.specs.unit_steps.declared.StepError.TheVariants as errors
-use Rattle.control_steps.specs.unit_steps.Steps.{step_after, IsStep}
-use Rattle.control_steps.specs.control_says.Rows.{RowGives}
+use Rattle.unit_messages.specs.declared.steps.StepError.{StepError}
+use Rattle.unit_messages.specs.declared.steps.StepError.TheVariants as errors
+use Rattle.unit_messages.specs.steps.Steps.{step_after, IsStep}
+use Rattle.cu_cp_records.specs.control_says.Rows.{RowGives}
 
 module _ (way : Way (List ℕ) (List ℕ) (List ℕ)) (ue : UeId) (r after : CuCpRecord (List ℕ) (List ℕ)) (before outputs : List Output) where
   pub row_stops : (wanted given : Row (List ℕ)) (e : StepError) → given ≡ wanted → RowGives given (Err e)

@@ -7,10 +7,10 @@ use Rattle.unit_defs.specs.Messages.{channel}
 use Rattle.unit_defs.specs.Transactions.{Transactions, replied}
 use Rattle.unit_defs.specs.CpRecords.{CuCpRecord, with_transactions}
 use Rattle.unit_defs.specs.CuCp.{with_unit, set_up}
-use Rattle.unit_octet_defs.specs.Codec.{Codec, octet_way}
-use Rattle.control_steps.specs.unit_steps.Steps.{stepped, step_after}
-use Rattle.control_steps.proofs.unit_steps.StepLaws.{step_then}
-use Rattle.control_steps.proofs.unit_requests.Thens.{step_nothing}
+use Rattle.unit_defs.specs.octet_defs.Codec.{Codec, octet_way}
+use Rattle.unit_messages.specs.steps.Steps.{stepped, step_after}
+use Rattle.unit_messages.proofs.steps.StepLaws.{step_then}
+use Rattle.unit_requests.proofs.Thens.{step_nothing}
 
 module _ (codec : Codec) (before mid : List Output) (from : NodeId) (m : Message (List ℕ)) (r : CuCpRecord (List ℕ) (List ℕ)) where
   pub set_up_step : (t : Transactions (List ℕ) (List ℕ)) → step_after before (replied (octet_way codec) r.transactions (channel 0 from) m) ≡ stepped mid t

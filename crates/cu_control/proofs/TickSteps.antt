@@ -10,12 +10,12 @@ use Rattle.transactions.specs.Answers.{due_as}
 use Rattle.unit_defs.specs.Ways.{◌then◌}
 use Rattle.unit_defs.specs.CpRecords.{CuCpRecord, terminal_of, with_transactions}
 use Rattle.unit_defs.specs.CuCp.{at_of, by_row, command_on, command_each, due_each, ues_of, tick}
-use Rattle.unit_octet_defs.specs.Codec.{Codec, octet_way}
-use Rattle.unit_octet_defs.specs.Units.{OctetAnswer}
-use Rattle.control_steps.specs.unit_steps.declared.StepError.{StepError}
-use Rattle.control_steps.specs.unit_steps.Steps.{Step, stepped, step_after, IsStep}
-use Rattle.control_steps.proofs.unit_steps.StepLaws.{step_then}
-use Rattle.control_steps.proofs.unit_requests.Thens.{goes_on, stops}
+use Rattle.unit_defs.specs.octet_defs.Codec.{Codec, octet_way}
+use Rattle.unit_defs.specs.octet_defs.Units.{OctetAnswer}
+use Rattle.unit_messages.specs.declared.steps.StepError.{StepError}
+use Rattle.unit_messages.specs.steps.Steps.{Step, stepped, step_after, IsStep}
+use Rattle.unit_messages.proofs.steps.StepLaws.{step_then}
+use Rattle.unit_requests.proofs.Thens.{goes_on, stops}
 use Rattle.cu_control.specs.inside.Dues.{due_in}
 
 abbrev pub Kept : Type 0

@@ -5,11 +5,11 @@ use Rattle.gnb_types.specs.declared.outputs.Output.{Output}
 use Rattle.gnb_types.specs.declared.plans.Plan.{Plan}
 use Rattle.unit_defs.specs.CpRecords.{CuCpRecord}
 use Rattle.unit_defs.specs.Static.{cp_placed}
-use Rattle.unit_octet_defs.specs.Codec.{Codec}
-use Rattle.unit_octet_defs.specs.Units.{cu_cp_steps}
-use Rattle.control_steps.specs.unit_steps.Steps.{step_after, IsStep}
-use Rattle.control_steps.specs.unit_steps.declared.StepError.{StepError}
-use Rattle.control_steps.specs.unit_steps.declared.StepError.TheVariants.{Memory}
+use Rattle.unit_defs.specs.octet_defs.Codec.{Codec}
+use Rattle.unit_defs.specs.octet_defs.Units.{cu_cp_steps}
+use Rattle.unit_messages.specs.steps.Steps.{step_after, IsStep}
+use Rattle.unit_messages.specs.declared.steps.StepError.{StepError}
+use Rattle.unit_messages.specs.declared.steps.StepError.TheVariants.{Memory}
 
 pub record ControlUnit : Type 0 where
   pub kept : CuCpRecord (List ℕ) (List ℕ)

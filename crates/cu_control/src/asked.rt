@@ -6,26 +6,26 @@ ghost use Rattle.unit_defs.specs.Transactions.{replied};
 ghost use Rattle.unit_defs.specs.CpRows.{offer, offer_context, status, xn_cancelled, xn_released};
 ghost use Rattle.unit_defs.specs.CpRecords.{terminal_of};
 ghost use Rattle.unit_defs.specs.CuCp.{at_of, set_up, by_row, asked};
-ghost use Rattle.unit_octet_defs.specs.Codec.{octet_way};
-ghost use Rattle.control_steps.specs.unit_messages.Messages.{message_as};
-ghost use Rattle.control_steps.specs.unit_steps.Steps.{step_after, IsStep};
+ghost use Rattle.unit_defs.specs.octet_defs.Codec.{octet_way};
+ghost use Rattle.unit_messages.specs.Messages.{message_as};
+ghost use Rattle.unit_messages.specs.steps.Steps.{step_after, IsStep};
 
 use crate::carrying::carry_made;
-use control_answers::from_control_targets::{Offered, offer, offer_context, status, xn_cancelled};
-use control_rows::xn_released;
-use control_steps::from_control_records::ControlRecord;
-use control_steps::from_control_says::At;
-use control_steps::from_unit_messages::{Message, MessageCodec};
-use control_steps::from_unit_requests::{Requests, put};
-use control_steps::from_unit_steps::StepError;
+use cu_cp_records::control_records::ControlRecord;
+use cu_cp_records::control_says::At;
+use cu_cp_records::status_copies::copy_statuses;
+use cu_cp_rows::control_rows::xn_released;
+use cu_cp_rows::control_targets::{Offered, offer, offer_context, status, xn_cancelled};
 use gnb_types::keys::Channel;
 use gnb_types::names::{NodeId, SnBits, UeId};
 use gnb_types::outputs::{Output, Outputs};
 use gnb_types::plans::StatusList;
 use gnb_types::reasons::DropReason;
 use message_types::{E1Message, F1, F1Message, XnMessage};
-use status_copies::copy_statuses;
 use std::alloc::Global;
+use unit_messages::steps::StepError;
+use unit_messages::{Message, MessageCodec};
+use unit_requests::{Requests, put};
 
 /// Where a row acts: this unit, for a terminal.
 pub(crate) fn at_of<'a, C>(

@@ -3,18 +3,18 @@
 ghost use Rattle.std.specs.Prelude.{List, ℕ};
 ghost use Rattle.unit_defs.specs.CpRecords as cp;
 ghost use Rattle.unit_defs.specs.CuCp.{by_row};
-ghost use Rattle.unit_octet_defs.specs.Codec.{octet_way};
-ghost use Rattle.control_steps.specs.control_says.Rows.{RowGives};
-ghost use Rattle.control_steps.specs.unit_steps.Steps.{step_after, IsStep};
+ghost use Rattle.unit_defs.specs.octet_defs.Codec.{octet_way};
+ghost use Rattle.cu_cp_records.specs.control_says.Rows.{RowGives};
+ghost use Rattle.unit_messages.specs.steps.Steps.{step_after, IsStep};
 
-use control_steps::carry_out;
-use control_steps::from_control_records::ControlRecord;
-use control_steps::from_control_says::Row;
-use control_steps::from_unit_messages::MessageCodec;
-use control_steps::from_unit_steps::StepError;
+use crate::steps::carry_out;
+use cu_cp_records::control_records::ControlRecord;
+use cu_cp_records::control_says::Row;
 use gnb_types::names::UeId;
 use gnb_types::outputs::Outputs;
 use std::alloc::Global;
+use unit_messages::MessageCodec;
+use unit_messages::steps::StepError;
 
 /// A row that was made is carried out, and an error stays one: so a caller owns no row at an exit of its own.
 pub(crate) fn carry_made<C: MessageCodec>(

@@ -4,17 +4,14 @@ ghost use Rattle.std.specs.Prelude.{◌≡◌, None, IfOk};
 ghost use Rattle.unit_defs.specs.CpRecords.{new_cu_cp};
 ghost use Rattle.unit_defs.specs.Static.{cp_set_up};
 ghost use Rattle.unit_defs.specs.Accessors.{state_of, taken_epoch, place_of, is_set_up, cp_rests};
-ghost use Rattle.unit_octet_defs.specs.Units.{cu_cp_steps};
-ghost use Rattle.control_steps.specs.unit_steps.Steps.{step_after, IsStep};
+ghost use Rattle.unit_defs.specs.octet_defs.Units.{cu_cp_steps};
+ghost use Rattle.unit_messages.specs.steps.Steps.{step_after, IsStep};
 ghost use Rattle.cu_control.specs.Units.{StepsTo, PlacesTo};
 
 use crate::messages::octets_came;
 use crate::orders::ordered;
 use crate::ticks::tick;
-use control_steps::from_control_records::ControlRecord;
-use control_steps::from_unit_messages::MessageCodec;
-use control_steps::from_unit_requests::put;
-use control_steps::from_unit_steps::StepError;
+use cu_cp_records::control_records::ControlRecord;
 use gnb_types::inputs::Input;
 use gnb_types::items::{Items, Memory};
 use gnb_types::names::{Gnb, NodeId, UeId};
@@ -24,6 +21,9 @@ use gnb_types::reasons::DropReason;
 use std::alloc::Global;
 use std::marker::Model;
 use unit_defs::StateName;
+use unit_messages::MessageCodec;
+use unit_messages::steps::StepError;
+use unit_requests::put;
 
 /// The CU-CP of a gNB. Once memory ran out, or a counter was spent, it answers the same from then on.
 #[derive(Drop)]
@@ -133,7 +133,7 @@ impl CuControl {
 }
 
 /// An input: a control message, a tick or an order. No other input is one of a CU-CP.
-#[tactic(auto, unfolding(unit_octet_defs::specs::Units::cu_cp_steps, unit_octet_defs::specs::Reading::read_at_cu_cp, unit_defs::specs::CuCp::cu_cp_acts))]
+#[tactic(auto, unfolding(unit_defs::specs::octet_defs::Units::cu_cp_steps, unit_defs::specs::octet_defs::Reading::read_at_cu_cp, unit_defs::specs::CuCp::cu_cp_acts))]
 fn take<C: MessageCodec>(
     record: &mut ControlRecord,
     alloc: Global,

@@ -8,12 +8,8 @@ mod control;
 mod messages;
 mod orders;
 mod replies;
+pub mod steps;
 mod ticks;
 mod tokens;
 
 pub use control::CuControl;
-
-/// Of `control_rows`, for crates above.
-pub mod from_control_rows {
-    pub use control_rows::is_same_gnb;
-}

@@ -6,19 +6,16 @@ ghost use Rattle.unit_defs.specs.Messages.{shares_interface};
 ghost use Rattle.unit_defs.specs.Transactions.{kind_of, on_request, on_reply};
 ghost use Rattle.unit_defs.specs.CpRecords.{with_transactions};
 ghost use Rattle.unit_defs.specs.CuCp.{asked, reply_came, transferred, control_by, control_came};
-ghost use Rattle.unit_octet_defs.specs.Codec.{octet_way};
-ghost use Rattle.unit_octet_defs.specs.Units.{cu_cp_steps};
-ghost use Rattle.control_steps.specs.unit_messages.Messages.{message_as};
-ghost use Rattle.control_steps.specs.unit_steps.Steps.{step_after, IsStep};
+ghost use Rattle.unit_defs.specs.octet_defs.Codec.{octet_way};
+ghost use Rattle.unit_defs.specs.octet_defs.Units.{cu_cp_steps};
+ghost use Rattle.unit_messages.specs.Messages.{message_as};
+ghost use Rattle.unit_messages.specs.steps.Steps.{step_after, IsStep};
 
 use crate::asked::asked;
 use crate::replies::reply_came;
 use crate::tokens::token_came;
-use control_rows::is_same_gnb;
-use control_steps::from_control_records::ControlRecord;
-use control_steps::from_unit_messages::{Kind, Message, MessageCodec};
-use control_steps::from_unit_requests::put;
-use control_steps::from_unit_steps::StepError;
+use cu_cp_records::control_records::ControlRecord;
+use cu_cp_rows::control_rows::is_same_gnb;
 use gnb_types::keys::Channel;
 use gnb_types::names::{Gnb, NodeId};
 use gnb_types::octets::Octets;
@@ -27,6 +24,9 @@ use gnb_types::reasons::DropReason;
 use message_types::F1;
 use std::alloc::Global;
 use transactions::callee::Verdict;
+use unit_messages::steps::StepError;
+use unit_messages::{Kind, Message, MessageCodec};
+use unit_requests::put;
 
 /// Whether the CU-CP of this gNB shares an interface with a node (TS 38.401, 6.1.2).
 fn shares_interface(gnb: Gnb, from: NodeId) -> bool
@@ -41,7 +41,7 @@ fn shares_interface(gnb: Gnb, from: NodeId) -> bool
 }
 
 /// Octets of a control message: those of a node that shares no interface, and those that are no message, are dropped.
-#[tactic(auto, unfolding(unit_octet_defs::specs::Units::cu_cp_steps, unit_octet_defs::specs::Reading::read_at_cu_cp, unit_defs::specs::CuCp::cu_cp_acts, unit_defs::specs::CuCp::control_came))]
+#[tactic(auto, unfolding(unit_defs::specs::octet_defs::Units::cu_cp_steps, unit_defs::specs::octet_defs::Reading::read_at_cu_cp, unit_defs::specs::CuCp::cu_cp_acts, unit_defs::specs::CuCp::control_came))]
 pub(crate) fn octets_came<C: MessageCodec>(
     record: &mut ControlRecord,
     alloc: Global,

@@ -4,22 +4,22 @@ ghost use Rattle.std.specs.Prelude.{◌≡◌};
 ghost use Rattle.unit_defs.specs.CpRecords.{terminal_of};
 ghost use Rattle.unit_defs.specs.CpRows.{attach, handover, cancel, release};
 ghost use Rattle.unit_defs.specs.CuCp.{at_of, by_row, ordered};
-ghost use Rattle.unit_octet_defs.specs.Codec.{octet_way};
-ghost use Rattle.control_steps.specs.unit_steps.Steps.{step_after, IsStep};
+ghost use Rattle.unit_defs.specs.octet_defs.Codec.{octet_way};
+ghost use Rattle.unit_messages.specs.steps.Steps.{step_after, IsStep};
 
 use crate::asked::at_of;
 use crate::carrying::carry_made;
-use control_rows as rows;
-use control_steps::from_control_records::ControlRecord;
-use control_steps::from_unit_messages::MessageCodec;
-use control_steps::from_unit_requests::put;
-use control_steps::from_unit_steps::StepError;
+use cu_cp_records::control_records::ControlRecord;
+use cu_cp_rows::control_rows as rows;
 use gnb_types::inputs::Order;
 use gnb_types::names::UeId;
 use gnb_types::outputs::{Output, Outputs};
 use gnb_types::plans::Plan;
 use gnb_types::reasons::DropReason;
 use std::alloc::Global;
+use unit_messages::MessageCodec;
+use unit_messages::steps::StepError;
+use unit_requests::put;
 
 fn attach<C: MessageCodec>(
     record: &mut ControlRecord,

@@ -3,26 +3,26 @@
 ghost use Rattle.std.specs.Prelude.{◌≡◌, ℕ, List, Some};
 ghost use Rattle.unit_defs.specs.Ways as ways;
 ghost use Rattle.unit_defs.specs.CuCp.{answers_none, answers_with, is_setup_failure, after_failed_setup, closed_at, answered_by, reply_came};
-ghost use Rattle.unit_octet_defs.specs.Codec.{octet_way};
-ghost use Rattle.control_steps.specs.unit_messages.Messages.{message_as};
-ghost use Rattle.control_steps.specs.unit_steps.Steps.{step_after, IsStep};
-ghost use Rattle.control_steps.specs.control_says.Rows.{row_as};
+ghost use Rattle.unit_defs.specs.octet_defs.Codec.{octet_way};
+ghost use Rattle.unit_messages.specs.Messages.{message_as};
+ghost use Rattle.unit_messages.specs.steps.Steps.{step_after, IsStep};
+ghost use Rattle.cu_cp_records.specs.control_says.Rows.{row_as};
 
 use crate::asked::at_of;
-use control_answers::{Answered, answer};
-use control_steps::from_control_records::ControlRecord;
-use control_steps::from_control_says::Row;
-use control_steps::from_unit_messages::{Message, MessageCodec};
-use control_steps::from_unit_requests::{Requests, put};
-use control_steps::from_unit_steps::StepError;
-use control_steps::from_waiting_requests::give_up_release;
-use control_steps::{carry_out, put_next};
+use crate::steps::{carry_out, put_next};
+use cu_cp_answers::control_answers::{Answered, answer};
+use cu_cp_records::control_records::ControlRecord;
+use cu_cp_records::control_says::Row;
 use gnb_types::keys::Channel;
 use gnb_types::names::UeId;
 use gnb_types::outputs::{Output, Outputs};
 use gnb_types::reasons::DropReason;
 use message_types::E1Message;
 use std::alloc::Global;
+use unit_messages::steps::StepError;
+use unit_messages::{Message, MessageCodec};
+use unit_requests::waiting_requests::give_up_release;
+use unit_requests::{Requests, put};
 
 fn is_setup_failure<C: MessageCodec>(_codec: &C, message: &Message) -> bool
     ensures { result ≡ is_setup_failure (octet_way C.codec) (message_as message.now) }

@@ -3,21 +3,18 @@
 ghost use Rattle.std.specs.Prelude.{◌≡◌, [], map};
 ghost use Rattle.unit_defs.specs.CpRecords.{terminal_of, stays};
 ghost use Rattle.unit_defs.specs.CuCp.{at_of, by_row, expired_on, command_by, command_on, command_each, due_one, due_each, ues_of, tick};
-ghost use Rattle.unit_octet_defs.specs.Codec.{octet_way};
-ghost use Rattle.control_steps.specs.control_says.Rows.{RowGives};
-ghost use Rattle.control_steps.specs.unit_steps.Steps.{step_after, IsStep};
+ghost use Rattle.unit_defs.specs.octet_defs.Codec.{octet_way};
+ghost use Rattle.cu_cp_records.specs.control_says.Rows.{RowGives};
+ghost use Rattle.unit_messages.specs.steps.Steps.{step_after, IsStep};
 ghost use Rattle.cu_control.specs.inside.Dues.{due_in};
 
 use crate::asked::at_of;
 use crate::carrying::carry_made;
-use control_rows::{command, handover_expires};
-use control_steps::from_control_contexts::{Context, Terminal};
-use control_steps::from_control_records::ControlRecord;
-use control_steps::from_control_says::says::Says;
-use control_steps::from_control_says::{At, Row};
-use control_steps::from_unit_messages::MessageCodec;
-use control_steps::from_unit_requests::put;
-use control_steps::from_unit_steps::StepError;
+use cu_cp_records::control_contexts::{Context, Terminal};
+use cu_cp_records::control_records::ControlRecord;
+use cu_cp_records::control_says::says::Says;
+use cu_cp_records::control_says::{At, Row};
+use cu_cp_rows::control_rows::{command, handover_expires};
 use gnb_types::items::Items;
 use gnb_types::names::UeId;
 use gnb_types::octets::Octets;
@@ -25,6 +22,9 @@ use gnb_types::outputs::{Output, Outputs};
 use std::alloc::Global;
 use transactions::caller::Due;
 use unit_defs::StateName;
+use unit_messages::MessageCodec;
+use unit_messages::steps::StepError;
+use unit_requests::put;
 
 /// A row that says nothing, and keeps all.
 fn keeps_all<C>(at: &At<'_, C>, terminal: &Terminal) -> Result<Row, StepError>

@@ -2,19 +2,19 @@
 
 ghost use Rattle.std.specs.Prelude.{◌≡◌};
 ghost use Rattle.unit_defs.specs.CuCp.{token_came};
-ghost use Rattle.unit_octet_defs.specs.Codec.{octet_way};
-ghost use Rattle.control_steps.specs.unit_steps.Steps.{step_after, IsStep};
+ghost use Rattle.unit_defs.specs.octet_defs.Codec.{octet_way};
+ghost use Rattle.unit_messages.specs.steps.Steps.{step_after, IsStep};
 
 use crate::asked::at_of;
 use crate::carrying::carry_made;
-use control_steps::from_control_records::ControlRecord;
-use control_steps::from_unit_messages::MessageCodec;
-use control_steps::from_unit_steps::StepError;
-use control_tokens as rows;
+use cu_cp_answers::control_tokens as rows;
+use cu_cp_records::control_records::ControlRecord;
 use gnb_types::names::{NodeId, UeId};
 use gnb_types::octets::Octets;
 use gnb_types::outputs::Outputs;
 use std::alloc::Global;
+use unit_messages::MessageCodec;
+use unit_messages::steps::StepError;
 
 /// A container came by a node.
 #[tactic(auto, unfolding(unit_defs::specs::CuCp::token_came))]

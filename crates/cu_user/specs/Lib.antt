@@ -1,3 +1,3 @@
-pub use Rattle.up_rows.specs as up_rows
+pub use Rattle.cu_user.specs.up_rows as up_rows
 pub mod Users
-pub use Rattle.up_rows.specs.up_contexts as up_contexts
+pub mod up_rows

@@ -2,11 +2,11 @@
 use Rattle.std.specs.Prelude.{ℕ, List, [], Option, Some, None, Result, Ok, Err}
 use Rattle.gnb_types.specs.declared.names.Gnb.{Gnb}
 use Rattle.gnb_types.specs.declared.outputs.Output.{Output}
-use Rattle.up_rows.specs.unit_defs.CuUp.{new_cu_up}
-use Rattle.up_rows.specs.unit_steps.declared.StepError.{StepError}
-use Rattle.up_rows.specs.up_contexts.declared.placing.PlaceError.{PlaceError}
-use Rattle.up_rows.specs.up_contexts.declared.placing.PlaceError.TheVariants as errors
-use Rattle.up_rows.specs.up_contexts.Tables.{OctetUp}
+use Rattle.unit_defs.specs.CuUp.{new_cu_up}
+use Rattle.unit_messages.specs.declared.steps.StepError.{StepError}
+use Rattle.cu_up_contexts.specs.declared.contexts.placing.PlaceError.{PlaceError}
+use Rattle.cu_up_contexts.specs.declared.contexts.placing.PlaceError.TheVariants as errors
+use Rattle.cu_up_contexts.specs.contexts.Tables.{OctetUp}
 
 -- its record, and why it is of no use, if it isn't
 pub record User : Type 0 where

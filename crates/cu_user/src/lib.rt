@@ -3,6 +3,7 @@
 #![tactic(auto)]
 
 pub mod node;
+pub mod up_rows;
 
+pub use crate::up_rows::PlaceError;
 pub use node::CuUser;
-pub use up_rows::PlaceError;

@@ -4,27 +4,27 @@ ghost use Rattle.std.specs.Prelude.{◌≡◌, ◌≤◌, [], Some, None, Err, I
 ghost use Rattle.std.specs.Option.{option_and_then};
 ghost use Rattle.gnb_types.specs.Orders.{ue_cmp};
 ghost use Rattle.tables.specs.Tables.{find};
-ghost use Rattle.up_rows.specs.codec_defs.Reading.{ReadsItems};
-ghost use Rattle.up_rows.specs.codec_range_defs.Ranges.{ReadsInRange};
-ghost use Rattle.up_rows.specs.unit_defs.Accessors.{up_has_context, is_unconfirmed, up_rests};
-ghost use Rattle.up_rows.specs.unit_defs.Static.{up_set_up};
-ghost use Rattle.up_rows.specs.unit_octet_defs.Codec.{Codec};
-ghost use Rattle.up_rows.specs.unit_octet_defs.Reading.{up_link};
-ghost use Rattle.up_rows.specs.unit_octet_defs.Units.{cu_up_steps};
-ghost use Rattle.up_rows.specs.unit_steps.Steps.{IsStep, step_after};
-ghost use Rattle.up_rows.specs.up_contexts.declared.placing.PlaceError.TheVariants as errors;
-ghost use Rattle.up_rows.specs.up_contexts.Placing.{IsPlaced};
+ghost use Rattle.unit_defs.specs.codec_defs.Reading.{ReadsItems};
+ghost use Rattle.unit_defs.specs.codec_range_defs.Ranges.{ReadsInRange};
+ghost use Rattle.unit_defs.specs.Accessors.{up_has_context, is_unconfirmed, up_rests};
+ghost use Rattle.unit_defs.specs.Static.{up_set_up};
+ghost use Rattle.unit_defs.specs.octet_defs.Codec.{Codec};
+ghost use Rattle.unit_defs.specs.octet_defs.Reading.{up_link};
+ghost use Rattle.unit_defs.specs.octet_defs.Units.{cu_up_steps};
+ghost use Rattle.unit_messages.specs.steps.Steps.{IsStep, step_after};
+ghost use Rattle.cu_up_contexts.specs.declared.contexts.placing.PlaceError.TheVariants as errors;
+ghost use Rattle.cu_up_contexts.specs.contexts.Placing.{IsPlaced};
 ghost use Rattle.cu_user.specs.Users.{new_user, outputs_in, failure_in, placing_failure_in};
 
+use crate::up_rows::{PlaceError, UpRecord};
 use gnb_types::inputs::Input;
 use gnb_types::names::{BearerId, Gnb, UeId};
 use gnb_types::outputs::Outputs;
 use gnb_types::plans::Plan;
 use std::alloc::Global;
 use std::marker::Model;
-use up_rows::from_unit_messages::MessageCodec;
-use up_rows::from_unit_steps::StepError;
-use up_rows::{PlaceError, UpRecord};
+use unit_messages::MessageCodec;
+use unit_messages::steps::StepError;
 
 /// A CU-UP. Contracts see its record of the table of rows, and why it is of no use, if a step could not be made.
 #[derive(Drop)]

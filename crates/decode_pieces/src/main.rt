@@ -7,9 +7,9 @@
 
 ghost use Rattle.std.specs.Prelude.{◌<◌, length};
 
-use aper::from_aper_reading::DecodeError;
 use aper::path_text;
-use aper_decoder::{Decoder, Step, decode};
+use aper_decode::DecodeError;
+use aper_stream::decoder::{Decoder, Step, decode};
 use aper_values::value::Value;
 use asn1_module::{Module, TypeId, read_module};
 use gnb_types::hex::hex_bytes;

@@ -25,9 +25,9 @@ use Rattle.unit_defs.specs.Ways.{gives, spent, closed, teids_spent}
 use Rattle.unit_defs.specs.Teids.{teids_are_left}
 use Rattle.unit_defs.specs.Messages.{bearers_of, are_from}
 use Rattle.unit_defs.specs.Du.{DuBearer, DuContext, bearers_made, context_with, old_downlinks, openings, replaced, replaces}
-use Rattle.unit_octet_defs.specs.Codec.{Codec, octet_way}
-use Rattle.unit_octet_defs.specs.Units.{OctetAnswer}
-use Rattle.unit_steps.specs.Steps.{stopped, step_after}
+use Rattle.unit_defs.specs.octet_defs.Codec.{Codec, octet_way}
+use Rattle.unit_defs.specs.octet_defs.Units.{OctetAnswer}
+use Rattle.unit_messages.specs.steps.Steps.{stopped, step_after}
 use Rattle.du_contexts.specs.Tables.{OctetDu, DuTables, with_tables}
 
 -- ---- a table that is filled in the order of its keys

@@ -9,7 +9,7 @@ use Rattle.gtpu.specs.Packets.{GtpuPacket, Gtpu, IsBody, has_flag}
 use Rattle.nr_user_plane.specs.declared.frames.Frame.TheVariants.{Data}
 use Rattle.nr_user_plane.specs.Frames.{Nru}
 use Rattle.pdcp.specs.Pdus.{Content, data_pdu, status_report, Pdcp}
-use Rattle.link_packets.specs.link_defs.Decoding.{framed, poll, f1u_downlink, DecodesOn, HasHeader, CarriesPdu}
+use Rattle.link_defs.specs.Decoding.{framed, poll, f1u_downlink, DecodesOn, HasHeader, CarriesPdu}
 
 abbrev AreSmall : List ℕ → Type 0
 AreSmall xs = AllByRecursion (λ o. o < 256) xs

@@ -14,12 +14,12 @@ use Rattle.unit_defs.specs.Teids.{teids_are_left, teid_after}
 use Rattle.unit_defs.specs.Messages.{bearers_of, are_from}
 use Rattle.unit_defs.specs.Static.{uplinks_from, du_placed}
 use Rattle.unit_defs.specs.Du.{DuContext, context_with, with_entries, old_downlinks, openings, replaced, replaces}
-use Rattle.unit_octet_defs.specs.Codec.{Codec, octet_way}
-use Rattle.unit_octet_defs.specs.Units.{OctetAnswer}
-use Rattle.unit_octet_defs.specs.Writing.{outputs_of}
-use Rattle.unit_steps.specs.declared.StepError.{StepError}
-use Rattle.unit_steps.specs.declared.StepError.TheVariants as errors
-use Rattle.unit_steps.specs.Steps.{IsStep, stepped, stopped, step_after}
+use Rattle.unit_defs.specs.octet_defs.Codec.{Codec, octet_way}
+use Rattle.unit_defs.specs.octet_defs.Units.{OctetAnswer}
+use Rattle.unit_defs.specs.octet_defs.Writing.{outputs_of}
+use Rattle.unit_messages.specs.declared.steps.StepError.{StepError}
+use Rattle.unit_messages.specs.declared.steps.StepError.TheVariants as errors
+use Rattle.unit_messages.specs.steps.Steps.{IsStep, stepped, stopped, step_after}
 use Rattle.du_contexts.specs.Placing.{uplinks_fit, IsPlaced}
 use Rattle.du_contexts.specs.Tables.{OctetDu, DuTables, with_tables}
 use Rattle.du_contexts.proofs.BearersMade.{length_made}

@@ -12,10 +12,10 @@ use Rattle.tables.specs.Tables.{find}
 use Rattle.pdcp.specs.Pdus.{Content}
 use Rattle.unit_defs.specs.Ways.{Input, radio_input, confirm_input, drops}
 use Rattle.unit_defs.specs.Du.{DuContext, du_acts, pass_up, confirm}
-use Rattle.unit_octet_defs.specs.Codec.{Codec, octet_way, number_in}
-use Rattle.unit_octet_defs.specs.Reading.{read_at_du, read_du_pdu, pdu_read, content_by, no_count}
-use Rattle.unit_octet_defs.specs.Units.{acts_on, du_steps}
-use Rattle.codec_defs.specs.Reading.{ReadsPdus}
+use Rattle.unit_defs.specs.octet_defs.Codec.{Codec, octet_way, number_in}
+use Rattle.unit_defs.specs.octet_defs.Reading.{read_at_du, read_du_pdu, pdu_read, content_by, no_count}
+use Rattle.unit_defs.specs.octet_defs.Units.{acts_on, du_steps}
+use Rattle.unit_defs.specs.codec_defs.Reading.{ReadsPdus}
 use Rattle.du_contexts.specs.Tables.{OctetDu, DuTables, with_tables}
 use Rattle.du_contexts.specs.RadioPdus.{IsPdu, IsNoPdu}
 

@@ -8,13 +8,13 @@ use Rattle.gnb_types.specs.declared.inputs.Input.TheVariants as ins
 use Rattle.gnb_types.specs.declared.reasons.DropReason.TheVariants.{Undecodable}
 use Rattle.gnb_types.specs.Orders.{ue_cmp}
 use Rattle.tables.specs.Tables.{find}
-use Rattle.link_packets.specs.link_defs.Decoding.{Item, f1u_downlink, DecodesOn}
+use Rattle.link_defs.specs.Decoding.{Item, f1u_downlink, DecodesOn}
 use Rattle.unit_defs.specs.Ways.{drops}
 use Rattle.unit_defs.specs.Du.{DuContext, DuTunnel, du_acts, take, taken_on, taken_of}
-use Rattle.unit_octet_defs.specs.Codec.{Codec, octet_way}
-use Rattle.unit_octet_defs.specs.Reading.{du_item, read_at_du, read_du_item, read_du_context, du_item_read, du_link, du_link_of, du_sn}
-use Rattle.unit_octet_defs.specs.Units.{acts_on, du_steps}
-use Rattle.codec_defs.specs.Reading.{ReadsItems}
+use Rattle.unit_defs.specs.octet_defs.Codec.{Codec, octet_way}
+use Rattle.unit_defs.specs.octet_defs.Reading.{du_item, read_at_du, read_du_item, read_du_context, du_item_read, du_link, du_link_of, du_sn}
+use Rattle.unit_defs.specs.octet_defs.Units.{acts_on, du_steps}
+use Rattle.unit_defs.specs.codec_defs.Reading.{ReadsItems}
 use Rattle.du_contexts.specs.declared.packets.RadioKey.{RadioKey}
 use Rattle.du_contexts.specs.Tables.{OctetDu, DuTables, with_tables, IsTunnel, is_item}
 

@@ -14,10 +14,10 @@ use Rattle.tables.specs.Tables.{find, put}
 use Rattle.unit_defs.specs.Ways.{gives, spent, closed, teids_spent}
 use Rattle.unit_defs.specs.Teids.{teids_are_left}
 use Rattle.unit_defs.specs.Du.{DuBearer, DuContext, bearers_anew, context_anew, old_downlinks, openings, replaced, replaces}
-use Rattle.unit_octet_defs.specs.Codec.{Codec, octet_way}
-use Rattle.unit_octet_defs.specs.Units.{OctetAnswer}
-use Rattle.unit_steps.specs.declared.StepError.{StepError}
-use Rattle.unit_steps.specs.Steps.{IsStep, stopped, step_after}
+use Rattle.unit_defs.specs.octet_defs.Codec.{Codec, octet_way}
+use Rattle.unit_defs.specs.octet_defs.Units.{OctetAnswer}
+use Rattle.unit_messages.specs.declared.steps.StepError.{StepError}
+use Rattle.unit_messages.specs.steps.Steps.{IsStep, stopped, step_after}
 use Rattle.du_contexts.specs.declared.renewing.Uplink.{Uplink}
 use Rattle.du_contexts.specs.Renewed.{renewed, uplink_of, anew_of}
 use Rattle.du_contexts.specs.Tables.{OctetDu, DuTables, with_tables}

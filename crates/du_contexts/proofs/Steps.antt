@@ -8,15 +8,15 @@ use Rattle.gnb_types.specs.declared.outputs.Output.{Output}
 use Rattle.gnb_types.specs.Orders.{ue_cmp, bearer_cmp}
 use Rattle.tables.specs.Tables.{find, put}
 use Rattle.pdcp.specs.Pdus.{Content}
-use Rattle.link_packets.specs.link_defs.Decoding.{CarriesPdu}
+use Rattle.link_defs.specs.Decoding.{CarriesPdu}
 use Rattle.unit_defs.specs.Ways.{frame_item}
 use Rattle.unit_defs.specs.Du.{DuBearer, DuContext, DuTunnel, told, gap_after, carried, taken_of, taken_in, frame_came}
-use Rattle.unit_octet_defs.specs.Codec.{Codec, octet_way}
-use Rattle.unit_octet_defs.specs.Units.{OctetAnswer}
-use Rattle.unit_octet_defs.specs.Writing.{outputs_of}
-use Rattle.unit_steps.specs.declared.StepError.{StepError}
-use Rattle.unit_steps.specs.Steps.{Step, IsStep, step_after}
-use Rattle.unit_steps.proofs.StepLaws.{step_with}
+use Rattle.unit_defs.specs.octet_defs.Codec.{Codec, octet_way}
+use Rattle.unit_defs.specs.octet_defs.Units.{OctetAnswer}
+use Rattle.unit_defs.specs.octet_defs.Writing.{outputs_of}
+use Rattle.unit_messages.specs.declared.steps.StepError.{StepError}
+use Rattle.unit_messages.specs.steps.Steps.{Step, IsStep, step_after}
+use Rattle.unit_messages.proofs.steps.StepLaws.{step_with}
 use Rattle.du_contexts.specs.Tables.{OctetDu, DuTables, with_tables}
 use Rattle.du_contexts.specs.RadioPdus.{SaysNothing}
 

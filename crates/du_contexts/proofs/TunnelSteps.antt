@@ -7,11 +7,11 @@ use Rattle.tables.specs.Tables.{find, put, without}
 use Rattle.unit_defs.specs.Ways.{gives, spent, closed, teids_spent}
 use Rattle.unit_defs.specs.Teids.{teids_are_left, teid_after, without_each}
 use Rattle.unit_defs.specs.Du.{DuContext, DuTunnel, downlinks_of, with_entries, closings, openings, end_markers, old_downlinks, replaced, replaces, released_on}
-use Rattle.unit_octet_defs.specs.Codec.{Codec, octet_way}
-use Rattle.unit_octet_defs.specs.Units.{OctetAnswer}
-use Rattle.unit_octet_defs.specs.Writing.{outputs_of}
-use Rattle.unit_steps.specs.Steps.{stepped, step_after}
-use Rattle.unit_steps.proofs.StepLaws.{outputs_append, OctetPut}
+use Rattle.unit_defs.specs.octet_defs.Codec.{Codec, octet_way}
+use Rattle.unit_defs.specs.octet_defs.Units.{OctetAnswer}
+use Rattle.unit_defs.specs.octet_defs.Writing.{outputs_of}
+use Rattle.unit_messages.specs.steps.Steps.{stepped, step_after}
+use Rattle.unit_messages.proofs.steps.StepLaws.{outputs_append, OctetPut}
 use Rattle.du_contexts.specs.Tables.{OctetDu, DuTables, with_tables}
 
 module _ (codec : Codec) (r : OctetDu) (ue : UeId) (c : DuContext) (before mid outputs : List Output) where

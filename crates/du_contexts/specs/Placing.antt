@@ -3,8 +3,8 @@ use Rattle.std.specs.Prelude.{◌≡◌, ℕ, ◌+◌, ◌*◌, ◌^◌, Bool, t
 use Rattle.gnb_types.specs.declared.plans.Plan.{Plan}
 use Rattle.unit_defs.specs.Ways.{teids_spent}
 use Rattle.unit_defs.specs.Static.{du_has_teids, du_placed}
-use Rattle.unit_steps.specs.declared.StepError.{StepError}
-use Rattle.unit_steps.specs.declared.StepError.TheVariants as errors
+use Rattle.unit_messages.specs.declared.steps.StepError.{StepError}
+use Rattle.unit_messages.specs.declared.steps.StepError.TheVariants as errors
 use Rattle.du_contexts.specs.Tables.{OctetDu}
 
 -- every second TEID from the first uplink on, one for each bearer, is one of 32 bits

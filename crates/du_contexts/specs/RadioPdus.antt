@@ -6,9 +6,9 @@ use Rattle.gnb_types.specs.declared.reasons.DropReason.TheVariants.{NoContext, U
 use Rattle.gnb_types.specs.Orders.{ue_cmp}
 use Rattle.tables.specs.Tables.{find}
 use Rattle.pdcp.specs.Pdus.{Content}
-use Rattle.link_packets.specs.link_defs.Decoding.{CarriesPdu}
+use Rattle.link_defs.specs.Decoding.{CarriesPdu}
 use Rattle.unit_defs.specs.Du.{DuContext}
-use Rattle.unit_octet_defs.specs.Codec.{number_in}
+use Rattle.unit_defs.specs.octet_defs.Codec.{number_in}
 use Rattle.du_contexts.specs.Tables.{DuTables}
 
 -- a PDU for a terminal with a context: the number of a packet, or none of a report

@@ -6,8 +6,8 @@ use Rattle.gnb_types.specs.declared.reasons.DropReason.TheVariants.{NoContext}
 use Rattle.gnb_types.specs.declared.plans.Tunnel.{Tunnel}
 use Rattle.unit_defs.specs.Ways.{drops}
 use Rattle.unit_defs.specs.Du.{DuBearer, DuContext, context_anew, replaces}
-use Rattle.unit_octet_defs.specs.Codec.{Codec, octet_way}
-use Rattle.unit_octet_defs.specs.Units.{OctetAnswer}
+use Rattle.unit_defs.specs.octet_defs.Codec.{Codec, octet_way}
+use Rattle.unit_defs.specs.octet_defs.Units.{OctetAnswer}
 use Rattle.du_contexts.specs.declared.renewing.Uplink.{Uplink}
 use Rattle.du_contexts.specs.Tables.{OctetDu}
 

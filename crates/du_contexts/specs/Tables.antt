@@ -6,9 +6,9 @@ use Rattle.gnb_types.specs.Orders.{ue_cmp}
 use Rattle.tables.specs.Tables.{find}
 use Rattle.gnb_types.specs.declared.names.UeId.{UeId}
 use Rattle.gnb_types.specs.declared.plans.Tunnel.{Tunnel}
-use Rattle.link_packets.specs.link_defs.Decoding.{Link}
+use Rattle.link_defs.specs.Decoding.{Link}
 use Rattle.unit_defs.specs.Du.{Du, DuContext, DuTunnel, downlink_list}
-use Rattle.unit_octet_defs.specs.Codec.{Codec}
+use Rattle.unit_defs.specs.octet_defs.Codec.{Codec}
 use Rattle.du_contexts.specs.declared.packets.RadioKey.{RadioKey}
 
 -- the TEID that is given next, the open tunnels and the contexts

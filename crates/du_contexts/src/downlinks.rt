@@ -6,9 +6,9 @@ ghost use Rattle.gnb_types.specs.Orders.{ue_cmp};
 ghost use Rattle.tables.specs.Tables.{find};
 ghost use Rattle.unit_defs.specs.Teids.{teids_are_left, teid_after, without_each};
 ghost use Rattle.unit_defs.specs.Du.{downlinks_of, with_entries, closings, openings, end_markers, old_downlinks, replaces, released_on};
-ghost use Rattle.unit_octet_defs.specs.Codec.{Codec, octet_way};
-ghost use Rattle.unit_octet_defs.specs.Writing.{outputs_of};
-ghost use Rattle.unit_steps.specs.Steps.{IsStep, step_after};
+ghost use Rattle.unit_defs.specs.octet_defs.Codec.{Codec, octet_way};
+ghost use Rattle.unit_defs.specs.octet_defs.Writing.{outputs_of};
+ghost use Rattle.unit_messages.specs.steps.Steps.{IsStep, step_after};
 ghost use Rattle.du_contexts.specs.Tables.{OctetDu, with_tables};
 
 use crate::bearers::{DuContext, DuTunnel};
@@ -19,7 +19,7 @@ use gnb_types::outputs::{Output, Outputs, Tag};
 use link_packets::write_end_marker;
 use std::alloc::Global;
 use tables::table::Table;
-use unit_steps::StepError;
+use unit_messages::steps::StepError;
 
 /// The number of the counter of TEIDs.
 pub(crate) const TEIDS: u8 = 2;

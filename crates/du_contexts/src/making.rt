@@ -6,8 +6,8 @@ ghost use Rattle.gnb_types.specs.Orders.{ue_cmp, bearer_cmp};
 ghost use Rattle.tables.specs.Tables.{find};
 ghost use Rattle.unit_defs.specs.Messages.{bearers_of, are_first_bearers};
 ghost use Rattle.unit_defs.specs.Du.{bearers_made, context_with, replaces};
-ghost use Rattle.unit_octet_defs.specs.Codec.{Codec, octet_way};
-ghost use Rattle.unit_steps.specs.Steps.{IsStep, step_after};
+ghost use Rattle.unit_defs.specs.octet_defs.Codec.{Codec, octet_way};
+ghost use Rattle.unit_messages.specs.steps.Steps.{IsStep, step_after};
 ghost use Rattle.du_contexts.specs.Tables.{OctetDu, with_tables};
 
 use crate::bearers::{DuBearer, DuContext};
@@ -19,7 +19,7 @@ use gnb_types::outputs::Outputs;
 use gnb_types::plans::{Peer, Tunnel};
 use std::alloc::Global;
 use tables::table::Table;
-use unit_steps::StepError;
+use unit_messages::steps::StepError;
 
 /// The bearers of a new context: uplinks to these tunnels, and downlink TEIDs from `next` on.
 fn made(

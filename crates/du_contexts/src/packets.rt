@@ -6,18 +6,18 @@ ghost use Rattle.gnb_types.specs.declared.names.Dir.TheVariants.{Dl, Ul};
 ghost use Rattle.gnb_types.specs.declared.outputs.Output.TheVariants as outs;
 ghost use Rattle.nr_user_plane.specs.declared.frames.Frame.TheVariants.{Status};
 ghost use Rattle.nr_user_plane.specs.Frames.{FitsFrame};
-ghost use Rattle.link_packets.specs.link_defs.Layouts.{desired_buffer_size, delivery_status};
+ghost use Rattle.link_defs.specs.Layouts.{desired_buffer_size, delivery_status};
 ghost use Rattle.gnb_types.specs.Orders.{ue_cmp};
 ghost use Rattle.tables.specs.Tables.{find};
 ghost use Rattle.unit_defs.specs.Ways.{drops};
 ghost use Rattle.unit_defs.specs.Du.{DuContext, told, gap_after, carried, taken_of, pass_up, confirm};
-ghost use Rattle.unit_octet_defs.specs.Codec.{Codec, octet_way};
-ghost use Rattle.unit_octet_defs.specs.Reading.{du_link};
-ghost use Rattle.unit_octet_defs.specs.Units.{du_steps};
-ghost use Rattle.unit_octet_defs.specs.Writing.{outputs_of};
-ghost use Rattle.codec_defs.specs.Reading.{ReadsItems, ReadsPdus};
-ghost use Rattle.unit_steps.specs.Steps.{IsStep, step_after};
-ghost use Rattle.unit_steps.specs.declared.StepError.TheVariants as step_errors;
+ghost use Rattle.unit_defs.specs.octet_defs.Codec.{Codec, octet_way};
+ghost use Rattle.unit_defs.specs.octet_defs.Reading.{du_link};
+ghost use Rattle.unit_defs.specs.octet_defs.Units.{du_steps};
+ghost use Rattle.unit_defs.specs.octet_defs.Writing.{outputs_of};
+ghost use Rattle.unit_defs.specs.codec_defs.Reading.{ReadsItems, ReadsPdus};
+ghost use Rattle.unit_messages.specs.steps.Steps.{IsStep, step_after};
+ghost use Rattle.unit_messages.specs.declared.steps.StepError.TheVariants as step_errors;
 ghost use Rattle.du_contexts.specs.Frames.{frame_as};
 ghost use Rattle.du_contexts.specs.Tables.{OctetDu, with_tables, IsTunnel, is_item};
 
@@ -31,7 +31,7 @@ use gnb_types::reasons::DropReason;
 use link_packets::{F1uDownlink, read_f1u_downlink, write_delivery_status, write_f1u_uplink_pdu};
 use nr_user_plane::ranges::Ranges;
 use std::alloc::Global;
-use unit_steps::StepError;
+use unit_messages::steps::StepError;
 
 /// An NR-U data frame: whether it polls and restarts, its number, and the PDU in it, if there is one (TS 38.425, 5.5.2.1).
 #[derive(Clone, Copy)]
@@ -183,7 +183,7 @@ impl DuContexts {
     }
 
     /// Whose a tunnel is, and the length of the numbers in its items.
-    #[tactic(auto, unfolding(unit_octet_defs::specs::Units::du_steps, unit_octet_defs::specs::Reading::read_at_du))]
+    #[tactic(auto, unfolding(unit_defs::specs::octet_defs::Units::du_steps, unit_defs::specs::octet_defs::Reading::read_at_du))]
     fn tunnel(&self, teid: u32) -> Result<(RadioKey, SnBits), DropReason>
         ensures ok { IfOk result (λ x. IsTunnel self.now teid x.0 x.1) }
         ensures none { (r : OctetDu) → IfErr result (λ reason. du_link (with_tables r self.now) teid ≡ None) }

@@ -5,7 +5,7 @@ ghost use Rattle.gnb_types.specs.Orders.{ue_cmp};
 ghost use Rattle.tables.specs.Tables.{find};
 ghost use Rattle.unit_defs.specs.CuUp.{bearers_from};
 ghost use Rattle.unit_defs.specs.Static.{uplinks_from};
-ghost use Rattle.unit_octet_defs.specs.Codec.{Codec};
+ghost use Rattle.unit_defs.specs.octet_defs.Codec.{Codec};
 ghost use Rattle.du_contexts.specs.Tables.{OctetDu, with_tables};
 ghost use Rattle.du_contexts.specs.Placing.{uplinks_fit, IsPlaced};
 
@@ -17,7 +17,7 @@ use gnb_types::names::{BearerId, Gnb};
 use gnb_types::outputs::Outputs;
 use gnb_types::plans::{Peer, Plan, Tunnel, TunnelList};
 use std::alloc::Global;
-use unit_steps::StepError;
+use unit_messages::steps::StepError;
 
 /// Whether every second TEID from this one on, one for each bearer, is one of 32 bits.
 fn uplinks_fit(uplink: u32, bearers: u8) -> bool

@@ -3,10 +3,10 @@
 ghost use Rattle.std.specs.Prelude.{◌≡◌, ◌<◌, ◌≤◌, ◌^◌, length, Some, IfOk, IfErr, IfSome};
 ghost use Rattle.gnb_types.specs.declared.inputs.Input.TheVariants as ins;
 ghost use Rattle.gnb_types.specs.declared.names.Dir.TheVariants.{Dl, Ul};
-ghost use Rattle.unit_octet_defs.specs.Codec.{Codec};
-ghost use Rattle.unit_octet_defs.specs.Units.{du_steps};
-ghost use Rattle.codec_defs.specs.Reading.{ReadsPdus};
-ghost use Rattle.unit_steps.specs.Steps.{IsStep, step_after};
+ghost use Rattle.unit_defs.specs.octet_defs.Codec.{Codec};
+ghost use Rattle.unit_defs.specs.octet_defs.Units.{du_steps};
+ghost use Rattle.unit_defs.specs.codec_defs.Reading.{ReadsPdus};
+ghost use Rattle.unit_messages.specs.steps.Steps.{IsStep, step_after};
 ghost use Rattle.du_contexts.specs.Tables.{OctetDu, with_tables};
 ghost use Rattle.du_contexts.specs.RadioPdus.{IsPdu, IsNoPdu};
 
@@ -18,7 +18,7 @@ use gnb_types::reasons::DropReason;
 use link_packets::read_radio;
 use pdcp::pdu::Pdu;
 use std::alloc::Global;
-use unit_steps::StepError;
+use unit_messages::steps::StepError;
 
 impl DuContexts {
     /// What a PDU of a radio is: the number of a packet, or None for a report; or why it is dropped.

@@ -5,8 +5,8 @@ ghost use Rattle.message_types.specs.declared.f1.F1.TheVariants as f1s;
 ghost use Rattle.message_types.specs.declared.rrc.Token.{Token};
 ghost use Rattle.unit_defs.specs.Ways.{f1, rrc};
 ghost use Rattle.unit_defs.specs.Du.{relay_down, relay_up};
-ghost use Rattle.unit_octet_defs.specs.Codec.{Codec, octet_way};
-ghost use Rattle.unit_steps.specs.Steps.{IsStep, step_after};
+ghost use Rattle.unit_defs.specs.octet_defs.Codec.{Codec, octet_way};
+ghost use Rattle.unit_messages.specs.steps.Steps.{IsStep, step_after};
 ghost use Rattle.du_contexts.specs.Tables.{OctetDu, with_tables};
 
 use crate::contexts::DuContexts;
@@ -16,7 +16,7 @@ use gnb_types::octets::Octets;
 use gnb_types::outputs::{Output, Outputs};
 use gnb_types::reasons::DropReason;
 use std::alloc::Global;
-use unit_steps::StepError;
+use unit_messages::steps::StepError;
 
 impl DuContexts {
     /// A container of the CU-CP goes to the terminal as it came.

@@ -5,8 +5,8 @@ ghost use Rattle.std.specs.List.Sorted.{IsStrictlySortedBy};
 ghost use Rattle.std.specs.Map.{keys_of};
 ghost use Rattle.gnb_types.specs.Orders.{ue_cmp, bearer_cmp};
 ghost use Rattle.tables.specs.Tables.{find};
-ghost use Rattle.unit_octet_defs.specs.Codec.{Codec};
-ghost use Rattle.unit_steps.specs.Steps.{IsStep, step_after};
+ghost use Rattle.unit_defs.specs.octet_defs.Codec.{Codec};
+ghost use Rattle.unit_messages.specs.steps.Steps.{IsStep, step_after};
 ghost use Rattle.unit_defs.specs.Du.{downlink_list};
 ghost use Rattle.du_contexts.specs.Tables.{OctetDu, with_tables, downlinks_at};
 ghost use Rattle.du_contexts.specs.Renewed.{renewed, uplink_of, anew_of};
@@ -22,7 +22,7 @@ use gnb_types::plans::{Tunnel, TunnelList};
 use gnb_types::reasons::DropReason;
 use std::alloc::Global;
 use tables::table::Table;
-use unit_steps::StepError;
+use unit_messages::steps::StepError;
 
 /// Where the uplink of a bearer goes.
 #[derive(Clone, Copy)]

@@ -2,9 +2,9 @@
 use Rattle.std.specs.Prelude.{ℕ, List, [], Option, Some, None, Result, Ok, Err}
 use Rattle.gnb_types.specs.declared.names.Gnb.{Gnb}
 use Rattle.gnb_types.specs.declared.outputs.Output.{Output}
-use Rattle.du_rows.specs.unit_defs.Du.{new_du}
-use Rattle.du_rows.specs.unit_steps.declared.StepError.{StepError}
-use Rattle.du_rows.specs.du_contexts.Tables.{OctetDu}
+use Rattle.unit_defs.specs.Du.{new_du}
+use Rattle.unit_messages.specs.declared.steps.StepError.{StepError}
+use Rattle.du_contexts.specs.Tables.{OctetDu}
 
 -- its record, and why it is of no use, if it isn't
 pub record Node : Type 0 where

@@ -3,10 +3,6 @@
 #![tactic(auto)]
 
 pub mod node;
+pub mod rows;
 
 pub use node::DuNode;
-
-/// Of `unit_steps`, for crates above.
-pub mod from_unit_steps {
-    pub use du_rows::from_unit_steps::StepError;
-}

@@ -3,26 +3,26 @@
 ghost use Rattle.std.specs.Prelude.{◌≡◌, [], Some, None, Err, IfSome};
 ghost use Rattle.gnb_types.specs.Orders.{ue_cmp};
 ghost use Rattle.tables.specs.Tables.{find};
-ghost use Rattle.du_rows.specs.unit_defs.Accessors.{du_epoch};
-ghost use Rattle.du_rows.specs.unit_defs.Static.{du_set_up};
-ghost use Rattle.du_rows.specs.codec_defs.Reading.{ReadsItems, ReadsPdus};
-ghost use Rattle.du_rows.specs.unit_octet_defs.Codec.{Codec};
-ghost use Rattle.du_rows.specs.unit_octet_defs.Reading.{du_link};
-ghost use Rattle.du_rows.specs.du_contexts.Tables.{is_item};
-ghost use Rattle.du_rows.specs.unit_octet_defs.Units.{du_steps};
-ghost use Rattle.du_rows.specs.unit_steps.Steps.{IsStep, step_after};
-ghost use Rattle.du_rows.specs.du_contexts.Placing.{IsPlaced};
+ghost use Rattle.unit_defs.specs.Accessors.{du_epoch};
+ghost use Rattle.unit_defs.specs.Static.{du_set_up};
+ghost use Rattle.unit_defs.specs.codec_defs.Reading.{ReadsItems, ReadsPdus};
+ghost use Rattle.unit_defs.specs.octet_defs.Codec.{Codec};
+ghost use Rattle.unit_defs.specs.octet_defs.Reading.{du_link};
+ghost use Rattle.du_contexts.specs.Tables.{is_item};
+ghost use Rattle.unit_defs.specs.octet_defs.Units.{du_steps};
+ghost use Rattle.unit_messages.specs.steps.Steps.{IsStep, step_after};
+ghost use Rattle.du_contexts.specs.Placing.{IsPlaced};
 ghost use Rattle.du_node.specs.Nodes.{new_node, outputs_in, failure_in};
 
-use du_rows::DuRecord;
-use du_rows::from_unit_messages::MessageCodec;
-use du_rows::from_unit_steps::StepError;
+use crate::rows::DuRecord;
 use gnb_types::inputs::Input;
 use gnb_types::names::{Gnb, UeId};
 use gnb_types::outputs::Outputs;
 use gnb_types::plans::Plan;
 use std::alloc::Global;
 use std::marker::Model;
+use unit_messages::MessageCodec;
+use unit_messages::steps::StepError;
 
 /// A DU. Contracts see its record of the table of rows, and why it is of no use, if a step could not be made.
 #[derive(Drop)]

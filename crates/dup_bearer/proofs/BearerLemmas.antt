@@ -5,11 +5,11 @@ use Rattle.std.proofs.lemmas.Bool.Decides.{nat_tests}
 use Rattle.gnb_types.specs.declared.names.SnBits.{SnBits}
 use Rattle.tables.specs.Tables.{put}
 use Rattle.pdcp_defs.specs.Receivers.{Receiver, is_duplicate, stored, deliver, deliver_from}
-use Rattle.dup_types.specs.declared.line.DupLine.{DupLine}
-use Rattle.dup_types.specs.declared.line.DupLine.TheVariants as lines
-use Rattle.dup_run_defs.specs.Run.{received, handed_up, DupRun, DupOutcome, goes_on, lines_first, counts_on, undelivered, outstanding, span_from, span}
-use Rattle.dup_pdcp.specs.Entity.{DupTxState}
-use Rattle.dup_legs.specs.Legs.{LegsState}
+use Rattle.dup_defs.specs.declared.types.line.DupLine.{DupLine}
+use Rattle.dup_defs.specs.declared.types.line.DupLine.TheVariants as lines
+use Rattle.dup_defs.specs.dup_run_defs.Run.{received, handed_up, DupRun, DupOutcome, goes_on, lines_first, counts_on, undelivered, outstanding, span_from, span}
+use Rattle.dup_bearer.specs.dup_pdcp.Entity.{DupTxState}
+use Rattle.dup_bearer.specs.legs.Legs.{LegsState}
 use Rattle.dup_bearer.specs.Bearers.{BearerState, deliver_line}
 use Rattle.dup_bearer.specs.inside.Views.{run_state, bearer_state}
 use Rattle.dup_bearer.specs.inside.Parts.{IsPart}

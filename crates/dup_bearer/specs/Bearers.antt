@@ -1,10 +1,10 @@
 -- A bearer with duplication as contracts of code see it, and what its events come to.
 use Rattle.std.specs.Prelude.{◌≡◌, ℕ, List, Option, None, Result, Ok, Err}
 use Rattle.gnb_types.specs.declared.names.SnBits.{SnBits}
-use Rattle.dup_pdcp.specs.declared.ending.DupEnding.{DupEnding}
-use Rattle.dup_types.specs.declared.line.DupLine.{DupLine}
-use Rattle.dup_types.specs.declared.line.DupLine.TheVariants as lines
-use Rattle.dup_run_defs.specs.Run.{DupRun, DupOutcome, new_run, goes_on, counts_spent}
+use Rattle.dup_bearer.specs.declared.dup_pdcp.ending.DupEnding.{DupEnding}
+use Rattle.dup_defs.specs.declared.types.line.DupLine.{DupLine}
+use Rattle.dup_defs.specs.declared.types.line.DupLine.TheVariants as lines
+use Rattle.dup_defs.specs.dup_run_defs.Run.{DupRun, DupOutcome, new_run, goes_on, counts_spent}
 use Rattle.dup_bearer.specs.declared.fault.DupFault.{DupFault}
 use Rattle.dup_bearer.specs.declared.fault.DupFault.TheVariants as faults
 

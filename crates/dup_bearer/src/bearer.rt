@@ -7,21 +7,21 @@ ghost use Rattle.pdcp.specs.Near.{last_count};
 ghost use Rattle.pdcp_defs.specs.Counts.{near_count};
 ghost use Rattle.pdcp_defs.specs.Receivers.{is_duplicate, stored, deliver};
 ghost use Rattle.dup_defs.specs.Senders.{is_up};
-ghost use Rattle.dup_run_defs.specs.Run.{put_line, with_puts, lost_lines, lose_all, lose_to, offers, carry, received, handed_up, confirm, fails, mends, changes_mode, same_mode, other, asked, span, items_of, size_of, holds_nothing, where_up, goes_on, puts_out};
-ghost use Rattle.dup_pdcp.specs.Entity.{IsPut, puts_of_code, packet_in, IsAnswer};
-ghost use Rattle.dup_legs.specs.Legs.{IsPacket};
+ghost use Rattle.dup_defs.specs.dup_run_defs.Run.{put_line, with_puts, lost_lines, lose_all, lose_to, offers, carry, received, handed_up, confirm, fails, mends, changes_mode, same_mode, other, asked, span, items_of, size_of, holds_nothing, where_up, goes_on, puts_out};
+ghost use Rattle.dup_bearer.specs.dup_pdcp.Entity.{IsPut, puts_of_code, packet_in, IsAnswer};
+ghost use Rattle.dup_bearer.specs.legs.Legs.{IsPacket};
 ghost use Rattle.dup_bearer.specs.Bearers.{new_bearer, with_run, IsOutcome};
 ghost use Rattle.dup_bearer.specs.inside.Parts.{IsPart, IsAnswered};
 
+use crate::dup_pdcp::tx::DupTx;
 use crate::fault::DupFault;
+use crate::legs::Legs;
 use crate::lines::{put_delivered, put_lost, refused};
-use dup_legs::Legs;
-use dup_pdcp::tx::DupTx;
-use dup_types::error::DupError;
-use dup_types::leg::{Leg, Mode};
-use dup_types::line::{DupLine, DupRefusal};
-use dup_types::put::{Put, Puts};
-use dup_types::stop::DupLines;
+use dup_defs::types::error::DupError;
+use dup_defs::types::leg::{Leg, Mode};
+use dup_defs::types::line::{DupLine, DupRefusal};
+use dup_defs::types::put::{Put, Puts};
+use dup_defs::types::stop::DupLines;
 use gnb_types::items::{Items, Memory};
 use gnb_types::names::SnBits;
 use gnb_types::octets::Octets;
@@ -29,8 +29,8 @@ use pdcp::{PACKET_LIMIT, near, write_pdu};
 use std::alloc::Global;
 use std::marker::Model;
 use tables::table::Table;
-use um_pdcp::stored::hand_up;
-use um_types::out::Outs;
+use um::um_pdcp::stored::hand_up;
+use um_defs::types::out::Outs;
 
 /// A bearer. Contracts see the run of the definitions, with the length of its numbers, its quota, and why the transmitting entity is of no
 /// use any more, if it isn't.
@@ -72,7 +72,7 @@ impl Bearer {
     }
 
     /// A packet, which isn't empty, is offered.
-    #[tactic(auto, unfolding(dup_run_defs::specs::Run::offers))]
+    #[tactic(auto, unfolding(dup_defs::specs::dup_run_defs::Run::offers))]
     pub fn offer(&mut self, alloc: Global, packet: &[u8]) -> Result<DupLines, DupFault>
         requires packet { 1 ≤ length packet.now }
         requires going { self.old.gone ≡ None }
@@ -129,7 +129,7 @@ impl Bearer {
     }
 
     /// A leg goes down, and loses all that it holds.
-    #[tactic(auto, unfolding(dup_run_defs::specs::Run::fails))]
+    #[tactic(auto, unfolding(dup_defs::specs::dup_run_defs::Run::fails))]
     pub fn fail(&mut self, alloc: Global, leg: Leg) -> Result<DupLines, DupFault>
         requires going { self.old.gone ≡ None }
         ensures outcome { IsOutcome (fails self.old.sn leg self.old.run) self.new.run result }
@@ -146,7 +146,7 @@ impl Bearer {
     }
 
     /// A leg comes up.
-    #[tactic(auto, unfolding(dup_run_defs::specs::Run::mends))]
+    #[tactic(auto, unfolding(dup_defs::specs::dup_run_defs::Run::mends))]
     pub fn mend(&mut self, alloc: Global, leg: Leg) -> Result<DupLines, DupFault>
         requires going { self.old.gone ≡ None }
         ensures outcome { IsOutcome (mends self.old.sn leg self.old.run) self.new.run result }
@@ -162,7 +162,7 @@ impl Bearer {
     }
 
     /// A leg that the new mode lacks loses all that it holds; then packets go on the legs of the new mode.
-    #[tactic(auto, unfolding(dup_run_defs::specs::Run::changes_mode))]
+    #[tactic(auto, unfolding(dup_defs::specs::dup_run_defs::Run::changes_mode))]
     pub fn change_mode(&mut self, alloc: Global, mode: Mode) -> Result<DupLines, DupFault>
         requires going { self.old.gone ≡ None }
         ensures outcome { IsOutcome (changes_mode self.old.sn mode self.old.run) self.new.run result }
@@ -246,7 +246,7 @@ impl Bearer {
     }
 
     /// How many COUNTs are outstanding: from the least that is undelivered or stands on a leg up to the last that was given.
-    #[tactic(auto, unfolding(dup_run_defs::specs::Run::span))]
+    #[tactic(auto, unfolding(dup_defs::specs::dup_run_defs::Run::span))]
     pub fn span(&self) -> u32
         ensures { result ≡ span self.now.run }
     {

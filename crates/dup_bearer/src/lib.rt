@@ -2,7 +2,9 @@
 #![tactic(auto)]
 
 pub mod bearer;
+pub mod dup_pdcp;
 mod fault;
+pub mod legs;
 mod lines;
 
 pub use bearer::Bearer;

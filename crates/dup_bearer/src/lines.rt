@@ -1,17 +1,17 @@
 //! Lines of an event.
 
 ghost use Rattle.std.specs.Prelude.{◌≡◌, ◌++◌, [], ◌∷◌, map, OnOk, IfOk};
-ghost use Rattle.dup_types.specs.declared.line.DupLine.TheVariants.{Refused};
+ghost use Rattle.dup_defs.specs.declared.types.line.DupLine.TheVariants.{Refused};
 ghost use Rattle.um_defs.specs.Receivers.{entries};
-ghost use Rattle.dup_run_defs.specs.Run.{lost_lines};
+ghost use Rattle.dup_defs.specs.dup_run_defs.Run.{lost_lines};
 ghost use Rattle.dup_bearer.specs.Bearers.{deliver_line};
 
-use dup_types::leg::Leg;
-use dup_types::line::{DupLine, DupRefusal};
-use dup_types::stop::DupLines;
+use dup_defs::types::leg::Leg;
+use dup_defs::types::line::{DupLine, DupRefusal};
+use dup_defs::types::stop::DupLines;
 use gnb_types::items::{Items, Memory};
 use std::alloc::Global;
-use um_types::out::Outs;
+use um_defs::types::out::Outs;
 
 /// A line for each packet that is handed up, at the end.
 pub(crate) fn put_delivered(lines: &mut DupLines, outs: Outs) -> Result<(), Memory>

@@ -6,10 +6,10 @@ use Rattle.gnb_types.specs.declared.names.SnBits.{SnBits}
 use Rattle.pdcp.specs.Near.{last_count}
 use Rattle.pdcp_defs.specs.Counts.{count_below}
 use Rattle.pdcp_defs.specs.Senders.{Sender, new_sender, has_room, numbered, confirmed_to}
-use Rattle.dup_types.specs.declared.leg.Leg.{Leg}
-use Rattle.dup_types.specs.declared.leg.Leg.TheVariants as legs
-use Rattle.dup_types.specs.declared.leg.Mode.{Mode}
-use Rattle.dup_types.specs.declared.leg.Mode.TheVariants as modes
+use Rattle.dup_defs.specs.declared.types.leg.Leg.{Leg}
+use Rattle.dup_defs.specs.declared.types.leg.Leg.TheVariants as legs
+use Rattle.dup_defs.specs.declared.types.leg.Mode.{Mode}
+use Rattle.dup_defs.specs.declared.types.leg.Mode.TheVariants as modes
 
 -- what was numbered and nothing confirmed, what waits for a COUNT, the mode, and which legs are up
 pub record DupSender : Type 0 where

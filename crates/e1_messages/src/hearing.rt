@@ -15,6 +15,7 @@ use crate::codes::{
     BEARER_CONTEXT_MODIFICATION, BEARER_CONTEXT_RELEASE, BEARER_CONTEXT_SETUP, E1_SETUP,
 };
 use aper_values::value::{Ie, Value};
+use gnb_types::results::beside;
 use message_types::E1Message;
 use message_values::elements::{ElementName, Use};
 use message_values::error::MsgError;
@@ -23,7 +24,6 @@ use message_values::found::{
     the_half_word, the_index, the_name, the_number, the_octet, the_sn, the_tunnels, the_ue,
 };
 use message_values::places::{INITIATING, SUCCESSFUL, UNSUCCESSFUL};
-use results::beside;
 use std::alloc::Global;
 
 /// The message that a value of the PDU says.

@@ -5,8 +5,3 @@ mod codes;
 pub mod hearing;
 pub mod octets;
 pub mod writing;
-
-/// Of `profile_types`, for crates above.
-pub mod from_profile_types {
-    pub use profile_types::{core_pdu, e1_pdu, f1_pdu, rrc_token};
-}

@@ -9,12 +9,12 @@ ghost use Rattle.message_defs.specs.profile_defs.Profile.{e1_type};
 ghost use Rattle.message_defs.specs.E1.{written_e1};
 
 use crate::writing::written;
-use aper_encoding::encode;
+use aper::encoding::encode;
 use gnb_types::items::Memory;
 use gnb_types::octets::Octets;
 use message_types::E1Message;
-use profile_types::e1_pdu;
-use profile_types::from_profile_module::Profile;
+use profile::profile_module::Profile;
+use profile::types::e1_pdu;
 use std::alloc::Global;
 
 /// The one spelling of a message, of at most 131,072 octets. Out of memory is the one error.

@@ -15,6 +15,7 @@ use gnb_types::items::Memory;
 use gnb_types::names::{SnBits, UeId};
 use gnb_types::octets::Octets;
 use gnb_types::plans::{Peer, StatusList, TunnelList};
+use gnb_types::results::beside;
 use message_types::E1Message;
 use message_values::elements::ElementName;
 use message_values::fields::{
@@ -22,7 +23,6 @@ use message_values::fields::{
     from_text, from_tunnels, from_ue,
 };
 use message_values::places::{INITIATING, Place, SUCCESSFUL, UNSUCCESSFUL, message_of};
-use results::beside;
 use std::alloc::Global;
 
 /// The value of a message.

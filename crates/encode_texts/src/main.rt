@@ -5,13 +5,13 @@
 
 ghost use Rattle.std.specs.Prelude.{◌<◌, length};
 
+use aper::{encode, is_value, spelled_length};
 use aper_values::value::Value;
 use asn1_module::{Module, TypeId, read_module};
 use gnb_types::hex::hex_text;
 use gnb_types::octets::{Memory, Octets};
 use std::alloc::Global;
 use std::io;
-use values_json::from_aper::{encode, is_value, spelled_length};
 use values_json::{JsonError, value_from_json};
 
 /// The most octets of a spelling.

@@ -9,12 +9,12 @@ ghost use Rattle.message_defs.specs.profile_defs.Profile.{f1_type};
 ghost use Rattle.message_defs.specs.F1.{written_f1};
 
 use crate::writing::written;
-use aper_encoding::encode;
+use aper::encoding::encode;
 use gnb_types::items::Memory;
 use gnb_types::octets::Octets;
 use message_types::F1Message;
-use profile_types::f1_pdu;
-use profile_types::from_profile_module::Profile;
+use profile::profile_module::Profile;
+use profile::types::f1_pdu;
 use std::alloc::Global;
 
 /// The one spelling of a message, of at most 131,072 octets. Out of memory is the one error.

@@ -15,13 +15,13 @@ use gnb_types::items::Memory;
 use gnb_types::names::{SnBits, UeId};
 use gnb_types::octets::Octets;
 use gnb_types::plans::{Peer, TunnelList};
+use gnb_types::results::beside;
 use message_types::F1Message;
 use message_values::elements::ElementName;
 use message_values::fields::{
     from_number, from_octets, from_peer, from_sn, from_text, from_tunnels, from_ue,
 };
 use message_values::places::{INITIATING, Place, SUCCESSFUL, message_of};
-use results::beside;
 use std::alloc::Global;
 
 /// The value of a message.

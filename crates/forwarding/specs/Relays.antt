@@ -1,6 +1,6 @@
 -- A CU-UP between two hops (TS 38.300, 9.2.3.2.3): what comes from below goes on above.
 use Rattle.std.specs.Prelude.{ℕ, List, Option, Some, None, Result, Ok, Err}
-use Rattle.link_packets.specs.link_defs.Layouts.{forwarded_numbered, forwarded_fresh}
+use Rattle.link_defs.specs.Layouts.{forwarded_numbered, forwarded_fresh}
 use Rattle.forwarding.specs.declared.error.HopError.{HopError}
 use Rattle.forwarding.specs.Sources.{SourceEnd}
 use Rattle.forwarding.specs.Targets.{TargetEnd, count_after}

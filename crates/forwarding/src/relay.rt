@@ -1,7 +1,7 @@
 //! A CU-UP that is the target of one hop and the source of the next: it passes on what still comes.
 
 ghost use Rattle.std.specs.Prelude.{◌≡◌, IsSome, OnOk, OnErr};
-ghost use Rattle.link_packets.specs.link_defs.Decoding.{IsSized};
+ghost use Rattle.link_defs.specs.Decoding.{IsSized};
 ghost use Rattle.forwarding.specs.Targets.{ended, end_of};
 ghost use Rattle.forwarding.specs.Relays.{relay, passed};
 ghost use Rattle.forwarding.specs.Answers.{Answers};

@@ -1,8 +1,8 @@
 //! The end of a hop at its source, which is frozen: all that it holds and takes goes to the target.
 
 ghost use Rattle.std.specs.Prelude.{◌≡◌, IfOk, OnOk, OnErr};
-ghost use Rattle.link_packets.specs.link_defs.Decoding.{IsSized};
-ghost use Rattle.link_packets.specs.link_defs.Layouts.{forwarded_numbered, forwarded_fresh, forwarded_late};
+ghost use Rattle.link_defs.specs.Decoding.{IsSized};
+ghost use Rattle.link_defs.specs.Layouts.{forwarded_numbered, forwarded_fresh, forwarded_late};
 ghost use Rattle.forwarding.specs.Sources.{source, teid_of, has_ended, ended, end_of};
 ghost use Rattle.forwarding.specs.Answers.{Answers};
 

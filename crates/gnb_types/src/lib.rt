@@ -11,3 +11,4 @@ pub mod octets;
 pub mod outputs;
 pub mod plans;
 pub mod reasons;
+pub mod results;

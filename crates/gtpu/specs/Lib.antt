@@ -1,4 +1,3 @@
 pub mod Headers
 pub mod Packets
 pub mod Refusals
-pub use Rattle.gnb_types.specs as gnb_types

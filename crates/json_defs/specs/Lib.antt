@@ -5,5 +5,5 @@ pub mod Readings
 pub mod Demands
 pub mod Json
 pub mod Bounds
-pub use Rattle.aper_defs.specs.asn1_types as asn1_types
-pub use Rattle.aper_defs.specs as aper_defs
+pub mod shown_defs
+pub mod type_defs

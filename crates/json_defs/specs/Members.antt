@@ -2,7 +2,7 @@
 use Rattle.std.specs.Prelude.{ℕ, suc, ◌==◌, ◌&&◌, List, [], ◌∷◌, Bool, true, false, Option, Some, None, is_some, codes, if◌then◌else◌, ℤ, pos, negsuc}
 use Rattle.std.specs.Ordering.{nat_cmp, eq_by_cmp}
 use Rattle.std.specs.Cmp.Lexicographic.{slice_cmp}
-use Rattle.aper_defs.specs.gnb_types.Hex.{read_hex}
+use Rattle.gnb_types.specs.Hex.{read_hex}
 use Rattle.serde_json.specs.Data.{Num, Data, null, string, Items, no_items, item, Members, no_members, member}
 use Rattle.serde_json.specs.Find.{get_member, as_integer, as_number, as_str}
 

@@ -1,6 +1,6 @@
 -- A type as a tree with the names that JSON shows: those of an ENUMERATED stand in it too.
 use Rattle.std.specs.Prelude.{ℕ, List, Bool, length, Option, ℤ}
-use Rattle.aper_defs.specs.asn1_types.declared.definition.Size.{Size}
+use Rattle.asn1_syntax.specs.declared.types.definition.Size.{Size}
 use Rattle.aper_defs.specs.Trees as trees
 use Rattle.aper_defs.specs.Trees.{Tree, Parts, Rows, Procedures, Outcome}
 

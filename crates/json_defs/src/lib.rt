@@ -2,5 +2,7 @@
 #![tactic(auto)]
 
 mod fault;
+pub mod shown_defs;
+pub mod type_defs;
 
 pub use fault::JsonFault;

@@ -7,7 +7,7 @@ use Rattle.aper_defs.specs.Bounds.{IsBounded}
 use Rattle.aper_defs.specs.Spelling.{Spells}
 use Rattle.aper_defs.specs.Asking.{asks_whole}
 use Rattle.aper_defs.specs.Reading.{Cursor, Fault, at_first, run}
-use Rattle.aper_proof_spelled.proofs.Spelled.{spelled_read}
+use Rattle.proof_aper.proofs.spelled.Spelled.{spelled_read}
 
 pub one_value : (t : Tree) (v w : Value) (octets more : List ℕ) → IsBounded t → Spells t v octets → Spells t w (octets ++ more) → (v ≡ w)
     × (more ≡ [])

@@ -1,6 +1,12 @@
 //! Laws of aligned PER. Each function does nothing: its contract is the law.
 #![tactic(auto)]
 
+pub mod feeding;
+pub mod pieces;
+pub mod refusals;
+pub mod rows;
+pub mod wrong;
+
 ghost use Rattle.std.specs.Prelude.{◌≡◌, ℕ, ◌<◌, ◌≤◌, ◌++◌, List, [], All, Ok};
 ghost use Rattle.aper_defs.specs.Trees.{Tree};
 ghost use Rattle.aper_defs.specs.Values.{Value};
@@ -9,7 +15,7 @@ ghost use Rattle.aper_defs.specs.Membership.{Has};
 ghost use Rattle.aper_defs.specs.Bounds.{IsBounded};
 ghost use Rattle.aper_defs.specs.Spelling.{Spells, spelling_limit, whole_layout};
 ghost use Rattle.aper_defs.specs.Reading.{decoded};
-ghost use Rattle.aper_octet_defs.specs.Octets.{spelled_as};
+ghost use Rattle.aper_defs.specs.octet_defs.Octets.{spelled_as};
 
 /// A value whose layout has at most 131,072 octets has one spelling.
 pub fn a_value_has_one_spelling()

@@ -9,7 +9,7 @@ use Rattle.message_types.specs.declared.e1.E1Message.{E1Message}
 use Rattle.message_types.specs.declared.e1.E1Message.TheVariants as e1s
 use Rattle.unit_defs.specs.Ways.{Message, f1, e1, xn, core, rrc}
 use Rattle.unit_defs.specs.UpBearers.{bits_in}
-use Rattle.codec_range_defs.specs.Ranges.{IsSetupInRange, IsShortStatus, AreShortStatuses, IsE1InRange, IsInRange}
+use Rattle.unit_defs.specs.codec_range_defs.Ranges.{IsSetupInRange, IsShortStatus, AreShortStatuses, IsE1InRange, IsInRange}
 use Rattle.law_codecs.proofs.Decided.{Decided, two, at_most}
 
 setup_in_range : (count quota : ℕ) → Decided (IsSetupInRange count quota)

@@ -3,13 +3,13 @@ use Rattle.std.proofs.Common.{◌≡◌, ℕ, List, [], None}
 use Rattle.std.specs.Prelude.{Ok, Err}
 use Rattle.gnb_types.specs.declared.names.NodeId.{NodeId}
 use Rattle.gnb_types.specs.declared.reasons.DropReason.TheVariants.{Unexpected}
-use Rattle.link_read_defs.specs.Pdus.{pdu_on}
-use Rattle.link_read_defs.specs.Items.{item_on}
-use Rattle.link_proof_reading.proofs.Lawful.{item_found, item_none, pdu_found, pdu_none}
+use Rattle.link_defs.specs.read_defs.Pdus.{pdu_on}
+use Rattle.link_defs.specs.read_defs.Items.{item_on}
+use Rattle.proof_message_codec.proofs.link_reading.Lawful.{item_found, item_none, pdu_found, pdu_none}
 use Rattle.unit_defs.specs.Ways.{Message}
-use Rattle.unit_octet_defs.specs.Codec.{Codec}
-use Rattle.codec_defs.specs.Reading.{ReadsItems, ReadsPdus}
-use Rattle.codec_range_defs.specs.Ranges.{IsInRange, ReadsInRange}
+use Rattle.unit_defs.specs.octet_defs.Codec.{Codec}
+use Rattle.unit_defs.specs.codec_defs.Reading.{ReadsItems, ReadsPdus}
+use Rattle.unit_defs.specs.codec_range_defs.Ranges.{IsInRange, ReadsInRange}
 use Rattle.law_codecs.proofs.InRange.{read_within, within_only, within_stays}
 
 -- a codec that reads no message

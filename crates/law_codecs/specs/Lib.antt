@@ -1,2 +1,3 @@
 pub mod SameMessages
 pub mod LinkRows
+pub mod read_ranges

@@ -4,8 +4,8 @@ use Rattle.gnb_types.specs.declared.names.SnBits.{SnBits}
 use Rattle.gnb_types.specs.declared.names.SnBits.TheVariants.{Len12, Len18}
 use Rattle.pdcp.specs.Pdus.{Content, data_pdu, status_report}
 use Rattle.link_defs.specs.Decoding.{Link, n3, f1u_downlink, f1u_uplink, forwarding_down, forwarding_up, Item, fresh, numbered, pdu, framed, poll, status, end_of_tunnel}
-use Rattle.link_read_defs.specs.Pdus.{pdu_on}
-use Rattle.link_read_defs.specs.Items.{item_on}
+use Rattle.link_defs.specs.read_defs.Pdus.{pdu_on}
+use Rattle.link_defs.specs.read_defs.Items.{item_on}
 
 -- octets on a tunnel, and what they say
 pub record ItemRow : Type 0 where

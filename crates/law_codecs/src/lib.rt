@@ -1,15 +1,17 @@
 //! Laws of codecs, and of the readers of links that a codec can have. Each function does nothing: its contract is the law.
 #![tactic(auto)]
 
+pub mod read_ranges;
+
 ghost use Rattle.std.specs.Prelude.{◌≡◌, ◌↔◌, ℕ, List, Some, map};
 ghost use Rattle.gnb_types.specs.declared.names.SnBits.{SnBits};
 ghost use Rattle.pdcp.specs.Pdus.{Content};
 ghost use Rattle.link_defs.specs.Decoding.{Link, Item, DecodesOn, CarriesPdu};
-ghost use Rattle.link_read_defs.specs.Pdus.{pdu_on};
-ghost use Rattle.link_read_defs.specs.Items.{item_on};
-ghost use Rattle.unit_octet_defs.specs.Codec.{Codec};
-ghost use Rattle.codec_defs.specs.Reading.{ReadsItems, ReadsPdus};
-ghost use Rattle.codec_range_defs.specs.Ranges.{ReadsInRange};
+ghost use Rattle.link_defs.specs.read_defs.Pdus.{pdu_on};
+ghost use Rattle.link_defs.specs.read_defs.Items.{item_on};
+ghost use Rattle.unit_defs.specs.octet_defs.Codec.{Codec};
+ghost use Rattle.unit_defs.specs.codec_defs.Reading.{ReadsItems, ReadsPdus};
+ghost use Rattle.unit_defs.specs.codec_range_defs.Ranges.{ReadsInRange};
 ghost use Rattle.law_codecs.specs.SameMessages.{ReadsAllInRange};
 ghost use Rattle.law_codecs.specs.LinkRows.{item_rows, refused_item_rows, read_item, told_item, pdu_rows, refused_pdu_rows, read_pdu, told_pdu};
 

@@ -3,14 +3,14 @@ use Rattle.std.proofs.Common.{◌≡◌, ℕ, List, [], ◌∷◌, ◌++◌, Opt
 use Rattle.std.specs.Prelude.{fold}
 use Rattle.std.specs.List.{flat_map}
 use Rattle.gnb_types.specs.declared.names.SnBits.{SnBits}
-use Rattle.dup_types.specs.declared.event.DupEvent.{DupEvent}
-use Rattle.dup_types.specs.declared.line.DupLine.{DupLine}
-use Rattle.dup_types.specs.declared.stop.DupEnd.{DupEnd}
-use Rattle.dup_run_defs.specs.Steps.{DupStep, passes, stops, steps, DupHappening, DupScript, new_script, with_step, with_event_at, with_event, script_of}
-use Rattle.dup_proof_events.specs.Counted.{AreOf, AreCounted, delivered_in}
+use Rattle.dup_defs.specs.declared.types.event.DupEvent.{DupEvent}
+use Rattle.dup_defs.specs.declared.types.line.DupLine.{DupLine}
+use Rattle.dup_defs.specs.declared.types.stop.DupEnd.{DupEnd}
+use Rattle.dup_defs.specs.dup_run_defs.Steps.{DupStep, passes, stops, steps, DupHappening, DupScript, new_script, with_step, with_event_at, with_event, script_of}
+use Rattle.law_dup.specs.events.Counted.{AreOf, AreCounted, delivered_in}
 use Rattle.law_dup.specs.Scripts.{IsPrefix, accepted_in, accepted, delivered}
-use Rattle.dup_proof_events.specs.Kept.{IsKept, AreNear}
-use Rattle.dup_proof_events.proofs.Lists.{of_more, of_added, counted_added}
+use Rattle.law_dup.specs.events.Kept.{IsKept, AreNear}
+use Rattle.law_dup.proofs.events.Lists.{of_more, of_added, counted_added}
 use Rattle.law_dup.proofs.Steps.{StepGood, now_accepted, event_good}
 
 -- ---- one happening more

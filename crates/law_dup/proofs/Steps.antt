@@ -6,25 +6,25 @@ use Rattle.std.proofs.lemmas.Bool.Decides.{nat_tests}
 use Rattle.gnb_types.specs.declared.names.SnBits.{SnBits}
 use Rattle.pdcp.specs.Numbers.{half}
 use Rattle.pdcp.specs.declared.pdu.TheConstants.{PACKET_LIMIT}
-use Rattle.dup_types.specs.declared.leg.Leg.{Leg}
-use Rattle.dup_types.specs.declared.leg.Leg.TheVariants as legs
-use Rattle.dup_types.specs.declared.event.DupEvent.{DupEvent}
-use Rattle.dup_types.specs.declared.event.DupEvent.TheVariants as events
-use Rattle.dup_types.specs.declared.line.DupLine.{DupLine}
-use Rattle.dup_types.specs.declared.line.DupLine.TheVariants as lines
-use Rattle.dup_types.specs.declared.line.DupRefusal.{DupRefusal}
-use Rattle.dup_types.specs.declared.line.DupRefusal.TheVariants as refusals
-use Rattle.dup_types.specs.declared.stop.DupEnd.TheVariants as ends
+use Rattle.dup_defs.specs.declared.types.leg.Leg.{Leg}
+use Rattle.dup_defs.specs.declared.types.leg.Leg.TheVariants as legs
+use Rattle.dup_defs.specs.declared.types.event.DupEvent.{DupEvent}
+use Rattle.dup_defs.specs.declared.types.event.DupEvent.TheVariants as events
+use Rattle.dup_defs.specs.declared.types.line.DupLine.{DupLine}
+use Rattle.dup_defs.specs.declared.types.line.DupLine.TheVariants as lines
+use Rattle.dup_defs.specs.declared.types.line.DupRefusal.{DupRefusal}
+use Rattle.dup_defs.specs.declared.types.line.DupRefusal.TheVariants as refusals
+use Rattle.dup_defs.specs.declared.types.stop.DupEnd.TheVariants as ends
 use Rattle.dup_defs.specs.Senders.{DupPut, DupNumbers, gives, spends, is_up, is_full, offered}
-use Rattle.dup_run_defs.specs.Run.{DupRun, DupOutcome, goes_on, counts_spent, items_of, with_puts, put_line, puts_out, refused, offers, carry, confirm, where_up, fails, mends, changes_mode, asked, counts_on, undelivered, outstanding, span_from, span}
-use Rattle.dup_run_defs.specs.Steps.{DupStep, passes, stops, step_of, printed_first, ◌and◌, for_each, carry_all, confirm_all, turn, round, is_empty, rounds, work, drains, steps}
-use Rattle.dup_proof_events.specs.Counted.{AreOf, AreCounted, delivered_in}
+use Rattle.dup_defs.specs.dup_run_defs.Run.{DupRun, DupOutcome, goes_on, counts_spent, items_of, with_puts, put_line, puts_out, refused, offers, carry, confirm, where_up, fails, mends, changes_mode, asked, counts_on, undelivered, outstanding, span_from, span}
+use Rattle.dup_defs.specs.dup_run_defs.Steps.{DupStep, passes, stops, step_of, printed_first, ◌and◌, for_each, carry_all, confirm_all, turn, round, is_empty, rounds, work, drains, steps}
+use Rattle.law_dup.specs.events.Counted.{AreOf, AreCounted, delivered_in}
 use Rattle.law_dup.specs.Scripts.{is_refused, unless_refused, offered_in, accepted_in}
-use Rattle.dup_proof_events.specs.Kept.{IsKept, AreNear}
-use Rattle.dup_proof_events.proofs.Lists.{of_added, counted_added}
-use Rattle.dup_proof_events.proofs.Outcomes.{Good, delivered_append, accepted_good, refused_good}
-use Rattle.dup_proof_events.proofs.Legs.{carry_good, confirm_good, ask_good, up_good}
-use Rattle.dup_proof_events.proofs.Modes.{fail_good, mend_good, mode_good}
+use Rattle.law_dup.specs.events.Kept.{IsKept, AreNear}
+use Rattle.law_dup.proofs.events.Lists.{of_added, counted_added}
+use Rattle.law_dup.proofs.events.Outcomes.{Good, delivered_append, accepted_good, refused_good}
+use Rattle.law_dup.proofs.events.Legs.{carry_good, confirm_good, ask_good, up_good}
+use Rattle.law_dup.proofs.events.Modes.{fail_good, mend_good, mode_good}
 
 -- ---- the least of a list
 

@@ -1,1 +1,4 @@
 pub mod Scripts
+pub mod rows
+pub mod events
+pub mod text

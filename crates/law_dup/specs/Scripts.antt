@@ -1,12 +1,12 @@
 -- What a script says of the packets of a bearer with duplication: those that were offered and not refused, and those that were delivered.
 use Rattle.std.specs.Prelude.{◌≡◌, ℕ, ◌+◌, Bool, true, false, List, [], ◌∷◌, slice_get, Some}
 use Rattle.std.specs.List.{flat_map}
-use Rattle.dup_types.specs.declared.event.DupEvent.{DupEvent}
-use Rattle.dup_types.specs.declared.event.DupEvent.TheVariants as events
-use Rattle.dup_types.specs.declared.line.DupLine.{DupLine}
-use Rattle.dup_types.specs.declared.line.DupLine.TheVariants as lines
-use Rattle.dup_run_defs.specs.Steps.{DupHappening, DupScript}
-use Rattle.dup_proof_events.specs.Counted.{delivered_in, AreOf, AreCounted}
+use Rattle.dup_defs.specs.declared.types.event.DupEvent.{DupEvent}
+use Rattle.dup_defs.specs.declared.types.event.DupEvent.TheVariants as events
+use Rattle.dup_defs.specs.declared.types.line.DupLine.{DupLine}
+use Rattle.dup_defs.specs.declared.types.line.DupLine.TheVariants as lines
+use Rattle.dup_defs.specs.dup_run_defs.Steps.{DupHappening, DupScript}
+use Rattle.law_dup.specs.events.Counted.{delivered_in, AreOf, AreCounted}
 
 -- an event was refused
 abbrev pub is_refused : List DupLine → Bool

@@ -7,17 +7,17 @@ use Rattle.gnb_types.specs.declared.names.BearerId.{BearerId}
 use Rattle.message_types.specs.declared.rrc.Token.{Token}
 use Rattle.unit_defs.specs.Core.{CorePath, CoreRecord}
 use Rattle.unit_defs.specs.Ways.{Message, Pdu, Input, Output}
-use Rattle.run_defs.specs.transport_defs.declared.Letter.{Letter}
+use Rattle.transport_defs.specs.declared.Letter.{Letter}
 use Rattle.run_defs.specs.Runs.{Reading}
-use Rattle.law_tie_facts.specs.law_bearer_lists.chain_defs.Orders as down
-use Rattle.law_tie_facts.specs.law_bearer_lists.law_bearer_orders.Happenings.{Beside}
-use Rattle.law_tie_facts.specs.law_run_units.Happenings.{UpRecord}
-use Rattle.law_tie_facts.specs.law_run_bearers.Bearers.{Numbering, contexts_of}
-use Rattle.law_tie_facts.specs.Asked.{RunCause, IsUpStep, down_after, up_after}
-use Rattle.law_path_ties.specs.law_owed_runs.law_fresh_uplinks.law_tied_runs.law_core_ties.Core.{IsOffer, orders_offered, IsCoreStep, orders_told}
-use Rattle.law_path_ties.specs.law_owed_runs.law_fresh_uplinks.law_tied_runs.Steps.{Point}
-use Rattle.law_path_ties.specs.law_owed_runs.law_owed_orders.Owed.{final_asks}
-use Rattle.law_path_ties.specs.Paths.{Step, a_cu_up, an_offer, a_message}
+use Rattle.bearer_defs.specs.chain_defs.Orders as down
+use Rattle.proof_cu_up_orders.specs.bearer_orders.Happenings.{Beside}
+use Rattle.proof_bearer_refinement.specs.law_run_units.Happenings.{UpRecord}
+use Rattle.proof_bearer_refinement.specs.run_bearers.Bearers.{Numbering, contexts_of}
+use Rattle.proof_bearer_refinement.specs.tie_facts.Asked.{RunCause, IsUpStep, down_after, up_after}
+use Rattle.proof_bearer_refinement.specs.core_ties.Core.{IsOffer, orders_offered, IsCoreStep, orders_told}
+use Rattle.proof_bearer_refinement.specs.tied_runs.Steps.{Point}
+use Rattle.law_handover_delivers.specs.owed_orders.Owed.{final_asks}
+use Rattle.law_handover_delivers.specs.path_ties.Paths.{Step, a_cu_up, an_offer, a_message}
 use Rattle.law_guards.specs.Guards.{OfCuUp, OfMessage}
 
 module _ (reading : Reading) (n : Numbering) (ue : UeId) (bearer : BearerId) (sn : SnBits) (quota : ℕ) (p q : Point) where

@@ -7,29 +7,29 @@ use Rattle.gnb_types.specs.declared.names.UeId.{UeId}
 use Rattle.gnb_types.specs.declared.names.BearerId.{BearerId}
 use Rattle.message_types.specs.declared.rrc.Token.{Token}
 use Rattle.unit_defs.specs.Ways.{Message, Pdu, Input}
-use Rattle.run_defs.specs.transport_defs.declared.Letter.{Letter}
-use Rattle.law_core_rows.specs.Shown.{goal_by}
-use Rattle.law_tie_facts.specs.law_bearer_lists.chain_defs.Guards as down_guards
-use Rattle.law_tie_facts.specs.law_bearer_lists.law_bearer_orders.Happenings.{Beside}
-use Rattle.law_tie_facts.specs.law_run_bearers.Bearers.{Numbering, contexts_of}
-use Rattle.law_tie_facts.specs.Asked.{RunCause}
-use Rattle.law_path_ties.specs.law_owed_runs.law_owed_orders.Owed.{AllOwe, final_asks}
-use Rattle.law_path_ties.specs.law_owed_runs.law_fresh_uplinks.law_tied_runs.law_core_ties.Core.{orders_told}
-use Rattle.law_path_ties.specs.law_owed_runs.law_fresh_uplinks.law_tied_runs.Steps.{Point}
-use Rattle.law_path_ties.specs.Paths.{NamesN3}
+use Rattle.transport_defs.specs.declared.Letter.{Letter}
+use Rattle.proof_node_orders.specs.core_rows.Shown.{goal_by}
+use Rattle.bearer_defs.specs.chain_defs.Guards as down_guards
+use Rattle.proof_cu_up_orders.specs.bearer_orders.Happenings.{Beside}
+use Rattle.proof_bearer_refinement.specs.run_bearers.Bearers.{Numbering, contexts_of}
+use Rattle.proof_bearer_refinement.specs.tie_facts.Asked.{RunCause}
+use Rattle.law_handover_delivers.specs.owed_orders.Owed.{AllOwe, final_asks}
+use Rattle.proof_bearer_refinement.specs.core_ties.Core.{orders_told}
+use Rattle.proof_bearer_refinement.specs.tied_runs.Steps.{Point}
+use Rattle.law_handover_delivers.specs.path_ties.Paths.{NamesN3}
 
 module _ (n : Numbering) (ue : UeId) (bearer : BearerId) (sn : SnBits) (quota : ℕ) (p : Point) where
   -- ---- a CU-UP acts
 
   pub record OfCuUp (gnb : Gnb) (number : ℕ) (cause : RunCause) (input : Input Token Pdu) (beside : Beside) : Type 0 where
-    -- Control (`Owes` of `law_owed_orders`): a context is made as a target, a freeze leads from the context that the terminal is at to an
+    -- Control (`Owes` of `law_handover_delivers::owed_orders`): a context is made as a target, a freeze leads from the context that the terminal is at to an
     -- untouched one, by the forwarding tunnels of that one, an SN status says what the source had, switch, resume, release and closing come
     -- where they belong, and End Markers and COUNTs to a bearer that takes them. That what confirms a COUNT, or reports
-    -- one, says only what was received (`ItemOwes`) stands among them, as `law_path_ties` asks it; over runs `law_report_runs` shows it.
+    -- one, says only what was received (`ItemOwes`) stands among them, as `law_handover_delivers::path_ties` asks it; over runs `law_handover_delivers::report_runs` shows it.
     pub owes : AllOwe n ue bearer p.state.units sn quota p.down p.up (contexts_of n ue bearer p.state.units)
         (final_asks n ue bearer p.state gnb number cause input beside)
 
-  -- ---- a DU acts: where it takes what stands next on the radio up, `HomeLeads` of `law_home_ties`; else nothing (`law_du_ties`)
+  -- ---- a DU acts: where it takes what stands next on the radio up, `HomeLeads` of `proof_bearer_refinement::home_ties`; else nothing (`proof_bearer_refinement::du_ties`)
 
   -- ---- a packet is offered: nothing
 

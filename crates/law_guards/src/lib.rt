@@ -6,24 +6,23 @@ ghost use Rattle.gnb_types.specs.declared.names.Gnb.{Gnb};
 ghost use Rattle.gnb_types.specs.declared.names.SnBits.{SnBits};
 ghost use Rattle.gnb_types.specs.declared.names.UeId.{UeId};
 ghost use Rattle.law_guards.specs.Guards.{OfCuUp, OfMessage};
-ghost use Rattle.law_path_ties.specs.law_owed_runs.law_owed_orders.Owed.{final_asks};
-ghost use Rattle.law_path_ties.specs.Paths.{Step};
-ghost use Rattle.law_tie_facts.specs.Asked.{down_after, IsUpStep, RunCause, up_after};
-ghost use Rattle.law_tie_facts.specs.law_bearer_lists.chain_defs.Orders as down;
-ghost use Rattle.law_tie_facts.specs.law_bearer_lists.law_bearer_orders.Happenings.{Beside};
-ghost use Rattle.law_tie_facts.specs.law_run_bearers.Bearers.{contexts_of, Numbering};
-ghost use Rattle.law_tie_facts.specs.law_run_units.Happenings.{UpRecord};
-ghost use Rattle.law_path_ties.specs.law_owed_runs.law_fresh_uplinks.law_tied_runs.Steps.{Point};
-ghost use Rattle.law_path_ties.specs.law_owed_runs.law_fresh_uplinks.law_tied_runs.law_core_ties.Core.{IsCoreStep, IsOffer};
-ghost use Rattle.law_path_ties.specs.law_owed_runs.law_fresh_uplinks.law_tied_runs.law_core_ties.Core.{orders_offered, orders_told};
+ghost use Rattle.law_handover_delivers.specs.owed_orders.Owed.{final_asks};
+ghost use Rattle.law_handover_delivers.specs.path_ties.Paths.{Step};
+ghost use Rattle.proof_bearer_refinement.specs.tie_facts.Asked.{down_after, IsUpStep, RunCause, up_after};
+ghost use Rattle.bearer_defs.specs.chain_defs.Orders as down;
+ghost use Rattle.proof_cu_up_orders.specs.bearer_orders.Happenings.{Beside};
+ghost use Rattle.proof_bearer_refinement.specs.run_bearers.Bearers.{contexts_of, Numbering};
+ghost use Rattle.proof_bearer_refinement.specs.law_run_units.Happenings.{UpRecord};
+ghost use Rattle.proof_bearer_refinement.specs.tied_runs.Steps.{Point};
+ghost use Rattle.proof_bearer_refinement.specs.core_ties.Core.{IsCoreStep, IsOffer, orders_offered, orders_told};
 ghost use Rattle.message_types.specs.declared.rrc.Token.{Token};
 ghost use Rattle.run_defs.specs.Runs.{Reading};
-ghost use Rattle.run_defs.specs.transport_defs.declared.Letter.{Letter};
+ghost use Rattle.transport_defs.specs.declared.Letter.{Letter};
 ghost use Rattle.std.specs.Prelude.{List, ◌≡◌, ℕ};
 ghost use Rattle.unit_defs.specs.Core.{CorePath, CoreRecord};
 ghost use Rattle.unit_defs.specs.Ways.{Input, Message, Output, Pdu};
 
-/// A step of a CU-UP or the core in a run is one of those of which `law_path_ties` speaks, where what `Guards` says of it is so, and the
+/// A step of a CU-UP or the core in a run is one of those of which `law_handover_delivers::path_ties` speaks, where what `Guards` says of it is so, and the
 /// parts go on by its orders: nothing else is owed.
 pub fn nothing_else_is_owed()
     ensures cu_up { (reading : Reading) (n : Numbering) (ue : UeId) (bearer : BearerId) (sn : SnBits)

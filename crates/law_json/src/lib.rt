@@ -1,6 +1,13 @@
 //! Laws of values as JSON. Each function does nothing: its contract is the law.
 #![tactic(auto)]
 
+pub mod modules;
+pub mod one;
+pub mod rows;
+pub mod shown;
+pub mod trees;
+pub mod types;
+
 ghost use Rattle.std.specs.Prelude.{◌≡◌, ◌↔◌, ◌⊎◌, [], Some, None};
 ghost use Rattle.serde_json.specs.Data.{Data};
 ghost use Rattle.aper_defs.specs.Fields.{Path};

@@ -2,7 +2,7 @@
 use Rattle.std.proofs.Common.{◌≡◌, ℕ, ◌==◌, Bool, true, false, cond, List, [], ◌∷◌, Option, Some, None, refl, ap, ◌∙◌}
 use Rattle.std.specs.Prelude.{not, ◌&&◌, ◌||◌, if◌then◌else◌}
 use Rattle.aper_defs.specs.Values.{Value, Ies}
-use Rattle.aper_proof_answers.proofs.NumberFacts.{same}
+use Rattle.proof_aper.proofs.answers.NumberFacts.{same}
 use Rattle.message_defs.specs.profile_defs.Elements.{Element}
 use Rattle.message_defs.specs.profile_defs.Tables.{Use}
 use Rattle.message_defs.specs.Places.{Field, content_of, put_element, written_elements, element_of}

@@ -1,6 +1,14 @@
 //! Laws of messages and tokens as values. Each function does nothing: its contract is the law.
 #![tactic(auto)]
 
+pub mod heard_messages;
+pub mod law_message_octets;
+pub mod message_ranges;
+pub mod message_refusals;
+pub mod message_rows;
+pub mod message_versions;
+pub mod refused_messages;
+
 ghost use Rattle.std.specs.Prelude.{ℕ, ◌≡◌, [], Ok};
 ghost use Rattle.message_types.specs.declared.e1.E1Message.{E1Message};
 ghost use Rattle.message_types.specs.declared.xn.XnMessage.{XnMessage};

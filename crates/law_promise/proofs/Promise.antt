@@ -1,15 +1,15 @@
 -- What is written at the end of a run that was done keeps the promise.
 use Rattle.std.proofs.Common.{◌≡◌, ℕ, List, Some, subst}
 use Rattle.std.specs.List.{AllByRecursion}
-use Rattle.input_defs.specs.Split.{rest_of}
+use Rattle.command_defs.specs.input_defs.Split.{rest_of}
 use Rattle.scenario_text.specs.Texts.{InRange}
 use Rattle.scenario_text.specs.declared.event.Event.{Event}
-use Rattle.codec_defs.specs.Reading.{ReadsItems, ReadsPdus}
+use Rattle.unit_defs.specs.codec_defs.Reading.{ReadsItems, ReadsPdus}
 use Rattle.run_defs.specs.Said.{all_lines, Wires}
 use Rattle.run_defs.specs.UnitRuns.{Records, UnitRun, unit_world}
-use Rattle.plain_defs.specs.Plain.{IsPlain, KeepRange}
-use Rattle.law_wires.proofs.Runs.{wires}
-use Rattle.law_octet_downlink.proofs.Runs.{nothing_is_read, promised}
+use Rattle.run_defs.specs.plain_defs.Plain.{IsPlain, KeepRange}
+use Rattle.law_downlink_scripts.proofs.wires.Runs.{wires}
+use Rattle.law_octets_say_the_same.proofs.octet_downlink.Runs.{nothing_is_read, promised}
 use Rattle.command_defs.specs.Outside.{OutsideAt}
 use Rattle.command_defs.specs.Output.{Prints}
 use Rattle.command_run.specs.Run.{Setting, IsDone, run_of, run_text, text_to, RunMeets}

@@ -2,7 +2,7 @@
 use Rattle.std.proofs.Common.{◌≡◌, ℕ, Bool, true, false, List, [], ◌∷◌, ◌++◌, map, refl, sym, ap, ◌∙◌}
 use Rattle.std.specs.Prelude.{Result, Ok, Err, if◌then◌else◌}
 use Rattle.std.specs.List.{AllByRecursion, flat_map}
-use Rattle.script_words.specs.declared.reason.TextReason.{TextReason}
+use Rattle.scenario_text.specs.declared.script_words.reason.TextReason.{TextReason}
 use Rattle.scenario_text.specs.Grammar.{is_skipped, event_of}
 use Rattle.scenario_text.specs.Texts.{InRange, IsTextOf}
 use Rattle.scenario_text.specs.declared.event.Event.{Event}

@@ -1,7 +1,7 @@
 -- What is written where a script was run to its end, and what holds of it.
 use Rattle.std.specs.Prelude.{List, length, Some}
 use Rattle.std.specs.List.{AllByRecursion}
-use Rattle.input_defs.specs.Split.{InputSplit, rest_of, TakesInput}
+use Rattle.command_defs.specs.input_defs.Split.{InputSplit, rest_of, TakesInput}
 use Rattle.scenario_text.specs.Texts.{InRange}
 use Rattle.scenario_text.specs.declared.event.Event.{Event}
 use Rattle.run_defs.specs.Said.{all_lines, Wires}
@@ -9,8 +9,8 @@ use Rattle.command_defs.specs.Outside.{OutsideAt}
 use Rattle.command_defs.specs.Output.{Prints}
 use Rattle.command_run.specs.Run.{Setting, IsScript, run_of, GoesOn, run_text, text_to}
 use Rattle.command_run.specs.declared.end.RunEnd.TheVariants.{Done}
-use Rattle.law_octet_downlink.specs.law_octet_steady.law_octet_facts.Ranges.{IsDown}
-use Rattle.law_octet_downlink.specs.Promise.{KeepsPromise}
+use Rattle.law_octets_say_the_same.specs.octet_facts.Ranges.{IsDown}
+use Rattle.law_octets_say_the_same.specs.octet_downlink.Promise.{KeepsPromise}
 
 pub record WritesOne (setting : Setting) (before after : OutsideAt) : Type 0 where
   -- the lines that were taken are a header and these events, whose words are in their ranges

@@ -1,19 +1,19 @@
 //! The promise of the word `run`, told of what is written. Each function does nothing: its contract is the law.
 #![tactic(auto)]
 
-ghost use Rattle.codec_defs.specs.Reading.{ReadsItems, ReadsPdus};
+ghost use Rattle.unit_defs.specs.codec_defs.Reading.{ReadsItems, ReadsPdus};
 ghost use Rattle.command_defs.specs.Outside.{OutsideAt};
 ghost use Rattle.command_run.specs.Ends.{run_status};
 ghost use Rattle.command_run.specs.Run.{RunMeets, setting_of};
 ghost use Rattle.command_run.specs.declared.end.RunEnd.{RunEnd};
 ghost use Rattle.law_promise.specs.Written.{WritesOne};
-ghost use Rattle.message_proof_codec.specs.message_codec_defs.Codecs.{profile_codec};
-ghost use Rattle.plain_defs.specs.Plain.{IsPlain, KeepRange};
+ghost use Rattle.message_codec_defs.specs.Codecs.{profile_codec};
+ghost use Rattle.run_defs.specs.plain_defs.Plain.{IsPlain, KeepRange};
 ghost use Rattle.run_defs.specs.UnitRuns.{tables};
-ghost use Rattle.run_defs.specs.unit_octet_defs.Codec.{Codec};
+ghost use Rattle.unit_defs.specs.octet_defs.Codec.{Codec};
 ghost use Rattle.std.specs.Prelude.{◌≡◌};
 
-use law_plain_units::Units;
+use law_octets_say_the_same::plain_units::Units;
 
 /// Where `run` answers status 0, the sink got the text of one transcript, of all events of the script, and of no other. In this
 /// transcript links keep order; and where terminals are set up without messages, packets are offered down, and items are got and

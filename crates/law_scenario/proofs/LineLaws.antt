@@ -24,13 +24,13 @@ use Rattle.gnb_types.specs.declared.reasons.CauseName.{CauseName}
 use Rattle.gnb_types.specs.declared.reasons.CauseName.TheVariants as causes
 use Rattle.gnb_types.specs.declared.reasons.RefuseReason.{RefuseReason}
 use Rattle.gnb_types.specs.declared.reasons.RefuseReason.TheVariants as refuses
-use Rattle.script_words.specs.declared.reason.TextReason.{TextReason}
-use Rattle.script_words.specs.Forms.{◌is◌, ◌begins◌, number_of, ue_of, bearer_of, node_of, dir_of, message_of, greatest_number}
-use Rattle.script_words.specs.Ranges.{IsWithin, IsNode}
-use Rattle.script_words.proofs.FormLaws.{is_text, ue_again, bearer_again, node_again, number_again, positive_again}
-use Rattle.script_words.proofs.PlaceLaws.{Lacks, Lacks-decimal, Lacks-node, value_words-AreWordsOf}
+use Rattle.scenario_text.specs.declared.script_words.reason.TextReason.{TextReason}
+use Rattle.scenario_text.specs.script_words.Forms.{◌is◌, ◌begins◌, number_of, ue_of, bearer_of, node_of, dir_of, message_of, greatest_number}
+use Rattle.scenario_text.specs.script_words.Ranges.{IsWithin, IsNode}
+use Rattle.scenario_text.proofs.script_words.FormLaws.{is_text, ue_again, bearer_again, node_again, number_again, positive_again}
+use Rattle.scenario_text.proofs.script_words.PlaceLaws.{Lacks, Lacks-decimal, Lacks-node, value_words-AreWordsOf}
 use Rattle.scenario_text.specs.declared.event.Event.{Event}
-use Rattle.script_words.specs.Places.{value_words}
+use Rattle.scenario_text.specs.script_words.Places.{value_words}
 use Rattle.scenario_text.specs.declared.event.Keyword.{Keyword}
 use Rattle.scenario_text.specs.declared.event.Keyword.TheVariants as keywords
 use Rattle.scenario_text.specs.Grammar.{keyword_text, event_of}

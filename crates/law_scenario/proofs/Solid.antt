@@ -15,11 +15,11 @@ use Rattle.gnb_types.specs.declared.names.Dir.TheVariants.{Dl, Ul}
 use Rattle.gnb_types.specs.declared.names.SnBits.TheVariants.{Len12, Len18}
 use Rattle.gnb_types.specs.declared.names.NodeId.{NodeId}
 use Rattle.gnb_types.specs.declared.names.NodeId.TheVariants.{CuCp, CuUp, Du, Core, Ue}
-use Rattle.script_words.specs.Ranges.{IsNode}
-use Rattle.script_words.specs.Places.{Place, AtUe, AtBearer, AtGnb, AtNode, AtDir, AtNumber, AtSnBits, AtMessage, AtTunnel, AtHex, Meaning, InPlace, IsWordOf, Values, InPlaces, AreWordsOf}
-use Rattle.script_words.proofs.NumberLemmas.{own}
-use Rattle.script_words.proofs.FormLaws.{and_true}
-use Rattle.script_words.proofs.PlaceLaws.{IsEventPlace, AreEventPlaces}
+use Rattle.scenario_text.specs.script_words.Ranges.{IsNode}
+use Rattle.scenario_text.specs.script_words.Places.{Place, AtUe, AtBearer, AtGnb, AtNode, AtDir, AtNumber, AtSnBits, AtMessage, AtTunnel, AtHex, Meaning, InPlace, IsWordOf, Values, InPlaces, AreWordsOf}
+use Rattle.scenario_text.proofs.script_words.NumberLemmas.{own}
+use Rattle.scenario_text.proofs.script_words.FormLaws.{and_true}
+use Rattle.scenario_text.proofs.script_words.PlaceLaws.{IsEventPlace, AreEventPlaces}
 
 abbrev pub Solid : List ℕ → Type 0
 Solid word = list_all (λ x. nat_lt 32 x) word ≡ true

@@ -3,13 +3,13 @@ use Rattle.std.proofs.Common.{◌≡◌, ℕ, ◌⊎◌, Bool, true, false, cond
 use Rattle.std.specs.Option.{ok_or}
 use Rattle.std.specs.List.{before_first, after_first}
 use Rattle.gnb_types.specs.Hex.{read_hex}
-use Rattle.script_words.specs.declared.reason.TextReason.{TextReason}
-use Rattle.script_words.specs.declared.reason.TextReason.TheVariants.{Word, Number, Hex, Extra, Name}
-use Rattle.script_words.specs.Forms.{words, node, number, both, greatest_number, ue_of, bearer_of, gnb_of, node_of, dir_of, number_of, sn_bits_of, message_of}
-use Rattle.script_words.specs.Places.{Place, AtUe, AtBearer, AtGnb, AtNode, AtDir, AtNumber, AtSnBits, AtMessage, AtTunnel, AtHex, Meaning, Values, read_word, read_into, read_places, result_then, next_word, line_end}
-use Rattle.script_words.proofs.FormLaws.{chosen}
-use Rattle.script_words.proofs.WordLemmas.{line_end-words}
-use Rattle.script_words.proofs.PlaceLaws.{IsEventPlace, AreEventPlaces, word_sound, word_again}
+use Rattle.scenario_text.specs.declared.script_words.reason.TextReason.{TextReason}
+use Rattle.scenario_text.specs.declared.script_words.reason.TextReason.TheVariants.{Word, Number, Hex, Extra, Name}
+use Rattle.scenario_text.specs.script_words.Forms.{words, node, number, both, greatest_number, ue_of, bearer_of, gnb_of, node_of, dir_of, number_of, sn_bits_of, message_of}
+use Rattle.scenario_text.specs.script_words.Places.{Place, AtUe, AtBearer, AtGnb, AtNode, AtDir, AtNumber, AtSnBits, AtMessage, AtTunnel, AtHex, Meaning, Values, read_word, read_into, read_places, result_then, next_word, line_end}
+use Rattle.scenario_text.proofs.script_words.FormLaws.{chosen}
+use Rattle.scenario_text.proofs.script_words.WordLemmas.{line_end-words}
+use Rattle.scenario_text.proofs.script_words.PlaceLaws.{IsEventPlace, AreEventPlaces, word_sound, word_again}
 use Rattle.scenario_text.specs.declared.event.Event.TheVariants as events
 use Rattle.scenario_text.specs.declared.event.Keyword.{Keyword}
 use Rattle.scenario_text.specs.declared.event.Keyword.TheVariants as keywords

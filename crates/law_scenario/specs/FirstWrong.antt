@@ -3,11 +3,11 @@
 use Rattle.std.specs.Prelude.{◌≡◌, ◌==◌, ◌⊎◌, ℕ, List, [], ◌∷◌, if◌then◌else◌}
 use Rattle.std.specs.List.{before_first}
 use Rattle.gnb_types.specs.declared.names.NodeId.{NodeId}
-use Rattle.script_words.specs.declared.reason.TextReason.{TextReason}
-use Rattle.script_words.specs.declared.reason.TextReason.TheVariants.{Word, Number, Hex, Extra, Name}
-use Rattle.script_words.specs.Forms.{words}
-use Rattle.script_words.specs.Ranges.{IsNode}
-use Rattle.script_words.specs.Places.{Place, AtUe, AtBearer, AtGnb, AtNode, AtDir, AtNumber, AtSnBits, AtMessage, AtTunnel, AtHex, Meaning, InPlace, IsWordOf}
+use Rattle.scenario_text.specs.declared.script_words.reason.TextReason.{TextReason}
+use Rattle.scenario_text.specs.declared.script_words.reason.TextReason.TheVariants.{Word, Number, Hex, Extra, Name}
+use Rattle.scenario_text.specs.script_words.Forms.{words}
+use Rattle.scenario_text.specs.script_words.Ranges.{IsNode}
+use Rattle.scenario_text.specs.script_words.Places.{Place, AtUe, AtBearer, AtGnb, AtNode, AtDir, AtNumber, AtSnBits, AtMessage, AtTunnel, AtHex, Meaning, InPlace, IsWordOf}
 use Rattle.scenario_text.specs.declared.event.Keyword.{Keyword}
 use Rattle.scenario_text.specs.declared.event.Keyword.TheVariants as keywords
 use Rattle.scenario_text.specs.Grammar.{keyword_text, plan_places, offer_places, radio_places, bearer_places, ue_places, handover_places, message_places, tunnel_places, inject_message_places, inject_item_places, names_message, names_tunnel}

@@ -1,8 +1,8 @@
 -- The names and numbers that a line of a transcript may have: names in their ranges, numbers of their types, bytes.
 use Rattle.std.specs.Prelude.{ℕ, ◌^◌, ◌<◌, ◌≤◌, List, All, Option, Some, None}
 use Rattle.std.specs.List.{AllByRecursion}
-use Rattle.script_words.specs.Ranges.{IsWithin, IsUe, IsBearer, IsNode, IsTunnel}
-use Rattle.script_words.specs.Forms.{greatest_number}
+use Rattle.scenario_text.specs.script_words.Ranges.{IsWithin, IsUe, IsBearer, IsNode, IsTunnel}
+use Rattle.scenario_text.specs.script_words.Forms.{greatest_number}
 use Rattle.scenario_text.specs.declared.line.Link.{Link}
 use Rattle.scenario_text.specs.declared.line.Link.TheVariants.{Tunnel, Radio}
 use Rattle.scenario_text.specs.declared.line.Item.{Item}

@@ -2,7 +2,7 @@
 #![tactic(auto)]
 
 ghost use Rattle.std.specs.Prelude.{◌≡◌, ◌↔◌, ℕ, List, Err};
-ghost use Rattle.script_words.specs.declared.reason.TextReason.{TextReason};
+ghost use Rattle.scenario_text.specs.declared.script_words.reason.TextReason.{TextReason};
 ghost use Rattle.scenario_text.specs.Grammar.{event_of};
 ghost use Rattle.scenario_text.specs.Texts.{event_text, InRange, IsTextOf};
 ghost use Rattle.scenario_text.specs.declared.event.Event.{Event};

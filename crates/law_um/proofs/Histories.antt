@@ -1,6 +1,6 @@
 -- What is so of an entity after any packets and ticks.
 use Rattle.std.proofs.Common.{◌≡◌, ℕ, zero, suc, ◌+◌, ◌<◌, ◌≤◌, max, List, [], ◌∷◌, Bool, true, false, nat_lt, Option, Some, None, refl, sym, ap, ◌∙◌, subst, arith, inl, inr, ◌⊎◌}
-use Rattle.um_types.specs.declared.error.UmError.{UmError}
+use Rattle.um_defs.specs.declared.types.error.UmError.{UmError}
 use Rattle.um_defs.specs.Receivers.{UmReceiver, UmDelivery, refuses, received, ticked}
 use Rattle.law_um.specs.Sound.{IsSound, IsWithin, HasNone}
 use Rattle.law_um.specs.Histories.{Step, arrival, a_tick, arrives_unless, does, state, TakenAgo}

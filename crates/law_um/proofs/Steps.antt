@@ -5,7 +5,7 @@ use Rattle.std.specs.Ordering.{nat_cmp}
 use Rattle.std.proofs.lemmas.Bool.Decides.{nat_tests}
 use Rattle.tables.specs.Tables.{find, put}
 use Rattle.pdcp_defs.specs.Receivers.{Receiver, deliver, deliver_from, stored}
-use Rattle.um_types.specs.declared.error.UmError.TheVariants as errors
+use Rattle.um_defs.specs.declared.types.error.UmError.TheVariants as errors
 use Rattle.um_defs.specs.Receivers.{UmReceiver, UmDelivery, refuses, received, timed, handed_up, none_up, kept, started, stopped, expired, up_to_reord, ticked, ticked_at, room}
 use Rattle.law_um.specs.Sound.{IsWithin, IsRun, HasNone, IsSound}
 use Rattle.law_um.proofs.Deliveries.{wider, lower, within_put, delivered, handed, run_within, least_from}

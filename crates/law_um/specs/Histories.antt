@@ -1,6 +1,6 @@
 -- What came to a receiving entity: packets with their COUNTs, and ticks; the newest first.
 use Rattle.std.specs.Prelude.{◌≡◌, ℕ, zero, suc, List, [], ◌∷◌, Option, Some, None, ◌⊎◌}
-use Rattle.um_types.specs.declared.error.UmError.{UmError}
+use Rattle.um_defs.specs.declared.types.error.UmError.{UmError}
 use Rattle.um_defs.specs.Receivers.{UmReceiver, UmDelivery, new_um_receiver, refuses, received, none_up, ticked}
 
 pub data Step (X : Type 0) : Type 0 where

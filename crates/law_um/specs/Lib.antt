@@ -1,2 +1,4 @@
 pub mod Sound
 pub mod Histories
+pub mod run
+pub mod text

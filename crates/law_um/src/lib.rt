@@ -1,6 +1,9 @@
 //! Laws of the receiving entity of an unacknowledged bearer. Each function does nothing: its contract is the law.
 #![tactic(auto)]
 
+pub mod run;
+pub mod text;
+
 ghost use Rattle.std.specs.Prelude.{◌≡◌, ℕ, ◌+◌, ◌<◌, ◌≤◌, ◌++◌, List, ◌∷◌, Some, None};
 ghost use Rattle.std.specs.Ordering.{nat_cmp};
 ghost use Rattle.tables.specs.Tables.{put};

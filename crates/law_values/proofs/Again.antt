@@ -3,8 +3,8 @@ use Rattle.std.proofs.Common.{◌≡◌, ℕ, ◌+◌, ◌*◌, ◌<◌, List, [
 use Rattle.std.proofs.lemmas.List.Elements.{All-nil, All-cons}
 use Rattle.gnb_types.specs.Hex.{hex_of, read_hex, IsDigitOf, IsHexOf}
 use Rattle.gnb_types.proofs.HexLemmas.{read_is_hex}
-use Rattle.asn1_module.specs.asn1_assignments.declared.assignment.Syntax.{Syntax}
-use Rattle.asn1_module.specs.asn1_defs.Modules.{IsModule}
+use Rattle.asn1_syntax.specs.declared.assignments.assignment.Syntax.{Syntax}
+use Rattle.asn1_defs.specs.Modules.{IsModule}
 use Rattle.values_json.proofs.Again.{text_again}
 use Rattle.command_values.specs.declared.way.Way.TheVariants.{Encode, Decode}
 use Rattle.command_values.specs.Answers.{IsAnswered}

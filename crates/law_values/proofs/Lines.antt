@@ -5,26 +5,26 @@ use Rattle.serde_json.specs.Data.{Data}
 use Rattle.serde_json.specs.Written.{compact_text}
 use Rattle.bits_core.specs.Bits.{octet_bits}
 use Rattle.bits_core.proofs.BitLemmas.{length-octet_bits}
-use Rattle.asn1_module.specs.asn1_assignments.declared.assignment.Syntax.{Syntax}
-use Rattle.asn1_module.specs.asn1_defs.Modules.{IsModule}
+use Rattle.asn1_syntax.specs.declared.assignments.assignment.Syntax.{Syntax}
+use Rattle.asn1_defs.specs.Modules.{IsModule}
 use Rattle.aper_defs.specs.Trees.{Tree}
 use Rattle.aper_defs.specs.Values.{Value}
 use Rattle.aper_defs.specs.Bits.{put_all, octet_count}
 use Rattle.aper_defs.specs.Layouts.{layout}
 use Rattle.aper_defs.specs.Spelling.{Spells, spelling_limit, whole_layout}
-use Rattle.aper_proof_places.proofs.Opened.{closing_is, octets_are}
-use Rattle.aper_proof_spelled.proofs.Spelled.{whole_size}
-use Rattle.aper_types.specs.Types.{tree}
-use Rattle.aper_types.proofs.Bounded.{tree_bounded}
+use Rattle.proof_aper.proofs.places.Opened.{closing_is, octets_are}
+use Rattle.proof_aper.proofs.spelled.Spelled.{whole_size}
+use Rattle.aper_values.specs.types.Types.{tree}
+use Rattle.aper_values.proofs.types.Bounded.{tree_bounded}
 use Rattle.law_aper.proofs.Spelled.{one_value}
-use Rattle.aper_proof_octets.proofs.Spelled.{one_spelling}
+use Rattle.proof_aper.proofs.octets.Spelled.{one_spelling}
 use Rattle.json_defs.specs.Readings.{value_of}
 use Rattle.json_defs.specs.Demands.{demands, first_fault}
-use Rattle.json_shown_defs.specs.Printed.{shown_as}
-use Rattle.json_type_defs.specs.Types.{named}
-use Rattle.json_proof_lawful.proofs.Law.{exact, not_both}
-use Rattle.json_proof_modules.proofs.Bounded.{bounded}
-use Rattle.command_values.specs.values_json.Texts.{IsJson, IsTextOf}
+use Rattle.json_defs.specs.shown_defs.Printed.{shown_as}
+use Rattle.json_defs.specs.type_defs.Types.{named}
+use Rattle.proof_json.proofs.lawful.Law.{exact, not_both}
+use Rattle.proof_json.proofs.modules.Bounded.{bounded}
+use Rattle.values_json.specs.Texts.{IsJson, IsTextOf}
 use Rattle.command_values.specs.declared.way.Way.{Way}
 use Rattle.command_values.specs.declared.way.Way.TheVariants.{Encode, Decode}
 use Rattle.command_values.specs.declared.answer.Wrong.{Wrong}

@@ -3,14 +3,14 @@
 
 ghost use Rattle.std.specs.Prelude.{◌≡◌, ℕ, List, [], Some};
 ghost use Rattle.gnb_types.specs.Hex.{hex_of, read_hex};
-ghost use Rattle.asn1_module.specs.asn1_assignments.declared.assignment.Syntax.{Syntax};
-ghost use Rattle.asn1_module.specs.asn1_defs.Modules.{IsModule};
+ghost use Rattle.asn1_syntax.specs.declared.assignments.assignment.Syntax.{Syntax};
+ghost use Rattle.asn1_defs.specs.Modules.{IsModule};
 ghost use Rattle.aper_defs.specs.Values.{Value};
 ghost use Rattle.aper_defs.specs.Membership.{Has};
-ghost use Rattle.aper_types.specs.Types.{tree};
-ghost use Rattle.json_shown_defs.specs.Printed.{shown_as};
-ghost use Rattle.json_type_defs.specs.Types.{named};
-ghost use Rattle.command_values.specs.values_json.Texts.{IsReadAgain, IsTextOf};
+ghost use Rattle.aper_values.specs.types.Types.{tree};
+ghost use Rattle.json_defs.specs.shown_defs.Printed.{shown_as};
+ghost use Rattle.json_defs.specs.type_defs.Types.{named};
+ghost use Rattle.values_json.specs.Texts.{IsReadAgain, IsTextOf};
 ghost use Rattle.command_values.specs.declared.way.Way.{Way};
 ghost use Rattle.command_values.specs.declared.way.Way.TheVariants.{Encode, Decode};
 ghost use Rattle.command_values.specs.declared.answer.Wrong.{Wrong};

@@ -25,8 +25,8 @@ use Rattle.message_types.specs.declared.rrc.Token.TheVariants as tokens
 use Rattle.pdcp.specs.Pdus.{Content, data_pdu, status_report}
 use Rattle.link_defs.specs.Decoding.{Link, n3, f1u_downlink, f1u_uplink, forwarding_down, Item, fresh, numbered, pdu, framed, poll, status, end_of_tunnel}
 use Rattle.unit_defs.specs.Ways.{Message, f1, e1, xn, core, rrc}
-use Rattle.unit_octet_defs.specs.Codec.{Codec}
-use Rattle.unit_octet_defs.specs.Spelling.{with_containers}
+use Rattle.unit_defs.specs.octet_defs.Codec.{Codec}
+use Rattle.unit_defs.specs.octet_defs.Spelling.{with_containers}
 
 -- ---- fields as numbers
 

@@ -1,7 +1,7 @@
 -- Octets say one thing on a link.
 use Rattle.std.proofs.Common.{◌≡◌, ℕ, true, false, List, [], ◌∷◌, refl, sym, ap, subst, ◌∙◌, arith, true≢false}
-use Rattle.gtpu.specs.gnb_types.declared.names.SnBits.{SnBits}
-use Rattle.gtpu.specs.gnb_types.declared.names.SnBits.TheVariants.{Len12, Len18}
+use Rattle.gnb_types.specs.declared.names.SnBits.{SnBits}
+use Rattle.gnb_types.specs.declared.names.SnBits.TheVariants.{Len12, Len18}
 use Rattle.gtpu.specs.declared.headers.TheConstants.{NR_RAN_CONTAINER}
 use Rattle.gtpu.specs.declared.GtpuError.{GtpuError}
 use Rattle.gtpu.specs.declared.Kind.TheVariants.{GPdu, EndMarker}

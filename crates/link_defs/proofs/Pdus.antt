@@ -1,7 +1,7 @@
 -- PDCP PDUs and data frames as they are written: how many octets they have, and that they are read again.
 use Rattle.std.proofs.Common.{◌≡◌, ℕ, ◌+◌, ◌%◌, ◌^◌, ◌<◌, ◌≤◌, Bool, List, [], ◌∷◌, length, refl, arith}
-use Rattle.gtpu.specs.gnb_types.declared.names.SnBits.{SnBits}
-use Rattle.gtpu.specs.gnb_types.declared.names.SnBits.TheVariants.{Len12, Len18}
+use Rattle.gnb_types.specs.declared.names.SnBits.{SnBits}
+use Rattle.gnb_types.specs.declared.names.SnBits.TheVariants.{Len12, Len18}
 use Rattle.nr_user_plane.specs.declared.frames.Frame.TheVariants.{Data}
 use Rattle.nr_user_plane.specs.Frames.{Nru, nru_octets, filled}
 use Rattle.pdcp.specs.declared.pdu.TheConstants.{PACKET_LIMIT}

@@ -1,6 +1,6 @@
 -- The GTP-U packet that each layout of a link is.
 use Rattle.std.proofs.Common.{◌≡◌, ℕ, ◌+◌, ◌^◌, ◌<◌, ◌≤◌, List, [], ◌∷◌, ◌++◌, length, refl, sym, subst, arith}
-use Rattle.gtpu.specs.gnb_types.declared.names.SnBits.{SnBits}
+use Rattle.gnb_types.specs.declared.names.SnBits.{SnBits}
 use Rattle.gtpu.specs.declared.headers.TheConstants.{NR_RAN_CONTAINER}
 use Rattle.gtpu.specs.declared.TheConstants.{LENGTH_LIMIT}
 use Rattle.gtpu.specs.Headers.{ExtensionHeader, IsHeader}

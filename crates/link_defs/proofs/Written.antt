@@ -1,8 +1,8 @@
 -- Each layout decodes on its link, to what was put.
 use Rattle.std.proofs.Common.{◌≡◌, ℕ, ◌+◌, ◌-◌, ◌*◌, ◌/◌, ◌%◌, ◌^◌, ◌<◌, ◌≤◌, Bool, true, false, if◌then◌else◌, Option, Some, None, List, [], ◌∷◌, ◌++◌, length, replicate, flat_map, refl, sym, subst, length-append, arith, lt-ltb}
 use Rattle.std.proofs.lemmas.List.{length-replicate}
-use Rattle.gtpu.specs.gnb_types.declared.names.SnBits.{SnBits}
-use Rattle.gtpu.specs.gnb_types.declared.names.SnBits.TheVariants.{Len12, Len18}
+use Rattle.gnb_types.specs.declared.names.SnBits.{SnBits}
+use Rattle.gnb_types.specs.declared.names.SnBits.TheVariants.{Len12, Len18}
 use Rattle.gtpu.specs.declared.TheConstants.{LENGTH_LIMIT}
 use Rattle.pdcp.specs.declared.pdu.TheConstants.{PACKET_LIMIT}
 use Rattle.gtpu.specs.Headers.{ExtensionHeader, IsHeader, header_octets}
@@ -11,7 +11,7 @@ use Rattle.gtpu.proofs.Chains.{no_headers, are_one_header}
 use Rattle.gtpu.proofs.Writing.{written_is_read}
 use Rattle.nr_user_plane.specs.declared.frames.Frame.{Frame}
 use Rattle.nr_user_plane.specs.declared.frames.Frame.TheVariants.{Data, Status}
-use Rattle.gtpu.specs.gnb_types.Numbers.{be24}
+use Rattle.gnb_types.specs.Numbers.{be24}
 use Rattle.nr_user_plane.specs.Frames.{nru_octets, filled, field_octets, lost_octets, delivered_octets, FitsFrame}
 use Rattle.nr_user_plane.proofs.Spellings.{frame_written}
 use Rattle.pdcp.specs.Numbers.{space}

@@ -2,8 +2,8 @@
 -- evaluate spare bits, unused fields and the TEID.
 use Rattle.std.specs.Prelude.{◌≡◌, ℕ, ◌%◌, ◌<◌, ◌≤◌, Bool, true, false, Option, None, List, [], ◌∷◌, length}
 use Rattle.std.specs.Int.{w16, w32, from_be_bytes}
-use Rattle.gtpu.specs.gnb_types.declared.names.SnBits.{SnBits}
-use Rattle.gtpu.specs.gnb_types.declared.names.SnBits.TheVariants.{Len12, Len18}
+use Rattle.gnb_types.specs.declared.names.SnBits.{SnBits}
+use Rattle.gnb_types.specs.declared.names.SnBits.TheVariants.{Len12, Len18}
 use Rattle.gtpu.specs.declared.Kind.{Kind}
 use Rattle.gtpu.specs.declared.Kind.TheVariants.{GPdu, EndMarker}
 use Rattle.gtpu.specs.declared.headers.TheConstants.{NR_RAN_CONTAINER, PDCP_PDU_NUMBER, LONG_PDCP_PDU_NUMBER}

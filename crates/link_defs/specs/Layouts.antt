@@ -1,14 +1,14 @@
 -- What is written on each link, beside the layouts of `Links`: the TEID first, then what the packet carries.
 use Rattle.std.specs.Prelude.{ℕ, ◌%◌, Bool, true, false, Option, List, [], ◌∷◌, ◌++◌}
-use Rattle.gtpu.specs.gnb_types.declared.names.SnBits.{SnBits}
-use Rattle.gtpu.specs.gnb_types.declared.names.SnBits.TheVariants.{Len12, Len18}
+use Rattle.gnb_types.specs.declared.names.SnBits.{SnBits}
+use Rattle.gnb_types.specs.declared.names.SnBits.TheVariants.{Len12, Len18}
 use Rattle.gtpu.specs.declared.headers.TheConstants.{NR_RAN_CONTAINER, PDCP_PDU_NUMBER, LONG_PDCP_PDU_NUMBER}
 use Rattle.gtpu.specs.Headers.{ExtensionHeader}
 use Rattle.gtpu.specs.Packets.{gtpu_octets}
 use Rattle.nr_user_plane.specs.declared.frames.Frame.{Frame}
 use Rattle.nr_user_plane.specs.declared.frames.Frame.TheVariants.{Data, Status}
 use Rattle.nr_user_plane.specs.Frames.{nru_octets}
-use Rattle.gtpu.specs.gnb_types.Numbers.{be16, be24}
+use Rattle.gnb_types.specs.Numbers.{be16, be24}
 use Rattle.pdcp.specs.Numbers.{space}
 use Rattle.pdcp.specs.Pdus.{radio_data, report_octets}
 use Rattle.link_defs.specs.GPdus.{plain_pdu, pdu_with, end_packet}

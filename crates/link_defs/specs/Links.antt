@@ -1,10 +1,10 @@
 -- What stands on each link, as octets: a GTP-U packet on a tunnel (TS 29.281), with an NR-U frame on F1-U (TS 38.425),
 -- and a PDCP PDU on F1-U and on the radio (TS 38.323).
 use Rattle.std.specs.Prelude.{ℕ, ◌+◌, List, [], ◌∷◌, ◌++◌, length}
-use Rattle.gtpu.specs.gnb_types.declared.names.SnBits.{SnBits}
+use Rattle.gnb_types.specs.declared.names.SnBits.{SnBits}
 use Rattle.gtpu.specs.declared.headers.TheConstants.{NR_RAN_CONTAINER}
 -- numbers of two, three and four octets, the highest first
-pub use Rattle.gtpu.specs.gnb_types.Numbers.{be16, be24, be32}
+pub use Rattle.gnb_types.specs.Numbers.{be16, be24, be32}
 -- a PDCP data PDU: the bit for data, the low bits of the COUNT, and the packet
 unfoldable pub use Rattle.pdcp.specs.Pdus.{radio_data}
 

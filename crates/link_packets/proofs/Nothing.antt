@@ -3,7 +3,7 @@ use Rattle.std.proofs.Common.{◌≡◌, ℕ, Bool, true, false, List, [], Optio
 use Rattle.gnb_types.specs.declared.names.SnBits.{SnBits}
 use Rattle.gtpu.specs.declared.Kind.TheVariants.{GPdu}
 use Rattle.gtpu.specs.Packets.{GtpuPacket}
-use Rattle.link_defs.specs.nr_user_plane.declared.frames.Frame.TheVariants.{Data, Status}
+use Rattle.nr_user_plane.specs.declared.frames.Frame.TheVariants.{Data, Status}
 use Rattle.pdcp.specs.Pdus.{Content}
 use Rattle.link_defs.specs.Decoding.{Item, f1u_downlink, f1u_uplink, forwarding_down, forwarding_up, fresh, numbered, pdu, framed, poll, status, end_of_tunnel, CarriesPdu, IsBare, SaysFresh, SaysNumbered, SaysEnd, Says}
 use Rattle.link_defs.proofs.OneItem.{one_frame_in}

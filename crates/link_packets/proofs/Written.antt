@@ -6,9 +6,9 @@ use Rattle.std.proofs.lemmas.Nat.{and_mask}
 use Rattle.gtpu.specs.declared.headers.TheConstants.{NR_RAN_CONTAINER}
 use Rattle.gtpu.specs.Headers.{IsHeader, header_octets}
 use Rattle.gtpu.specs.Packets.{gtpu_octets}
-use Rattle.link_defs.specs.nr_user_plane.declared.frames.Frame.{Frame}
-use Rattle.link_defs.specs.nr_user_plane.declared.frames.Frame.TheVariants.{Data, Status}
-use Rattle.link_defs.specs.nr_user_plane.Frames.{nru_octets, FitsFrame}
+use Rattle.nr_user_plane.specs.declared.frames.Frame.{Frame}
+use Rattle.nr_user_plane.specs.declared.frames.Frame.TheVariants.{Data, Status}
+use Rattle.nr_user_plane.specs.Frames.{nru_octets, FitsFrame}
 use Rattle.link_defs.specs.GPdus.{pdu_with}
 use Rattle.link_defs.specs.Layouts.{frame_header, number_header}
 use Rattle.link_defs.proofs.Written.{frame_header_is, length-status}

@@ -4,8 +4,8 @@ use Rattle.gnb_types.specs.declared.names.SnBits.{SnBits}
 use Rattle.gtpu.specs.declared.headers.TheConstants.{NR_RAN_CONTAINER}
 use Rattle.gtpu.specs.Headers.{ExtensionHeader}
 use Rattle.gtpu.specs.Packets.{GtpuPacket}
-use Rattle.link_defs.specs.nr_user_plane.declared.frames.Frame.{Frame}
-use Rattle.link_defs.specs.nr_user_plane.Frames.{Nru}
+use Rattle.nr_user_plane.specs.declared.frames.Frame.{Frame}
+use Rattle.nr_user_plane.specs.Frames.{Nru}
 use Rattle.link_defs.specs.Decoding.{HasHeader, number_code, number_in}
 
 -- an NR-U frame

@@ -4,16 +4,16 @@ ghost use Rattle.std.specs.Prelude.{◌≡◌, ◌↔◌, ℕ, Bool, List, [], O
 ghost use Rattle.gtpu.specs.Headers.{IsChain};
 ghost use Rattle.gtpu.specs.Packets.{view};
 ghost use Rattle.gtpu.specs.declared.Kind.TheVariants.{GPdu};
-ghost use Rattle.link_defs.specs.nr_user_plane.declared.frames.Frame.{Frame as FrameValue};
-ghost use Rattle.link_defs.specs.nr_user_plane.declared.frames.Frame.TheVariants.{Data, Status};
+ghost use Rattle.nr_user_plane.specs.declared.frames.Frame.{Frame as FrameValue};
+ghost use Rattle.nr_user_plane.specs.declared.frames.Frame.TheVariants.{Data, Status};
 ghost use Rattle.pdcp.specs.Pdus.{Content, content_of};
 ghost use Rattle.link_defs.specs.Decoding.{IsSized, CarriesPdu, IsBare, HasHeader, SaysFresh, SaysNumbered, SaysEnd};
 ghost use Rattle.link_packets.specs.Parts.{HasFrame, HasNumber};
 
 use gnb_types::names::SnBits;
 use gtpu::{Kind, LONG_PDCP_PDU_NUMBER, NR_RAN_CONTAINER, PDCP_PDU_NUMBER, Packet};
-use link_defs::from_nr_user_plane::frames::Frame;
-use link_defs::from_nr_user_plane::ranges::Ranges;
+use nr_user_plane::frames::Frame;
+use nr_user_plane::ranges::Ranges;
 use pdcp::pdu::{PACKET_LIMIT, Pdu};
 
 /// Whether the packet is of this kind and has no optional field.
@@ -104,7 +104,7 @@ fn frame_of(packet: &Packet) -> Option<Frame>
     ensures none { IfNone result ((frame : FrameValue) → HasFrame frame (view packet.now) → ⊥) }
 {
     let content = sole_content(packet, NR_RAN_CONTAINER)?;
-    link_defs::from_nr_user_plane::frames::decode(content).ok()
+    nr_user_plane::frames::decode(content).ok()
 }
 
 /// The PDCP sequence number and the packet in a G-PDU with one header of that number.

@@ -10,7 +10,7 @@ ghost use Rattle.link_packets.specs.Items.{n3_item, downlink_item, uplink_item, 
 use crate::layers::{data_of, fresh_of, is_end, numbered_of, pdu_of, read_radio, status_of};
 use gnb_types::names::SnBits;
 use gtpu::Packet;
-use link_defs::from_nr_user_plane::ranges::Ranges;
+use nr_user_plane::ranges::Ranges;
 use pdcp::pdu::Pdu;
 
 /// A packet of N3 downlink.

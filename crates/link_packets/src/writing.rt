@@ -4,8 +4,8 @@ ghost use Rattle.std.specs.Prelude.{◌≡◌, ◌+◌, ◌^◌, ◌<◌, ◌≤
 ghost use Rattle.gtpu.specs.declared.TheConstants.{LENGTH_LIMIT};
 ghost use Rattle.gtpu.specs.Headers.{IsHeader};
 ghost use Rattle.gtpu.specs.Packets.{gtpu_octets};
-ghost use Rattle.link_defs.specs.nr_user_plane.declared.frames.Frame.TheVariants.{Status};
-ghost use Rattle.link_defs.specs.nr_user_plane.Frames.{FitsFrame};
+ghost use Rattle.nr_user_plane.specs.declared.frames.Frame.TheVariants.{Status};
+ghost use Rattle.nr_user_plane.specs.Frames.{FitsFrame};
 ghost use Rattle.link_defs.specs.Decoding.{IsSized};
 ghost use Rattle.link_defs.specs.GPdus.{plain_pdu, pdu_with};
 ghost use Rattle.link_defs.specs.Links.{n3_downlink};
@@ -16,8 +16,8 @@ use gnb_types::bits::Bits;
 use gnb_types::names::SnBits;
 use gnb_types::octets::{Memory, Octets};
 use gtpu::{Kind, LONG_PDCP_PDU_NUMBER, NR_RAN_CONTAINER, PDCP_PDU_NUMBER, Packet};
-use link_defs::from_nr_user_plane::frames::Frame;
-use link_defs::from_nr_user_plane::ranges::Ranges;
+use nr_user_plane::frames::Frame;
+use nr_user_plane::ranges::Ranges;
 use std::alloc::Global;
 
 /// The desired buffer size that a delivery status reports, in octets.
@@ -79,7 +79,7 @@ fn with_frame(alloc: Global, teid: u32, frame: &Frame, payload: &[u8]) -> Result
     requires counted { length payload.now ≤ 60000 }
     ensures { IfOk result (λ octets. octets ≡ gtpu_octets (pdu_with teid (layouts.frame_header frame.now) payload.now)) }
 {
-    let content = link_defs::from_nr_user_plane::frames::encode(alloc, frame)?;
+    let content = nr_user_plane::frames::encode(alloc, frame)?;
     with_header(alloc, teid, NR_RAN_CONTAINER, content.as_slice(), payload)
 }
 

@@ -12,7 +12,7 @@ use Rattle.std.specs.BTreeMap.{is_at, insert_entry}
 use Rattle.gnb_types.specs.declared.names.UeId.{UeId}
 use Rattle.gnb_types.specs.Orders.{ue_cmp}
 use Rattle.tables.specs.Tables.{find, put, without}
-use Rattle.links_bag.specs.transport_defs.Links.{connect}
+use Rattle.transport_defs.specs.Links.{connect}
 use Rattle.links.specs.inside.Epochs.{ue_at, entry_before, entries}
 
 is_less : (u n : ℕ) → u < n → ue_cmp (ue_at u) (ue_at n) ≡ Less

@@ -19,11 +19,11 @@ use Rattle.gnb_types.specs.Orders.{tunnel_cmp}
 use Rattle.gnb_types.proofs.OrderLemmas.{tunnel_total}
 use Rattle.tables.specs.Tables.{find, put, without, at, entry_after, first_entry, IsSorted, map_values}
 use Rattle.tables.proofs.TableLaws.{sorted-put, sorted-without, put-mapped, without-mapped, find-mapped}
-use Rattle.links_bag.specs.transport_defs.declared.Item.{Item}
-use Rattle.links_bag.specs.link_tallies.Tallies.{Tallies, entered, left, all_left}
-use Rattle.links_bag.specs.link_tallies.Tied.{AreTallies}
-use Rattle.links_bag.proofs.link_tallies.TiedLemmas.{StandThere, stand_found, stand_none, tallies-put, tallies-take, tallies-same, tallies-emptied, tallies-without, tallies-none, tallies-undone}
-use Rattle.links_bag.proofs.Entries.{sorted_none, without-put}
+use Rattle.transport_defs.specs.declared.Item.{Item}
+use Rattle.links.specs.link_tallies.Tallies.{Tallies, entered, left, all_left}
+use Rattle.links.specs.link_tallies.Tied.{AreTallies}
+use Rattle.links.proofs.link_tallies.TiedLemmas.{StandThere, stand_found, stand_none, tallies-put, tallies-take, tallies-same, tallies-emptied, tallies-without, tallies-none, tallies-undone}
+use Rattle.links.proofs.links_bag.Entries.{sorted_none, without-put}
 use Rattle.links.specs.Tunnels.{OpenTunnels, opened, place_in}
 use Rattle.links.specs.inside.Kept.{keys, TunnelsAreKept}
 

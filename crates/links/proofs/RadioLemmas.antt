@@ -12,14 +12,14 @@ use Rattle.gnb_types.specs.Orders.{entity_cmp}
 use Rattle.gnb_types.proofs.OrderLemmas.{entity_total}
 use Rattle.tables.specs.Tables.{find, put, without, at}
 use Rattle.tables.proofs.TableLaws.{sorted-put, sorted-without}
-use Rattle.links_bag.specs.transport_defs.declared.Item.{Item}
-use Rattle.links_bag.specs.transport_defs.Links.{Radio, silent, nth}
-use Rattle.links_bag.specs.link_tallies.Tallies.{Tallies, entered, left, all_left}
-use Rattle.links_bag.specs.link_tallies.Tied.{AreTallies, weight}
-use Rattle.links_bag.proofs.link_tallies.TiedLemmas.{StandThere, stand_found, tallies-put, tallies-take, tallies-same, tallies-without, tallies-none, tallies-undone}
+use Rattle.transport_defs.specs.declared.Item.{Item}
+use Rattle.transport_defs.specs.Links.{Radio, silent, nth}
+use Rattle.links.specs.link_tallies.Tallies.{Tallies, entered, left, all_left}
+use Rattle.links.specs.link_tallies.Tied.{AreTallies, weight}
+use Rattle.links.proofs.link_tallies.TiedLemmas.{StandThere, stand_found, tallies-put, tallies-take, tallies-same, tallies-without, tallies-none, tallies-undone}
 use Rattle.links.specs.Radios.{with_item, carried_on, Confirms}
 use Rattle.links.specs.inside.Kept.{RadiosAreKept}
-use Rattle.links_bag.proofs.Entries.{sorted_none}
+use Rattle.links.proofs.links_bag.Entries.{sorted_none}
 
 -- ---- one radio
 

@@ -1,4 +1,6 @@
 pub mod Radios
 pub mod Tunnels
 pub mod inside
-pub use Rattle.links_bag.specs as links_bag
+pub use Rattle.links.specs.links_bag as links_bag
+pub mod link_tallies
+pub mod links_bag

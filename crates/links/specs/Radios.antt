@@ -5,10 +5,10 @@ use Rattle.gnb_types.specs.declared.names.UeId.{UeId}
 use Rattle.gnb_types.specs.declared.keys.EntityKey.{EntityKey}
 use Rattle.gnb_types.specs.Orders.{ue_cmp, entity_cmp}
 use Rattle.tables.specs.Tables.{find, put, at}
-use Rattle.links_bag.specs.transport_defs.declared.Item.{Item}
-use Rattle.links_bag.specs.transport_defs.Links.{Radio, silent, emptied, is_epoch, connect, nth}
-use Rattle.links_bag.specs.declared.error.LinkError.TheVariants as errors
-use Rattle.links_bag.specs.Answers.{Answer, gives, refuses}
+use Rattle.transport_defs.specs.declared.Item.{Item}
+use Rattle.transport_defs.specs.Links.{Radio, silent, emptied, is_epoch, connect, nth}
+use Rattle.links.specs.declared.links_bag.error.LinkError.TheVariants as errors
+use Rattle.links.specs.links_bag.Answers.{Answer, gives, refuses}
 
 pub record RadioLinks (P : Type 0) : Type 0 where
   pub radios : List (EntityKey × Radio P)

@@ -8,9 +8,9 @@ use Rattle.gnb_types.specs.declared.keys.TunnelEnd.{TunnelEnd}
 use Rattle.gnb_types.specs.declared.keys.EntityKey.{EntityKey}
 use Rattle.gnb_types.specs.Orders.{tunnel_cmp}
 use Rattle.tables.specs.Tables.{find, put, without, at, first_entry, entry_after}
-use Rattle.links_bag.specs.transport_defs.declared.Item.{Item}
-use Rattle.links_bag.specs.declared.error.LinkError.TheVariants as errors
-use Rattle.links_bag.specs.Answers.{Answer, gives, refuses}
+use Rattle.transport_defs.specs.declared.Item.{Item}
+use Rattle.links.specs.declared.links_bag.error.LinkError.TheVariants as errors
+use Rattle.links.specs.links_bag.Answers.{Answer, gives, refuses}
 
 abbrev pub tunnel_end : NodeId → ℕ → TunnelEnd
 tunnel_end node teid = record { node = node; teid = teid }

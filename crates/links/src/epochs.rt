@@ -3,7 +3,7 @@
 ghost use Rattle.std.specs.Prelude.{◌≡◌, [], IfOk};
 ghost use Rattle.gnb_types.specs.Orders.{ue_cmp};
 ghost use Rattle.tables.specs.Tables.{find};
-ghost use Rattle.links_bag.specs.transport_defs.Links.{connect};
+ghost use Rattle.transport_defs.specs.Links.{connect};
 
 use gnb_types::items::Memory;
 use gnb_types::names::UeId;

@@ -4,7 +4,7 @@ ghost use Rattle.std.specs.Prelude.{◌≡◌, IfOk};
 
 use gnb_types::items::Memory;
 use gnb_types::octets::Octets;
-use links_bag::from_transport_defs::Item as ItemOf;
+use transport_defs::Item as ItemOf;
 
 /// An item of a tunnel or radio: its bearer and direction, the COUNT beside it, if it shows one, and its octets.
 pub type Item = ItemOf<Octets>;

@@ -1,7 +1,7 @@
 //! The radio of a bearer and direction.
 
 ghost use Rattle.std.specs.Prelude.{◌≡◌, length, IfOk, OnOk, OnErr, option_copied, slice_get};
-ghost use Rattle.links_bag.specs.transport_defs.Links.{silent};
+ghost use Rattle.transport_defs.specs.Links.{silent};
 ghost use Rattle.links.specs.Radios.{with_item, uncarried, carried_on, oldest_carried, Confirms};
 
 use crate::items::{Item, copy_item};
@@ -19,7 +19,7 @@ pub struct RadioQueue {
 
 impl Model for RadioQueue {
     ghost use Rattle.std.specs.Prelude.{List, ℕ, ◌≤◌, length};
-    ghost use Rattle.links_bag.specs.transport_defs.Links.{Radio};
+    ghost use Rattle.transport_defs.specs.Links.{Radio};
 
     ghost Value = { Radio (List ℕ) };
 

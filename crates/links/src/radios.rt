@@ -3,19 +3,19 @@
 ghost use Rattle.std.specs.Prelude.{◌≡◌, length, IfOk, OnOk, OnErr, if◌then◌else◌, option_copied};
 ghost use Rattle.gnb_types.specs.Orders.{ue_cmp, entity_cmp};
 ghost use Rattle.tables.specs.Tables.{find, put, at, IsSorted};
-ghost use Rattle.links_bag.specs.transport_defs.Links.{silent, is_epoch, radio_items, radio_counts, least_of};
-ghost use Rattle.links_bag.specs.Answers.{Answers, AnswersSurely, Shows};
+ghost use Rattle.transport_defs.specs.Links.{silent, is_epoch, radio_items, radio_counts, least_of};
+ghost use Rattle.links.specs.links_bag.Answers.{Answers, AnswersSurely, Shows};
 ghost use Rattle.links.specs.Tunnels.{entity};
 ghost use Rattle.links.specs.Radios.{no_radios, radio_of, with_item, put_item, head, carry, confirm, connected_in, failed, oldest_carried, first_of};
 
 use crate::epochs::Epochs;
 use crate::items::Item;
+use crate::link_tallies::tallies::Tallies;
+use crate::links_bag::error::LinkError;
 use crate::radio::RadioQueue;
 use gnb_types::items::Memory;
 use gnb_types::keys::EntityKey;
 use gnb_types::names::{BearerId, Dir, UeId};
-use links_bag::error::LinkError;
-use links_bag::from_link_tallies::tallies::Tallies;
 use std::alloc::Global;
 use std::marker::Model;
 use tables::table::Table;

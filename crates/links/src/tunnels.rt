@@ -3,17 +3,16 @@
 ghost use Rattle.std.specs.Prelude.{◌≡◌, ◌==◌, [], length, is_some, IfOk, OnOk, OnErr, ℕ, None};
 ghost use Rattle.gnb_types.specs.Orders.{tunnel_cmp};
 ghost use Rattle.tables.specs.Tables.{find, at, first_entry, entry_after};
-ghost use Rattle.links_bag.specs.transport_defs.Links.{tunnel_items, tunnel_counts, least_of};
-ghost use Rattle.links_bag.specs.Answers.{Answers, AnswersSurely, Shows};
-ghost use Rattle.links.specs.Tunnels.{tunnel_end, entity, no_tunnels, put_item, head, get, lose, made, opened, closed};
-ghost use Rattle.links.specs.Tunnels.{next_entry, place_in};
+ghost use Rattle.transport_defs.specs.Links.{tunnel_items, tunnel_counts, least_of};
+ghost use Rattle.links.specs.links_bag.Answers.{Answers, AnswersSurely, Shows};
+ghost use Rattle.links.specs.Tunnels.{tunnel_end, entity, no_tunnels, put_item, head, get, lose, made, opened, closed, next_entry, place_in};
 
 use crate::items::Item;
+use crate::link_tallies::tallies::Tallies;
+use crate::links_bag::error::LinkError;
 use gnb_types::items::Memory;
 use gnb_types::keys::{EntityKey, TunnelEnd};
 use gnb_types::names::{BearerId, Dir, NodeId, UeId};
-use links_bag::error::LinkError;
-use links_bag::from_link_tallies::tallies::Tallies;
 use std::alloc::Global;
 use std::marker::Model;
 use tables::queue::Queue;

@@ -1,13 +1,13 @@
 -- What is read of octets that say no message.
 use Rattle.std.proofs.Common.{◌≡◌, ℕ, List, Option, Some, None, sym, ap, ◌∙◌}
 use Rattle.std.specs.Prelude.{Result, Err}
-use Rattle.message_proof_codec.specs.message_codec_defs.unit_octet_defs.unit_defs.gnb_types.declared.reasons.DropReason.{DropReason}
-use Rattle.message_proof_codec.specs.message_codec_defs.message_octets.declared.error.MsgError.{MsgError}
-use Rattle.message_proof_codec.specs.message_codec_defs.message_octets.declared.error.MsgError.TheVariants as errors
-use Rattle.message_proof_codec.specs.message_codec_defs.message_octets.Reading.{IsReading}
-use Rattle.message_proof_codec.specs.message_codec_defs.unit_octet_defs.unit_defs.message_types.declared.rrc.Token.{Token}
-use Rattle.message_proof_codec.specs.message_codec_defs.unit_octet_defs.unit_defs.Ways.{Message}
-use Rattle.message_proof_codec.specs.message_codec_defs.Codecs.{answered, token_of}
+use Rattle.gnb_types.specs.declared.reasons.DropReason.{DropReason}
+use Rattle.message_octets.specs.declared.error.MsgError.{MsgError}
+use Rattle.message_octets.specs.declared.error.MsgError.TheVariants as errors
+use Rattle.message_octets.specs.Reading.{IsReading}
+use Rattle.message_types.specs.declared.rrc.Token.{Token}
+use Rattle.unit_defs.specs.Ways.{Message}
+use Rattle.message_codec_defs.specs.Codecs.{answered, token_of}
 use Rattle.message_codec.specs.Reasons.{reason_of}
 
 some_is : (a b : DropReason) → (let o : Option DropReason = Some a in o) ≡ Some b → a ≡ b

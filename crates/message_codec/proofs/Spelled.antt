@@ -1,16 +1,16 @@
 -- The octets of a value of a module's type.
 use Rattle.std.proofs.Common.{◌≡◌, ℕ, ◌<◌, List, []}
 use Rattle.std.specs.Prelude.{All}
-use Rattle.asn1_module.specs.asn1_assignments.declared.assignment.Syntax.{Syntax}
-use Rattle.asn1_module.specs.asn1_defs.Modules.{IsModule}
-use Rattle.message_proof_codec.specs.message_codec_defs.aper_octet_defs.aper_defs.Values.{Value}
-use Rattle.message_proof_codec.specs.message_codec_defs.aper_octet_defs.aper_defs.Bits.{octet_count}
-use Rattle.message_proof_codec.specs.message_codec_defs.aper_octet_defs.aper_defs.Membership.{Has}
-use Rattle.message_proof_codec.specs.message_codec_defs.aper_octet_defs.aper_defs.Spelling.{Spells, spelling_limit, whole_layout}
-use Rattle.message_proof_codec.specs.message_codec_defs.aper_octet_defs.Octets.{spelled_as}
-use Rattle.aper_types.specs.Types.{tree}
-use Rattle.aper_types.proofs.Bounded.{tree_bounded}
-use Rattle.aper_proof_octets.proofs.Spelled.{spelled_is, nothing_is_no_value, nothing_is_too_long}
+use Rattle.asn1_syntax.specs.declared.assignments.assignment.Syntax.{Syntax}
+use Rattle.asn1_defs.specs.Modules.{IsModule}
+use Rattle.aper_defs.specs.Values.{Value}
+use Rattle.aper_defs.specs.Bits.{octet_count}
+use Rattle.aper_defs.specs.Membership.{Has}
+use Rattle.aper_defs.specs.Spelling.{Spells, spelling_limit, whole_layout}
+use Rattle.aper_defs.specs.octet_defs.Octets.{spelled_as}
+use Rattle.aper_values.specs.types.Types.{tree}
+use Rattle.aper_values.proofs.types.Bounded.{tree_bounded}
+use Rattle.proof_aper.proofs.octets.Spelled.{spelled_is, nothing_is_no_value, nothing_is_too_long}
 
 -- its types are within the bounds of encodings, as the module was read
 module _ (m : Syntax) (n : ℕ) (v : Value) (is : IsModule m) where

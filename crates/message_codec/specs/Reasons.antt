@@ -1,9 +1,9 @@
 -- Internal: why octets that say no message are dropped; nothing where memory ran out.
 use Rattle.std.specs.Prelude.{Option, Some, None}
-use Rattle.message_proof_codec.specs.message_codec_defs.unit_octet_defs.unit_defs.gnb_types.declared.reasons.DropReason.{DropReason}
-use Rattle.message_proof_codec.specs.message_codec_defs.unit_octet_defs.unit_defs.gnb_types.declared.reasons.DropReason.TheVariants.{Undecodable, Criticality}
-use Rattle.message_proof_codec.specs.message_codec_defs.message_octets.declared.error.MsgError.{MsgError}
-use Rattle.message_proof_codec.specs.message_codec_defs.message_octets.declared.error.MsgError.TheVariants as errors
+use Rattle.gnb_types.specs.declared.reasons.DropReason.{DropReason}
+use Rattle.gnb_types.specs.declared.reasons.DropReason.TheVariants.{Undecodable, Criticality}
+use Rattle.message_octets.specs.declared.error.MsgError.{MsgError}
+use Rattle.message_octets.specs.declared.error.MsgError.TheVariants as errors
 
 abbrev pub reason_of : MsgError → Option DropReason
 reason_of (errors.Refused bit reason path) = Some Undecodable

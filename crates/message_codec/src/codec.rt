@@ -2,8 +2,8 @@
 
 ghost use Rattle.std.specs.Prelude.{◌≡◌, IfOk};
 ghost use Rattle.profile.specs.declared.version.Version.TheVariants.{One};
-ghost use Rattle.profile_module.specs.Profiles.{IsBuiltin};
-ghost use Rattle.message_proof_codec.specs.message_codec_defs.Codecs.{read_between};
+ghost use Rattle.profile.specs.profile_module.Profiles.{IsBuiltin};
+ghost use Rattle.message_codec_defs.specs.Codecs.{read_between};
 ghost use Rattle.unit_messages.specs.Messages.{answer_as};
 
 use crate::reading::{read_core, read_e1, read_f1, read_rrc, read_xn, token_in};
@@ -11,11 +11,11 @@ use crate::spelling::{spell_core, spell_e1, spell_f1, spell_token, spell_xn};
 use gnb_types::names::NodeId;
 use gnb_types::octets::{Memory, Octets};
 use gnb_types::reasons::DropReason;
-use lawful_codecs::LawfulCodec;
 use message_types::Token;
-use profile_module::{Profile, builtin};
+use profile::profile_module::{Profile, builtin};
 use std::alloc::Global;
 use std::marker::Model;
+use unit_messages::lawful_codecs::LawfulCodec;
 use unit_messages::{Message, MessageCodec};
 
 /// Messages as octets, by a profile of version 1. Contracts see the profile.
@@ -27,7 +27,7 @@ pub struct ProfileCodec {
 impl Model for ProfileCodec {
     ghost use Rattle.std.specs.Prelude.{◌≡◌};
     ghost use Rattle.profile.specs.declared.version.Version.TheVariants.{One};
-    ghost use Rattle.profile_module.specs.Profiles.{ProfileAt};
+    ghost use Rattle.profile.specs.profile_module.Profiles.{ProfileAt};
 
     ghost Value = { ProfileAt };
 
@@ -45,7 +45,7 @@ impl ProfileCodec {
         Ok(ProfileCodec { profile })
     }
 
-    /// The codec of a module that was read and is the profile's, as `agrees` of `profile_module` answers it.
+    /// The codec of a module that was read and is the profile's, as `agrees` of `profile::profile_module` answers it.
     pub fn of(profile: Profile) -> ProfileCodec
         requires { profile.version ≡ One }
         ensures { result ≡ profile }
@@ -90,7 +90,7 @@ impl ProfileCodec {
 }
 
 impl MessageCodec for ProfileCodec {
-    ghost use Rattle.message_proof_codec.specs.message_codec_defs.Codecs.{profile_codec};
+    ghost use Rattle.message_codec_defs.specs.Codecs.{profile_codec};
 
     ghost codec = { profile_codec };
 
@@ -120,7 +120,7 @@ impl MessageCodec for ProfileCodec {
 }
 
 impl LawfulCodec for ProfileCodec {
-    ghost use Rattle.message_proof_codec.proofs.Lawful.{items_are_read, pdus_are_read, messages_are_in_range};
+    ghost use Rattle.proof_message_codec.proofs.codec.Lawful.{items_are_read, pdus_are_read, messages_are_in_range};
 
     ghost reads_items = { items_are_read };
 

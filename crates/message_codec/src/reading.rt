@@ -2,25 +2,23 @@
 
 ghost use Rattle.std.specs.Prelude.{◌≡◌, Some, IfOk};
 ghost use Rattle.profile.specs.Versions.{number_of};
-ghost use Rattle.message_proof_codec.specs.message_codec_defs.message_defs.profile_defs.Profile.{f1_type, e1_type, xn_type, core_type, token_type};
-ghost use Rattle.message_proof_codec.specs.message_codec_defs.message_defs.F1.{heard_f1};
-ghost use Rattle.message_proof_codec.specs.message_codec_defs.message_defs.E1.{heard_e1};
-ghost use Rattle.message_proof_codec.specs.message_codec_defs.message_defs.Xn.{heard_xn};
-ghost use Rattle.message_proof_codec.specs.message_codec_defs.message_defs.Core.{heard_core};
-ghost use Rattle.message_proof_codec.specs.message_codec_defs.message_defs.Tokens.{heard_token};
-ghost use Rattle.message_proof_codec.specs.message_codec_defs.message_octets.Reading.{read_as};
-ghost use Rattle.message_proof_codec.specs.message_codec_defs.unit_octet_defs.unit_defs.Ways.{f1, e1, xn, core, rrc};
-ghost use Rattle.message_proof_codec.specs.message_codec_defs.Codecs.{answered, token_of};
+ghost use Rattle.message_defs.specs.profile_defs.Profile.{f1_type, e1_type, xn_type, core_type, token_type};
+ghost use Rattle.message_defs.specs.F1.{heard_f1};
+ghost use Rattle.message_defs.specs.E1.{heard_e1};
+ghost use Rattle.message_defs.specs.Xn.{heard_xn};
+ghost use Rattle.message_defs.specs.Core.{heard_core};
+ghost use Rattle.message_defs.specs.Tokens.{heard_token};
+ghost use Rattle.message_octets.specs.Reading.{read_as};
+ghost use Rattle.unit_defs.specs.Ways.{f1, e1, xn, core, rrc};
+ghost use Rattle.message_codec_defs.specs.Codecs.{answered, token_of};
 ghost use Rattle.unit_messages.specs.Messages.{answer_as};
 ghost use Rattle.message_codec.specs.Reasons.{reason_of};
 
 use gnb_types::items::Memory;
 use gnb_types::reasons::DropReason;
-use message_proof_codec::from_message_octets::{
-    MsgError, core_octets, e1_octets, f1_octets, token_octets, xn_octets,
-};
+use message_octets::{MsgError, core_octets, e1_octets, f1_octets, token_octets, xn_octets};
 use message_types::Token;
-use profile_module::Profile;
+use profile::profile_module::Profile;
 use std::alloc::Global;
 use unit_messages::Message;
 

@@ -2,29 +2,29 @@
 
 ghost use Rattle.std.specs.Prelude.{◌≡◌, ◌<◌, length, IfOk, All};
 ghost use Rattle.profile.specs.Versions.{number_of};
-ghost use Rattle.message_proof_codec.specs.message_codec_defs.message_defs.profile_defs.Profile.{f1_type, e1_type, xn_type, core_type, token_type};
-ghost use Rattle.message_proof_codec.specs.message_codec_defs.message_defs.F1.{written_f1};
-ghost use Rattle.message_proof_codec.specs.message_codec_defs.message_defs.E1.{written_e1};
-ghost use Rattle.message_proof_codec.specs.message_codec_defs.message_defs.Xn.{written_xn};
-ghost use Rattle.message_proof_codec.specs.message_codec_defs.message_defs.Core.{written_core};
-ghost use Rattle.message_proof_codec.specs.message_codec_defs.message_defs.Tokens.{written_token};
-ghost use Rattle.message_proof_codec.specs.message_codec_defs.aper_octet_defs.Octets.{spelled_as};
-ghost use Rattle.aper_types.specs.Types.{tree};
+ghost use Rattle.message_defs.specs.profile_defs.Profile.{f1_type, e1_type, xn_type, core_type, token_type};
+ghost use Rattle.message_defs.specs.F1.{written_f1};
+ghost use Rattle.message_defs.specs.E1.{written_e1};
+ghost use Rattle.message_defs.specs.Xn.{written_xn};
+ghost use Rattle.message_defs.specs.Core.{written_core};
+ghost use Rattle.message_defs.specs.Tokens.{written_token};
+ghost use Rattle.aper_defs.specs.octet_defs.Octets.{spelled_as};
+ghost use Rattle.aper_values.specs.types.Types.{tree};
 ghost use Rattle.aper_values.specs.Views.{view};
 
+use aper::{Value, encode, is_value, spelled_length};
 use asn1_module::{Module, TypeId};
+use core_messages::writing::written as core_written;
+use e1_messages::writing::written as e1_written;
+use f1_messages::writing::written as f1_written;
 use gnb_types::octets::{Memory, Octets};
-use message_proof_codec::from_aper::{Value, encode, is_value, spelled_length};
-use message_proof_codec::from_core_messages::writing::written as core_written;
-use message_proof_codec::from_e1_messages::writing::written as e1_written;
-use message_proof_codec::from_f1_messages::writing::written as f1_written;
-use message_proof_codec::from_profile_types::{core_pdu, e1_pdu, f1_pdu, rrc_token};
-use message_proof_codec::from_profile_xn::xn_pdu;
-use message_proof_codec::from_rrc_tokens::writing::written as token_written;
-use message_proof_codec::from_xn_messages::writing::written as xn_written;
 use message_types::{CoreMessage, E1Message, F1Message, Token, XnMessage};
-use profile_module::Profile;
+use profile::profile_module::Profile;
+use profile::types::{core_pdu, e1_pdu, f1_pdu, rrc_token};
+use profile::xn::xn_pdu;
+use rrc_tokens::writing::written as token_written;
 use std::alloc::Global;
+use xn_messages::writing::written as xn_written;
 
 /// The greatest number of octets of a spelling.
 const SPELLING_LIMIT: u64 = 131_072;

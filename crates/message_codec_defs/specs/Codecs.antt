@@ -1,23 +1,23 @@
 -- The codec of version 1 of the profile: the octets of a message, and the message that octets say (ITU-T X.691; TS 38.473, 37.483, 38.423).
 -- On links it reads what their layouts say (TS 29.281, TS 38.425, TS 38.323).
 use Rattle.std.specs.Prelude.{List, ℕ, Option, Some, None, Result, Ok, Err}
-use Rattle.unit_octet_defs.specs.unit_defs.gnb_types.declared.names.NodeId.{NodeId}
-use Rattle.unit_octet_defs.specs.unit_defs.gnb_types.declared.names.NodeId.TheVariants.{CuCp, CuUp, Du, Core, Ue}
-use Rattle.unit_octet_defs.specs.unit_defs.gnb_types.declared.reasons.DropReason.{DropReason}
-use Rattle.unit_octet_defs.specs.unit_defs.gnb_types.declared.reasons.DropReason.TheVariants.{Unexpected}
-use Rattle.unit_octet_defs.specs.unit_defs.message_types.declared.rrc.Token.{Token}
-use Rattle.unit_octet_defs.specs.unit_defs.Ways.{Message, f1, e1, xn, core, rrc}
-use Rattle.unit_octet_defs.specs.Codec.{Codec}
-use Rattle.aper_octet_defs.specs.Octets.{spelled_as}
-use Rattle.message_octets.specs.profile_defs.Profile.{f1_type, e1_type, xn_type, core_type, token_type}
-use Rattle.message_octets.specs.message_defs.F1.{written_f1, heard_f1}
-use Rattle.message_octets.specs.message_defs.E1.{written_e1, heard_e1}
-use Rattle.message_octets.specs.message_defs.Xn.{written_xn, heard_xn}
-use Rattle.message_octets.specs.message_defs.Core.{written_core, heard_core}
-use Rattle.message_octets.specs.message_defs.Tokens.{written_token, heard_token}
+use Rattle.gnb_types.specs.declared.names.NodeId.{NodeId}
+use Rattle.gnb_types.specs.declared.names.NodeId.TheVariants.{CuCp, CuUp, Du, Core, Ue}
+use Rattle.gnb_types.specs.declared.reasons.DropReason.{DropReason}
+use Rattle.gnb_types.specs.declared.reasons.DropReason.TheVariants.{Unexpected}
+use Rattle.message_types.specs.declared.rrc.Token.{Token}
+use Rattle.unit_defs.specs.Ways.{Message, f1, e1, xn, core, rrc}
+use Rattle.unit_defs.specs.octet_defs.Codec.{Codec}
+use Rattle.aper_defs.specs.octet_defs.Octets.{spelled_as}
+use Rattle.message_defs.specs.profile_defs.Profile.{f1_type, e1_type, xn_type, core_type, token_type}
+use Rattle.message_defs.specs.F1.{written_f1, heard_f1}
+use Rattle.message_defs.specs.E1.{written_e1, heard_e1}
+use Rattle.message_defs.specs.Xn.{written_xn, heard_xn}
+use Rattle.message_defs.specs.Core.{written_core, heard_core}
+use Rattle.message_defs.specs.Tokens.{written_token, heard_token}
 use Rattle.message_octets.specs.Reading.{read_as}
-use Rattle.link_read_defs.specs.Items.{item_on}
-use Rattle.link_read_defs.specs.Pdus.{pdu_on}
+use Rattle.link_defs.specs.read_defs.Items.{item_on}
+use Rattle.link_defs.specs.read_defs.Pdus.{pdu_on}
 use Rattle.message_codec_defs.specs.Ranges.{within_ranges}
 
 -- ---- writing: the one spelling of what is written for a message, and none where it has no spelling

@@ -1,13 +1,13 @@
 -- Codecs that read as messages of E1AP what octets say in the profile.
 use Rattle.std.specs.Prelude.{◌≡◌, ℕ, List, Ok}
-use Rattle.unit_octet_defs.specs.unit_defs.gnb_types.declared.names.NodeId.{NodeId}
-use Rattle.unit_octet_defs.specs.unit_defs.message_types.declared.e1.E1Message.{E1Message}
-use Rattle.unit_octet_defs.specs.unit_defs.Ways.{e1}
-use Rattle.unit_octet_defs.specs.Codec.{Codec}
-use Rattle.aper_octet_defs.specs.aper_defs.Values.{Value}
-use Rattle.aper_octet_defs.specs.aper_defs.Reading.{decoded}
-use Rattle.message_octets.specs.profile_defs.Profile.{e1_type}
-use Rattle.message_octets.specs.message_defs.E1.{heard_e1}
+use Rattle.gnb_types.specs.declared.names.NodeId.{NodeId}
+use Rattle.message_types.specs.declared.e1.E1Message.{E1Message}
+use Rattle.unit_defs.specs.Ways.{e1}
+use Rattle.unit_defs.specs.octet_defs.Codec.{Codec}
+use Rattle.aper_defs.specs.Values.{Value}
+use Rattle.aper_defs.specs.Reading.{decoded}
+use Rattle.message_defs.specs.profile_defs.Profile.{e1_type}
+use Rattle.message_defs.specs.E1.{heard_e1}
 
 -- the octets say this message: it is heard in the value that they spell
 abbrev pub SaysInOctets : List ℕ → E1Message → Type 0

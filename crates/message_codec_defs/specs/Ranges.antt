@@ -2,13 +2,13 @@
 -- others changes nothing, and shows at once that what it reads is in these ranges.
 use Rattle.std.specs.Prelude.{ℕ, List, length, Bool, true, ◌&&◌, nat_le, Option, Some, None, Result, Ok, Err, if◌then◌else◌}
 use Rattle.std.specs.List.{list_all}
-use Rattle.unit_octet_defs.specs.unit_defs.gnb_types.declared.plans.SnStatus.{SnStatus}
-use Rattle.unit_octet_defs.specs.unit_defs.gnb_types.declared.reasons.DropReason.{DropReason}
-use Rattle.unit_octet_defs.specs.unit_defs.gnb_types.declared.reasons.DropReason.TheVariants.{Undecodable}
-use Rattle.unit_octet_defs.specs.unit_defs.message_types.declared.e1.E1Message.{E1Message}
-use Rattle.unit_octet_defs.specs.unit_defs.message_types.declared.e1.E1Message.TheVariants as e1s
-use Rattle.unit_octet_defs.specs.unit_defs.Ways.{Message, e1}
-use Rattle.unit_octet_defs.specs.unit_defs.UpBearers.{bits_in}
+use Rattle.gnb_types.specs.declared.plans.SnStatus.{SnStatus}
+use Rattle.gnb_types.specs.declared.reasons.DropReason.{DropReason}
+use Rattle.gnb_types.specs.declared.reasons.DropReason.TheVariants.{Undecodable}
+use Rattle.message_types.specs.declared.e1.E1Message.{E1Message}
+use Rattle.message_types.specs.declared.e1.E1Message.TheVariants as e1s
+use Rattle.unit_defs.specs.Ways.{Message, e1}
+use Rattle.unit_defs.specs.UpBearers.{bits_in}
 
 abbrev pub is_short : SnStatus → Bool
 is_short s = nat_le (length (bits_in s.ul_received)) 4096

@@ -2,12 +2,11 @@
 use Rattle.std.specs.Prelude.{ℕ, [], ◌∷◌, Result, Err, if◌then◌else◌}
 use Rattle.message_types.specs.declared.xn.CoreMessage.{CoreMessage}
 use Rattle.message_types.specs.declared.xn.CoreMessage.TheVariants as cores
-use Rattle.profile_defs.specs.aper_defs.Values.{Value, Ies}
-use Rattle.profile_defs.specs.aper_defs.Values.{message, no_options}
-use Rattle.profile_defs.specs.Elements as ies
-use Rattle.profile_defs.specs.Tables.{is_at}
-use Rattle.profile_defs.specs.Messages.{path_switch_request, path_switch_acknowledge}
-use Rattle.profile_defs.specs.Profile.{core_type}
+use Rattle.aper_defs.specs.Values.{Value, Ies, message, no_options}
+use Rattle.message_defs.specs.profile_defs.Elements as ies
+use Rattle.message_defs.specs.profile_defs.Tables.{is_at}
+use Rattle.message_defs.specs.profile_defs.Messages.{path_switch_request, path_switch_acknowledge}
+use Rattle.message_defs.specs.profile_defs.Profile.{core_type}
 use Rattle.message_defs.specs.Fields.{from_number, from_peer, from_tunnels, from_ue, to_number, to_peer, to_tunnels, to_ue}
 use Rattle.message_defs.specs.Places.{has, written_message, the, elements_in}
 use Rattle.message_defs.specs.Known.{Says}

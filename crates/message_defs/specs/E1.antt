@@ -2,12 +2,11 @@
 use Rattle.std.specs.Prelude.{ℕ, [], ◌∷◌, Result, Err, if◌then◌else◌}
 use Rattle.message_types.specs.declared.e1.E1Message.{E1Message}
 use Rattle.message_types.specs.declared.e1.E1Message.TheVariants as e1s
-use Rattle.profile_defs.specs.aper_defs.Values.{Value, Ies}
-use Rattle.profile_defs.specs.aper_defs.Values.{truth, enumeral, text, message, no_options}
-use Rattle.profile_defs.specs.Elements as ies
-use Rattle.profile_defs.specs.Tables.{is_at}
-use Rattle.profile_defs.specs.Messages.{e1_setup_request, e1_setup_response, bearer_context_setup_request, bearer_context_setup_response, bearer_context_setup_failure, bearer_context_modification_request, bearer_context_modification_response, bearer_context_modification_failure, bearer_context_release_command, bearer_context_release_complete}
-use Rattle.profile_defs.specs.Profile.{e1_type}
+use Rattle.aper_defs.specs.Values.{Value, Ies, truth, enumeral, text, message, no_options}
+use Rattle.message_defs.specs.profile_defs.Elements as ies
+use Rattle.message_defs.specs.profile_defs.Tables.{is_at}
+use Rattle.message_defs.specs.profile_defs.Messages.{e1_setup_request, e1_setup_response, bearer_context_setup_request, bearer_context_setup_response, bearer_context_setup_failure, bearer_context_modification_request, bearer_context_modification_response, bearer_context_modification_failure, bearer_context_release_command, bearer_context_release_complete}
+use Rattle.message_defs.specs.profile_defs.Profile.{e1_type}
 use Rattle.message_defs.specs.Fields.{from_number, from_peer, from_sn, from_statuses, from_tunnels, from_ue, to_flag, to_index, to_number, to_peer, to_sn, to_statuses, to_text, to_tunnels, to_ue}
 use Rattle.message_defs.specs.Places.{has, may_have, written_message, the, any, elements_in}
 use Rattle.message_defs.specs.Known.{Says}

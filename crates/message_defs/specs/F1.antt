@@ -2,12 +2,11 @@
 use Rattle.std.specs.Prelude.{ℕ, List, [], ◌∷◌, Result, Err, if◌then◌else◌}
 use Rattle.message_types.specs.declared.f1.F1.{F1}
 use Rattle.message_types.specs.declared.f1.F1.TheVariants as f1s
-use Rattle.profile_defs.specs.aper_defs.Values.{Value, Ies}
-use Rattle.profile_defs.specs.aper_defs.Values.{octets, text, message, no_options}
-use Rattle.profile_defs.specs.Elements as ies
-use Rattle.profile_defs.specs.Tables.{is_at}
-use Rattle.profile_defs.specs.Messages.{f1_setup_request, f1_setup_response, ue_context_setup_request, ue_context_setup_response, ue_context_modification_request, ue_context_modification_response, ue_context_release_command, ue_context_release_complete, dl_rrc_message_transfer, ul_rrc_message_transfer}
-use Rattle.profile_defs.specs.Profile.{f1_type}
+use Rattle.aper_defs.specs.Values.{Value, Ies, octets, text, message, no_options}
+use Rattle.message_defs.specs.profile_defs.Elements as ies
+use Rattle.message_defs.specs.profile_defs.Tables.{is_at}
+use Rattle.message_defs.specs.profile_defs.Messages.{f1_setup_request, f1_setup_response, ue_context_setup_request, ue_context_setup_response, ue_context_modification_request, ue_context_modification_response, ue_context_release_command, ue_context_release_complete, dl_rrc_message_transfer, ul_rrc_message_transfer}
+use Rattle.message_defs.specs.profile_defs.Profile.{f1_type}
 use Rattle.message_defs.specs.Fields.{from_number, from_peer, from_sn, from_tunnels, from_ue, to_number, to_octets, to_peer, to_sn, to_text, to_tunnels, to_ue}
 use Rattle.message_defs.specs.Places.{has, written_message, the, elements_in}
 use Rattle.message_defs.specs.Known.{Says}

@@ -8,8 +8,7 @@ use Rattle.gnb_types.specs.declared.names.UeId.{UeId}
 use Rattle.gnb_types.specs.declared.plans.Peer.{Peer}
 use Rattle.gnb_types.specs.declared.plans.Tunnel.{Tunnel}
 use Rattle.gnb_types.specs.declared.plans.SnStatus.{SnStatus}
-use Rattle.profile_defs.specs.aper_defs.Values.{Value, Values, Options}
-use Rattle.profile_defs.specs.aper_defs.Values.{truth, number, enumeral, bits, octets, text, components, list, no_values, value, no_options, absent, present}
+use Rattle.aper_defs.specs.Values.{Value, Values, Options, truth, number, enumeral, bits, octets, text, components, list, no_values, value, no_options, absent, present}
 
 -- ---- numbers, flags and strings
 abbrev pub from_number : ℕ → Value

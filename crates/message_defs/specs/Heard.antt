@@ -1,8 +1,7 @@
 -- What is heard in a value of a PDU or of a token: a message, or why it is none.
 use Rattle.std.specs.Prelude.{ℕ, ◌==◌, List, [], ◌∷◌, Bool, false, Option, Some, None, Result, Ok, Err, not, ◌&&◌, ◌||◌, if◌then◌else◌}
-use Rattle.profile_defs.specs.aper_defs.Values.{Value, Ies}
-use Rattle.profile_defs.specs.aper_defs.Values.{message, no_ies, ie}
-use Rattle.profile_defs.specs.Tables.{Use, Message, is_at}
+use Rattle.aper_defs.specs.Values.{Value, Ies, message, no_ies, ie}
+use Rattle.message_defs.specs.profile_defs.Tables.{Use, Message, is_at}
 use Rattle.message_defs.specs.Places.{elements_in}
 
 -- The procedure isn't in the set, or has no such outcome; or the first information element that isn't known and has criticality reject.

@@ -1,11 +1,9 @@
 -- What of a value is known to its type. Information elements that the type's sets don't have and additions that it doesn't name are left
 -- out, and each criticality is the set's, reject.
 use Rattle.std.specs.Prelude.{◌≡◌, ℕ, zero, suc, ◌-◌, ◌==◌, List, [], nat_lt, if◌then◌else◌}
-use Rattle.profile_defs.specs.aper_defs.Trees.{Tree, Parts, Rows, Procedures, Outcome, Slot, slots, has_slot, part_count}
-use Rattle.profile_defs.specs.aper_defs.Trees.{sequence, choice, sequence_of, container, pdu, no_parts, part, no_rows, row, no_procedures, procedure, no_outcome, outcome}
-use Rattle.profile_defs.specs.aper_defs.Values.{Value, Values, Options, Ies}
-use Rattle.profile_defs.specs.aper_defs.Values.{components, chosen, list, elements, message, no_values, value, no_options, absent, present, no_ies, ie}
-use Rattle.profile_defs.specs.aper_defs.Membership.{Has, some_present}
+use Rattle.aper_defs.specs.Trees.{Tree, Parts, Rows, Procedures, Outcome, Slot, slots, has_slot, part_count, sequence, choice, sequence_of, container, pdu, no_parts, part, no_rows, row, no_procedures, procedure, no_outcome, outcome}
+use Rattle.aper_defs.specs.Values.{Value, Values, Options, Ies, components, chosen, list, elements, message, no_values, value, no_options, absent, present, no_ies, ie}
+use Rattle.aper_defs.specs.Membership.{Has, some_present}
 
 -- none, unless one is there
 abbrev pub if_some : Options → Options

@@ -7,4 +7,5 @@ pub mod E1
 pub mod Xn
 pub mod Core
 pub mod Tokens
-pub use Rattle.profile_defs.specs as profile_defs
+pub use Rattle.message_defs.specs.profile_defs as profile_defs
+pub mod profile_defs

@@ -1,9 +1,8 @@
 -- The fields of a message at their places: which information elements they are, and in which order, is told by the profile's table alone.
 use Rattle.std.specs.Prelude.{◌==◌, List, [], ◌∷◌, Option, Some, None, option_map, if◌then◌else◌}
-use Rattle.profile_defs.specs.aper_defs.Values.{Value, Options, Ies}
-use Rattle.profile_defs.specs.aper_defs.Values.{raw, components, elements, message, no_options, present, no_ies, ie}
-use Rattle.profile_defs.specs.Elements.{Element}
-use Rattle.profile_defs.specs.Tables.{Use, Message}
+use Rattle.aper_defs.specs.Values.{Value, Options, Ies, raw, components, elements, message, no_options, present, no_ies, ie}
+use Rattle.message_defs.specs.profile_defs.Elements.{Element}
+use Rattle.message_defs.specs.profile_defs.Tables.{Use, Message}
 
 -- ---- writing: a message's fields, in any order
 pub record Field : Type 0 where

@@ -3,9 +3,8 @@ use Rattle.std.specs.Prelude.{ℕ, ◌-◌, ◌==◌, [], Result, Ok, Err, if◌
 use Rattle.gnb_types.specs.declared.names.UeId.{UeId}
 use Rattle.message_types.specs.declared.rrc.Token.{Token}
 use Rattle.message_types.specs.declared.rrc.Token.TheVariants as tokens
-use Rattle.profile_defs.specs.aper_defs.Values.{Value, Options}
-use Rattle.profile_defs.specs.aper_defs.Values.{raw, enumeral, components, chosen, no_options, absent, present}
-use Rattle.profile_defs.specs.Profile.{token_type}
+use Rattle.aper_defs.specs.Values.{Value, Options, raw, enumeral, components, chosen, no_options, absent, present}
+use Rattle.message_defs.specs.profile_defs.Profile.{token_type}
 use Rattle.message_defs.specs.Fields.{from_number, to_number, from_ue, to_ue, to_index, gnb_index, gnb_at}
 use Rattle.message_defs.specs.Known.{Says}
 use Rattle.message_defs.specs.Heard.{Cause, unknown_procedure}

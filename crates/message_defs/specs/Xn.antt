@@ -2,12 +2,11 @@
 use Rattle.std.specs.Prelude.{ℕ, List, [], ◌∷◌, Option, Some, None, Result, Err, if◌then◌else◌}
 use Rattle.message_types.specs.declared.xn.XnMessage.{XnMessage}
 use Rattle.message_types.specs.declared.xn.XnMessage.TheVariants as xns
-use Rattle.profile_defs.specs.aper_defs.Values.{Value, Options, Ies}
-use Rattle.profile_defs.specs.aper_defs.Values.{enumeral, text, message, no_options, present}
-use Rattle.profile_defs.specs.Elements as ies
-use Rattle.profile_defs.specs.Tables.{is_at}
-use Rattle.profile_defs.specs.Messages.{handover_request, handover_request_acknowledge, handover_preparation_failure, sn_status_transfer, handover_cancel, ue_context_release, transport_confirm}
-use Rattle.profile_defs.specs.Profile.{xn_type}
+use Rattle.aper_defs.specs.Values.{Value, Options, Ies, enumeral, text, message, no_options, present}
+use Rattle.message_defs.specs.profile_defs.Elements as ies
+use Rattle.message_defs.specs.profile_defs.Tables.{is_at}
+use Rattle.message_defs.specs.profile_defs.Messages.{handover_request, handover_request_acknowledge, handover_preparation_failure, sn_status_transfer, handover_cancel, ue_context_release, transport_confirm}
+use Rattle.message_defs.specs.profile_defs.Profile.{xn_type}
 use Rattle.message_defs.specs.Fields.{from_number, from_peer, from_sn, from_statuses, from_tunnels, from_ue, to_index, to_number, to_peer, to_sn, to_statuses, to_tunnels, to_ue}
 use Rattle.message_defs.specs.Places.{has, written_message, the, elements_in, additions_in}
 use Rattle.message_defs.specs.Known.{Says}

@@ -1,15 +1,15 @@
 -- What was answered to octets says what a unit reads in them.
 use Rattle.std.proofs.Common.{◌≡◌, ℕ, List, Result, Ok, Err, ap, subst, ◌∙◌}
-use Rattle.asn1_assignments.specs.declared.assignment.Syntax.{Syntax}
-use Rattle.message_proof_refusals.specs.asn1_defs.Modules.{IsModule}
+use Rattle.asn1_syntax.specs.declared.assignments.assignment.Syntax.{Syntax}
+use Rattle.asn1_defs.specs.Modules.{IsModule}
 use Rattle.aper_defs.specs.Trees.{Tree}
 use Rattle.aper_defs.specs.Values.{Value}
 use Rattle.aper_defs.specs.Bounds.{IsBounded}
 use Rattle.aper_defs.specs.Reading.{Fault}
-use Rattle.aper_proof_spelled.proofs.Spelled.{spelled_decoded}
-use Rattle.profile_xn.specs.aper_types.Types.{tree}
-use Rattle.profile_xn.proofs.aper_types.Bounded.{tree_bounded}
-use Rattle.xn_messages.specs.message_defs.Heard.{Cause}
+use Rattle.proof_aper.proofs.spelled.Spelled.{spelled_decoded}
+use Rattle.aper_values.specs.types.Types.{tree}
+use Rattle.aper_values.proofs.types.Bounded.{tree_bounded}
+use Rattle.message_defs.specs.Heard.{Cause}
 use Rattle.message_octets.specs.declared.error.MsgError.{MsgError}
 use Rattle.message_octets.specs.declared.error.MsgError.TheVariants as errors
 use Rattle.message_octets.specs.Answers.{AreHeardAs, IsHeardIn}

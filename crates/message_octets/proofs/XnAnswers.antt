@@ -2,16 +2,16 @@
 use Rattle.std.proofs.Common.{◌≡◌, ℕ, List, Result, Ok, Err, sym, ◌∙◌}
 use Rattle.aper_defs.specs.Trees.{Tree}
 use Rattle.aper_defs.specs.Reading.{Fault, decoded}
-use Rattle.aper_loose_defs.specs.Wrong.{WrongAt}
+use Rattle.aper_defs.specs.loose_defs.Wrong.{WrongAt}
 use Rattle.profile.specs.declared.version.Version.{Version}
 use Rattle.profile.specs.declared.version.Version.TheVariants.{One, Two}
 use Rattle.profile.specs.Versions.{number_of}
-use Rattle.message_proof_refusals.specs.profile_defs.Profile.{xn_type}
+use Rattle.message_defs.specs.profile_defs.Profile.{xn_type}
 use Rattle.message_types.specs.declared.xn.XnMessage.{XnMessage}
-use Rattle.xn_messages.specs.message_defs.Xn.{heard_xn}
-use Rattle.message_proof_refusals.proofs.Types.{xn1, xn2}
-use Rattle.profile_xn.specs.Alike.{IsAlike}
-use Rattle.profile_xn.proofs.Spellings.{spells, spelled, same_decoded}
+use Rattle.message_defs.specs.Xn.{heard_xn}
+use Rattle.proof_messages.proofs.message_refusals.Types.{xn1, xn2}
+use Rattle.profile.specs.xn.Alike.{IsAlike}
+use Rattle.profile.proofs.xn.Spellings.{spells, spelled, same_decoded}
 use Rattle.message_octets.specs.declared.error.MsgError.{MsgError}
 use Rattle.message_octets.specs.declared.error.MsgError.TheVariants as errors
 use Rattle.message_octets.specs.Answers.{IsHeardIn}

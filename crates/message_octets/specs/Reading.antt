@@ -5,7 +5,7 @@ use Rattle.gnb_types.specs.declared.reasons.DropReason.TheVariants.{Undecodable,
 use Rattle.aper_defs.specs.Trees.{Tree}
 use Rattle.aper_defs.specs.Values.{Value}
 use Rattle.aper_defs.specs.Reading.{Fault, decoded}
-use Rattle.xn_messages.specs.message_defs.Heard.{Cause}
+use Rattle.message_defs.specs.Heard.{Cause}
 use Rattle.message_octets.specs.declared.error.MsgError.{MsgError}
 use Rattle.message_octets.specs.declared.error.MsgError.TheVariants as errors
 

@@ -4,21 +4,21 @@ ghost use Rattle.std.specs.Prelude.{◌≤◌, [], IfOk};
 ghost use Rattle.aper_defs.specs.Bits.{octet_count};
 ghost use Rattle.aper_defs.specs.Membership.{Has};
 ghost use Rattle.aper_defs.specs.Spelling.{Spells, spelling_limit, whole_layout};
-ghost use Rattle.message_proof_refusals.specs.profile_defs.Profile.{core_type};
-ghost use Rattle.xn_messages.specs.message_defs.Core.{written_core, heard_core};
-ghost use Rattle.e1_messages.specs.profile_types.Types.{IsTypeOf};
+ghost use Rattle.message_defs.specs.profile_defs.Profile.{core_type};
+ghost use Rattle.message_defs.specs.Core.{written_core, heard_core};
+ghost use Rattle.profile.specs.types.Types.{IsTypeOf};
 ghost use Rattle.message_octets.specs.Answers.{IsHeardIn};
 ghost use Rattle.message_octets.specs.Reading.{read_as, IsReading};
 
 use crate::error::MsgError;
 use aper::{decode, encode};
-use asn1_types::TypeId;
+use asn1_syntax::types::TypeId;
 use core_messages::hearing::heard;
 use core_messages::writing::written;
-use e1_messages::from_profile_types::core_pdu;
 use gnb_types::octets::{Memory, Octets};
 use message_types::CoreMessage;
-use profile_xn::from_profile_module::Profile;
+use profile::profile_module::Profile;
+use profile::types::core_pdu;
 use std::alloc::Global;
 
 /// The one spelling of a message, of at most 131,072 octets. Out of memory is the one error.

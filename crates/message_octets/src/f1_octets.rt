@@ -1,19 +1,19 @@
 //! The octets of messages of F1AP: the spellings of values of F1AP-PDU.
 
-ghost use Rattle.message_proof_refusals.specs.profile_defs.Profile.{f1_type};
-ghost use Rattle.xn_messages.specs.message_defs.F1.{heard_f1};
-ghost use Rattle.e1_messages.specs.profile_types.Types.{IsTypeOf};
+ghost use Rattle.message_defs.specs.profile_defs.Profile.{f1_type};
+ghost use Rattle.message_defs.specs.F1.{heard_f1};
+ghost use Rattle.profile.specs.types.Types.{IsTypeOf};
 ghost use Rattle.message_octets.specs.Answers.{IsHeardIn};
 ghost use Rattle.message_octets.specs.Reading.{read_as, IsReading};
 
 use crate::error::MsgError;
 use aper::decode;
-use asn1_types::TypeId;
-use e1_messages::from_profile_types::f1_pdu;
+use asn1_syntax::types::TypeId;
 use f1_messages::hearing::heard;
 pub use f1_messages::octets::to_bytes;
 use message_types::F1Message;
-use profile_xn::from_profile_module::Profile;
+use profile::profile_module::Profile;
+use profile::types::f1_pdu;
 use std::alloc::Global;
 
 /// The message that octets say. Information elements that the message doesn't have and whose criticality isn't reject, and additions, are

@@ -15,10 +15,3 @@ pub use e1::E1Message;
 pub use f1::{F1, F1Message};
 pub use rrc::Token;
 pub use xn::{CoreMessage, XnMessage};
-
-/// Of `gnb_types`, for crates above.
-pub mod from_gnb_types {
-    pub mod octets {
-        pub use gnb_types::octets::Memory;
-    }
-}

@@ -3,20 +3,20 @@ use Rattle.std.proofs.Common.{◌≡◌, ℕ, zero, suc, ◌+◌, ◌<◌, ◌�
 use Rattle.std.specs.Prelude.{codes, pos, negsuc, nat_lt, nat_le, ◌&&◌, ◌||◌}
 use Rattle.std.specs.List.{All}
 use Rattle.std.proofs.lemmas.List.Elements.{All-nil, All-cons}
-use Rattle.aper_values.specs.aper_defs.Trees.{Tree, Slot, integer, slots, slots_left}
-use Rattle.aper_values.specs.aper_defs.Values.{Value, Values, Ies, truth, number, enumeral, bits, octets, text, components, chosen, list, elements, message, raw, no_values, value, no_options, absent, present, no_ies, ie}
-use Rattle.aper_values.specs.aper_defs.Fields.{Path}
-use Rattle.aper_values.specs.aper_defs.Fields as fields
-use Rattle.aper_values.specs.aper_defs.Membership.{Has, HasComponents, HasRow, HasBody, HasOutcome, EachFrom, AreElements, Either, FitsOpen, IsRaw, is_number_of}
-use Rattle.aper_values.specs.aper_defs.Layouts.{layout}
-use Rattle.message_proof_elements.proofs.aper_proof_answers.NumberFacts.{at_most, second_of_both, same, by_cases}
-use Rattle.message_proof_elements.specs.profile_defs.Forms.{ProcedureRows, some_form, procedure, tree, parts, rows, procedures, outcome_tree}
-use Rattle.message_proof_elements.specs.profile_defs.BaseTypes as types
-use Rattle.message_proof_elements.specs.profile_defs.Compounds as compounds
-use Rattle.message_proof_elements.specs.profile_defs.Tables.{Use, Message, message_form, element_rows, procedure_rows, outcome_at, is_at, initiating, successful, unsuccessful, pdu_form}
-use Rattle.message_proof_elements.specs.message_defs.Fields.{to_number, to_peer, to_tunnel, to_tunnels, to_status, to_statuses, to_each}
-use Rattle.message_proof_elements.specs.message_defs.Places.{elements_in}
-use Rattle.message_proof_elements.proofs.Matched.{are_its}
+use Rattle.aper_defs.specs.Trees.{Tree, Slot, integer, slots, slots_left}
+use Rattle.aper_defs.specs.Values.{Value, Values, Ies, truth, number, enumeral, bits, octets, text, components, chosen, list, elements, message, raw, no_values, value, no_options, absent, present, no_ies, ie}
+use Rattle.aper_defs.specs.Fields.{Path}
+use Rattle.aper_defs.specs.Fields as fields
+use Rattle.aper_defs.specs.Membership.{Has, HasComponents, HasRow, HasBody, HasOutcome, EachFrom, AreElements, Either, FitsOpen, IsRaw, is_number_of}
+use Rattle.aper_defs.specs.Layouts.{layout}
+use Rattle.proof_aper.proofs.answers.NumberFacts.{at_most, second_of_both, same, by_cases}
+use Rattle.message_defs.specs.profile_defs.Forms.{ProcedureRows, some_form, procedure, tree, parts, rows, procedures, outcome_tree}
+use Rattle.message_defs.specs.profile_defs.BaseTypes as types
+use Rattle.message_defs.specs.profile_defs.Compounds as compounds
+use Rattle.message_defs.specs.profile_defs.Tables.{Use, Message, message_form, element_rows, procedure_rows, outcome_at, is_at, initiating, successful, unsuccessful, pdu_form}
+use Rattle.message_defs.specs.Fields.{to_number, to_peer, to_tunnel, to_tunnels, to_status, to_statuses, to_each}
+use Rattle.message_defs.specs.Places.{elements_in}
+use Rattle.proof_messages.proofs.message_elements.Matched.{are_its}
 use Rattle.message_values.specs.Fitting.{IsFitting, AreFitting, IsTunnel, IsStatus, limit_of}
 
 differ : (let b : Bool = false in b) ≡ true → ⊥

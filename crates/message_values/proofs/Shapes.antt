@@ -9,8 +9,8 @@ use Rattle.gnb_types.specs.declared.names.Gnb.TheVariants.{A}
 use Rattle.gnb_types.specs.declared.plans.Peer.{Peer}
 use Rattle.gnb_types.specs.declared.plans.Tunnel.{Tunnel}
 use Rattle.gnb_types.specs.declared.plans.SnStatus.{SnStatus}
-use Rattle.aper_values.specs.aper_defs.Values.{Value, Values, truth, number, enumeral, bits, octets, text, components, chosen, list, elements, message, raw, no_values, value, no_options, absent, present}
-use Rattle.message_proof_elements.specs.message_defs.Fields.{gnb_at, to_index, to_number, to_peer, to_tunnel, to_status, to_tunnels, to_statuses, to_each, from_each}
+use Rattle.aper_defs.specs.Values.{Value, Values, truth, number, enumeral, bits, octets, text, components, chosen, list, elements, message, raw, no_values, value, no_options, absent, present}
+use Rattle.message_defs.specs.Fields.{gnb_at, to_index, to_number, to_peer, to_tunnel, to_status, to_tunnels, to_statuses, to_each, from_each}
 use Rattle.message_values.specs.Parts.{option_at, part_at, members_in}
 use Rattle.message_values.specs.Fitting.{limit_of}
 

@@ -1,8 +1,8 @@
 -- The information elements of the profile's table, by the names that code has for them.
-use Rattle.message_proof_elements.specs.profile_defs.Elements.{Element}
-use Rattle.message_proof_elements.specs.profile_defs.Elements as ies
-use Rattle.message_proof_elements.specs.profile_defs.Tables.{mandatory, optional}
-use Rattle.message_proof_elements.specs.profile_defs.Tables as tables
+use Rattle.message_defs.specs.profile_defs.Elements.{Element}
+use Rattle.message_defs.specs.profile_defs.Elements as ies
+use Rattle.message_defs.specs.profile_defs.Tables.{mandatory, optional}
+use Rattle.message_defs.specs.profile_defs.Tables as tables
 use Rattle.message_values.specs.declared.elements.ElementName.{ElementName}
 use Rattle.message_values.specs.declared.elements.ElementName.TheVariants as names
 use Rattle.message_values.specs.declared.elements.Use.{Use}

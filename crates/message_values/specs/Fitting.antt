@@ -3,8 +3,8 @@ use Rattle.std.specs.Prelude.{ℕ, ◌^◌, ◌<◌, ◌==◌, ◌||◌, if◌th
 use Rattle.std.specs.List.{All}
 use Rattle.gnb_types.specs.declared.plans.Tunnel.{Tunnel}
 use Rattle.gnb_types.specs.declared.plans.SnStatus.{SnStatus}
-use Rattle.aper_values.specs.aper_defs.Values.{Value, Ies, no_ies, ie}
-use Rattle.message_proof_elements.specs.message_defs.Fields.{to_number, to_peer, to_tunnels, to_statuses}
+use Rattle.aper_defs.specs.Values.{Value, Ies, no_ies, ie}
+use Rattle.message_defs.specs.Fields.{to_number, to_peer, to_tunnels, to_statuses}
 
 -- A terminal, the number of bearers and a DU are octets; a quota has two of them; other numbers have four.
 abbrev pub limit_of : ℕ → ℕ

@@ -1,6 +1,6 @@
 -- What is answered to a value: what the definitions hear in it, or out of memory.
 use Rattle.std.specs.Prelude.{◌≡◌, Result, Ok, Err}
-use Rattle.message_proof_elements.specs.message_defs.Heard.{Cause, unknown_procedure, unknown_element}
+use Rattle.message_defs.specs.Heard.{Cause, unknown_procedure, unknown_element}
 use Rattle.message_values.specs.declared.error.MsgError.{MsgError}
 use Rattle.message_values.specs.declared.error.MsgError.TheVariants as errors
 

@@ -1,6 +1,6 @@
 -- Components by their numbers, and members.
 use Rattle.std.specs.Prelude.{ℕ, zero, suc, List, Bool, Option, Some, None}
-use Rattle.aper_values.specs.aper_defs.Values.{Value, Values, Options, bits, components, list, no_values, no_options, absent, present}
+use Rattle.aper_defs.specs.Values.{Value, Values, Options, bits, components, list, no_values, no_options, absent, present}
 
 abbrev pub option_at : ℕ → Options → Option Value
 option_at n no_options = None

@@ -1,8 +1,8 @@
 -- The elements of a message in the order in which they are given, each where it is there.
 use Rattle.std.specs.Prelude.{ℕ, List, [], ◌∷◌, Option, Some, None, option_map}
 use Rattle.std.specs.List.{flat_map}
-use Rattle.aper_values.specs.aper_defs.Values as seen
-use Rattle.aper_values.specs.aper_defs.Values.{components, elements, message, no_options, present}
+use Rattle.aper_defs.specs.Values as seen
+use Rattle.aper_defs.specs.Values.{components, elements, message, no_options, present}
 use Rattle.aper_values.specs.declared.value.Element.{Element}
 use Rattle.aper_values.specs.declared.value.Value.{Value}
 use Rattle.aper_values.specs.Views.{view, ies_of}

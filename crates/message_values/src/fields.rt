@@ -2,9 +2,9 @@
 
 ghost use Rattle.std.specs.Prelude.{◌≡◌, ◌<◌, ◌^◌, IfOk, Option, option_map, option_copied};
 ghost use Rattle.std.specs.List.{All};
-ghost use Rattle.aper_values.specs.aper_defs.Values as seen;
+ghost use Rattle.aper_defs.specs.Values as seen;
 ghost use Rattle.aper_values.specs.Views.{view, values_view, options_view};
-ghost use Rattle.message_proof_elements.specs.message_defs.Fields.{from_number, to_number, from_ue, to_ue, to_index, to_flag, to_octets, to_text, gnb_index, gnb_at, sn_index, sn_at, from_sn, to_sn, from_peer, to_peer, from_tunnel, to_tunnel, from_tunnels, to_tunnels, from_status, to_status, from_statuses, to_statuses};
+ghost use Rattle.message_defs.specs.Fields.{from_number, to_number, from_ue, to_ue, to_index, to_flag, to_octets, to_text, gnb_index, gnb_at, sn_index, sn_at, from_sn, to_sn, from_peer, to_peer, from_tunnel, to_tunnel, from_tunnels, to_tunnels, from_status, to_status, from_statuses, to_statuses};
 ghost use Rattle.message_values.specs.Parts.{option_at, part_at, members_in, received_of};
 ghost use Rattle.message_values.specs.Fitting.{IsTunnel, IsStatus};
 

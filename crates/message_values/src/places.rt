@@ -1,7 +1,7 @@
 //! The value of a message from its information elements, which stand in the order in which they are given.
 
 ghost use Rattle.std.specs.Prelude.{◌≡◌, ◌++◌, map, IfOk, OnOk};
-ghost use Rattle.aper_values.specs.aper_defs.Values.{no_options};
+ghost use Rattle.aper_defs.specs.Values.{no_options};
 ghost use Rattle.aper_values.specs.Views.{view, options_view, element_view, ies_view};
 ghost use Rattle.message_values.specs.Written.{put_one, put_all, message_of};
 

@@ -13,8 +13,8 @@ use Rattle.std.proofs.lemmas.List.Sums.{sum_by-cons}
 use Rattle.gnb_types.specs.declared.keys.EntityKey.{EntityKey}
 use Rattle.gnb_types.specs.Orders.{entity_cmp}
 use Rattle.gnb_types.proofs.OrderLemmas.{entity_total}
-use Rattle.pool_defs.specs.tables.Tables.{find, put, without, at, map_values, IsSorted}
-use Rattle.pool_defs.proofs.tables.TableLaws.{find-mapped, put-mapped, without-mapped, sum-put, sum-without, sorted-put, sorted-without}
+use Rattle.tables.specs.Tables.{find, put, without, at, map_values, IsSorted}
+use Rattle.tables.proofs.TableLaws.{find-mapped, put-mapped, without-mapped, sum-put, sum-without, sorted-put, sorted-without}
 use Rattle.packet_pool.specs.declared.accounts.Account.{Account}
 use Rattle.packet_pool.specs.inside.Accounts.{total, quotas_of, used_of, AreAccounts}
 

@@ -10,9 +10,9 @@ use Rattle.std.specs.Map.{lookup}
 use Rattle.std.specs.BTreeMap.{is_at, insert_entry}
 use Rattle.std.proofs.lemmas.Bool.{eqb-false}
 use Rattle.std.proofs.lemmas.Cmp.{nat_cmp_total}
-use Rattle.pool_defs.specs.tables.Tables.{find, put, without, IsSorted}
-use Rattle.pool_defs.proofs.tables.TableLaws.{other_key, sorted-put}
-use Rattle.pool_defs.proofs.PoolLaws.{numbers_ordered}
+use Rattle.tables.specs.Tables.{find, put, without, IsSorted}
+use Rattle.tables.proofs.TableLaws.{other_key, sorted-put}
+use Rattle.pdcp_defs.proofs.pool_defs.PoolLaws.{numbers_ordered}
 use Rattle.packet_pool.specs.inside.Pools.{entry_before, entries}
 
 is_here : (k n : ℕ) → k ≡ n → is_at (nat_cmp k) n ≡ true

@@ -13,10 +13,10 @@ use Rattle.std.proofs.lemmas.List.Sums.{sum_by-cons}
 use Rattle.gnb_types.specs.declared.keys.EntityKey.{EntityKey}
 use Rattle.gnb_types.specs.Orders.{entity_cmp}
 use Rattle.gnb_types.proofs.OrderLemmas.{entity_total, entity_exact}
-use Rattle.pool_defs.specs.tables.Tables.{find, put, without, at, IsSorted, IsKeyOrder}
-use Rattle.pool_defs.proofs.tables.TableLaws.{at-put, at-without, other_key}
-use Rattle.pool_defs.specs.Pools.{Stored, PoolState, new_pool, is_of, used, packet_of, with_packet, without_packet, IsPool}
-use Rattle.pool_defs.proofs.PoolLaws.{held_apart, same_number, used_put, used_take}
+use Rattle.tables.specs.Tables.{find, put, without, at, IsSorted, IsKeyOrder}
+use Rattle.tables.proofs.TableLaws.{at-put, at-without, other_key}
+use Rattle.pdcp_defs.specs.pool_defs.Pools.{Stored, PoolState, new_pool, is_of, used, packet_of, with_packet, without_packet, IsPool}
+use Rattle.pdcp_defs.proofs.pool_defs.PoolLaws.{held_apart, same_number, used_put, used_take}
 use Rattle.packet_pool.specs.declared.region.Block.{Block}
 use Rattle.packet_pool.specs.declared.contents.Content.{Content}
 use Rattle.packet_pool.specs.inside.Regions.{RegionState, octets_at, numbers_from}

@@ -7,9 +7,9 @@ use Rattle.std.proofs.lemmas.Bool.Decides.{nat_tests}
 use Rattle.std.proofs.lemmas.Option.{slice_get_past}
 use Rattle.std.proofs.lemmas.List.{length-take}
 use Rattle.gnb_types.specs.Orders.{entity_cmp}
-use Rattle.pool_defs.specs.tables.Tables.{find, at}
-use Rattle.pool_defs.specs.Pools.{Stored, used, quota, reserved, is_parked, packet_of, packet_by, packet_at, AreApart, IsPool}
-use Rattle.pool_defs.proofs.PoolLaws.{found_parked, held_apart}
+use Rattle.tables.specs.Tables.{find, at}
+use Rattle.pdcp_defs.specs.pool_defs.Pools.{Stored, used, quota, reserved, is_parked, packet_of, packet_by, packet_at, AreApart, IsPool}
+use Rattle.pdcp_defs.proofs.pool_defs.PoolLaws.{found_parked, held_apart}
 use Rattle.packet_pool.specs.declared.region.Block.{Block}
 use Rattle.packet_pool.specs.declared.contents.Content.{Content}
 use Rattle.packet_pool.specs.inside.Regions.{RegionState, octets_at}

@@ -2,14 +2,14 @@
 
 ghost use Rattle.std.specs.Prelude.{◌≡◌, ◌+◌, ◌-◌, ◌<◌, ◌≤◌, [], None, OnOk, OnErr};
 ghost use Rattle.gnb_types.specs.Orders.{entity_cmp};
-ghost use Rattle.pool_defs.specs.tables.Tables.{find, put, without, at, IsSorted};
+ghost use Rattle.tables.specs.Tables.{find, put, without, at, IsSorted};
 ghost use Rattle.packet_pool.specs.inside.Accounts.{total};
 
 use gnb_types::items::Memory;
 use gnb_types::keys::EntityKey;
-use pool_defs::from_tables::table::Table;
 use std::alloc::Global;
 use std::marker::Model;
+use tables::table::Table;
 use thiserror::Error;
 
 /// The quota of the key is used up.

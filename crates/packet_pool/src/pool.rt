@@ -4,8 +4,8 @@ ghost use Rattle.std.specs.Prelude.{◌≡◌, ◌<◌, ◌≤◌, ◌+◌, leng
 ghost use Rattle.std.specs.Option.{option_map};
 ghost use Rattle.std.specs.Ordering.{nat_cmp};
 ghost use Rattle.gnb_types.specs.Orders.{entity_cmp};
-ghost use Rattle.pool_defs.specs.tables.Tables.{find};
-ghost use Rattle.pool_defs.specs.Pools.{quota, used, reserved, packet_of, packet_at, new_pool, with_quota, without_quota, with_packet, without_packet, with_place, without_place, is_parked, IsPool};
+ghost use Rattle.tables.specs.Tables.{find};
+ghost use Rattle.pdcp_defs.specs.pool_defs.Pools.{quota, used, reserved, packet_of, packet_at, new_pool, with_quota, without_quota, with_packet, without_packet, with_place, without_place, is_parked, IsPool};
 
 use crate::accounts::{Accounts, QuotaError, QuotaUsed};
 use crate::contents::{Content, mark, octets};
@@ -41,7 +41,7 @@ pub struct Pool {
 }
 
 impl Model for Pool {
-    ghost use Rattle.pool_defs.specs.Pools.{PoolState};
+    ghost use Rattle.pdcp_defs.specs.pool_defs.Pools.{PoolState};
     ghost use Rattle.packet_pool.specs.inside.Pools.{state, IsTied};
 
     ghost Value = { PoolState };

@@ -1,7 +1,7 @@
 -- The COUNT of a received number (TS 38.323, 5.2.2, 6.3.5), as a function of the number. Each is told of the COUNT raised by
 -- one space of numbers, which is never below 0.
 use Rattle.std.specs.Prelude.{ℕ, ◌+◌, ◌-◌, ◌%◌, ◌||◌, nat_lt, if◌then◌else◌, Option, Some, None}
-use Rattle.tables.specs.gnb_types.declared.names.SnBits.{SnBits}
+use Rattle.gnb_types.specs.declared.names.SnBits.{SnBits}
 use Rattle.pdcp.specs.Numbers.{space, half}
 use Rattle.pdcp.specs.Near.{last_count}
 

@@ -1,7 +1,7 @@
 -- The transmitting PDCP entity (TS 38.323, 5.2.1): TX_NEXT, and the packets that nothing confirmed, each with its COUNT, in
 -- ascending order. What stands for a packet is a parameter.
 use Rattle.std.specs.Prelude.{ℕ, ◌+◌, ◌-◌, Bool, true, false, not, ◌&&◌, ◌||◌, nat_lt, nat_le, min, List, [], ◌∷◌, ◌++◌, filter, Option, Some, None, slice_get, unwrap_or}
-use Rattle.tables.specs.gnb_types.declared.names.SnBits.{SnBits}
+use Rattle.gnb_types.specs.declared.names.SnBits.{SnBits}
 use Rattle.pdcp.specs.Numbers.{half}
 
 pub record Sender (X : Type 0) : Type 0 where

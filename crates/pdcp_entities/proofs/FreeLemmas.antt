@@ -4,9 +4,9 @@ use Rattle.std.specs.Prelude.{IsSome, is_some}
 use Rattle.std.specs.Ordering.{nat_cmp}
 use Rattle.std.specs.List.{AllByRecursion}
 use Rattle.std.proofs.lemmas.Bool.{eqb-false}
-use Rattle.pdcp_defs.specs.tables.Tables.{find}
-use Rattle.packet_pool.specs.pool_defs.Pools.{Stored, PoolState, is_parked, packet_of, packet_at, packet_by, with_packet, without_packet, with_place, without_place, AreApart, IsPool}
-use Rattle.packet_pool.proofs.pool_defs.PoolLaws.{found_parked, packet_of_unpark, packet_of_unpark_other, packet_at_unpark, packet_at_unpark_other, packet_of_take, packet_of_take_other, packet_at_take}
+use Rattle.tables.specs.Tables.{find}
+use Rattle.pdcp_defs.specs.pool_defs.Pools.{Stored, PoolState, is_parked, packet_of, packet_at, packet_by, with_packet, without_packet, with_place, without_place, AreApart, IsPool}
+use Rattle.pdcp_defs.proofs.pool_defs.PoolLaws.{found_parked, packet_of_unpark, packet_of_unpark_other, packet_at_unpark, packet_at_unpark_other, packet_of_take, packet_of_take_other, packet_at_take}
 use Rattle.pdcp_entities.specs.Packets.{AreParked, HasNone, OthersStay, Frees, freed, freed_by, all_freed}
 use Rattle.pdcp_entities.specs.inside.Freeing.{freed_if, AreLeft}
 

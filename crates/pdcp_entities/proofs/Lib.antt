@@ -7,5 +7,3 @@ pub mod RxLemmas
 pub mod SlotLemmas
 pub mod TurnLemmas
 pub mod TxLemmas
-pub use Rattle.pdcp_defs.proofs.tables as tables
-pub use Rattle.packet_pool.proofs.pool_defs as pool_defs

@@ -5,8 +5,8 @@ use Rattle.std.proofs.lemmas.Bool.Decides.{nat_tests}
 use borrow.Author.Tests.{ltb-true}
 use Rattle.gnb_types.specs.declared.names.SnBits.{SnBits}
 use Rattle.gnb_types.specs.declared.names.SnBits.TheVariants.{Len12, Len18}
-use Rattle.pdcp_defs.specs.pdcp.Numbers.{space, half}
-use Rattle.pdcp_defs.specs.pdcp.Near.{IsNear, IsRaised, last_count}
+use Rattle.pdcp.specs.Numbers.{space, half}
+use Rattle.pdcp.specs.Near.{IsNear, IsRaised, last_count}
 use Rattle.pdcp_defs.specs.Counts.{near_count, first_from, lowered}
 
 first_same : (sn : SnBits) (low number : ℕ) → first_from sn low number % space sn ≡ number % space sn

@@ -8,10 +8,10 @@ use Rattle.std.specs.declared.cmp.Ordering.TheVariants.{Less, Equal, Greater}
 use Rattle.std.specs.List.{AllByRecursion}
 use Rattle.std.specs.BTreeMap.{insert_entry}
 use Rattle.gnb_types.proofs.OrderLemmas.{entity_total}
-use Rattle.pdcp_defs.specs.tables.Tables.{find, put, map_values}
-use Rattle.pdcp_defs.proofs.tables.TableLaws.{put-mapped}
-use Rattle.packet_pool.specs.pool_defs.Pools.{Stored, PoolState, is_parked, used, packet_of, packet_at, packet_by, with_packet, without_packet, with_place, without_place, AreApart, IsPool}
-use Rattle.packet_pool.proofs.pool_defs.PoolLaws.{used_put, packet_of_put, packet_of_put_other, packet_at_put, packet_at_take, packet_of_park, packet_of_park_other, packet_at_park, packet_at_park_other, packet_of_unpark, packet_of_unpark_other, packet_at_unpark, packet_at_unpark_other}
+use Rattle.tables.specs.Tables.{find, put, map_values}
+use Rattle.tables.proofs.TableLaws.{put-mapped}
+use Rattle.pdcp_defs.specs.pool_defs.Pools.{Stored, PoolState, is_parked, used, packet_of, packet_at, packet_by, with_packet, without_packet, with_place, without_place, AreApart, IsPool}
+use Rattle.pdcp_defs.proofs.pool_defs.PoolLaws.{used_put, packet_of_put, packet_of_put_other, packet_at_put, packet_at_take, packet_of_park, packet_of_park_other, packet_at_park, packet_at_park_other, packet_of_unpark, packet_of_unpark_other, packet_at_unpark, packet_at_unpark_other}
 use Rattle.pdcp_entities.specs.Packets.{AreParked, HasNone, OthersStay, Parks, Puts, Unparks, Frees, bytes_of, octets_at, octets_in}
 use Rattle.pdcp_entities.proofs.FreeLemmas.{same_or_other, all_append, all_both}
 use Rattle.pdcp_entities.proofs.TurnLemmas.{passing}

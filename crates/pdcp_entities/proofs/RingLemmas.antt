@@ -7,7 +7,7 @@ use Rattle.std.specs.List.{AllByRecursion}
 use Rattle.std.specs.Ordering.{nat_cmp}
 use Rattle.std.specs.BTreeMap.{insert_entry, is_at}
 use Rattle.std.specs.Map.{lookup}
-use Rattle.pdcp_defs.specs.tables.Tables.{put, find as found}
+use Rattle.tables.specs.Tables.{put, find as found}
 use Rattle.pdcp_defs.specs.Senders.{last_of}
 use Rattle.pdcp_defs.specs.Receivers.{bits_from}
 use Rattle.circular_buffer.specs.Buffer.{Buffer, buffer, keep_last}

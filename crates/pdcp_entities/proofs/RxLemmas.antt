@@ -5,7 +5,7 @@ use Rattle.std.proofs.lemmas.Bool.Decides.{nat_tests}
 use Rattle.std.specs.List.{AllByRecursion}
 use borrow.Author.Tests.{ltb-true}
 use Rattle.std.specs.Ordering.{nat_cmp}
-use Rattle.pdcp_defs.specs.tables.Tables.{find}
+use Rattle.tables.specs.Tables.{find}
 use Rattle.pdcp_defs.specs.Receivers.{Receiver, Delivery, is_duplicate, is_ahead, deliver, deliver_from, with_packet}
 use Rattle.pdcp_entities.specs.Entities.{RxState, first_at, taking}
 use Rattle.pdcp_entities.specs.inside.Rings.{held_from}

@@ -8,7 +8,7 @@ use Rattle.std.specs.Ordering.{nat_cmp, match_ordering}
 use Rattle.std.specs.declared.cmp.Ordering.TheVariants.{Less, Equal, Greater}
 use Rattle.std.specs.BTreeMap.{insert_entry, is_at}
 use Rattle.std.specs.Map.{lookup}
-use Rattle.pdcp_defs.specs.tables.Tables.{put, find as found}
+use Rattle.tables.specs.Tables.{put, find as found}
 use Rattle.pdcp_defs.specs.Senders.{last_of}
 use Rattle.pdcp_defs.specs.Receivers.{bits_from}
 use Rattle.pdcp_entities.specs.inside.Rings.{with_slot, held_from, padded, IsLastFull}

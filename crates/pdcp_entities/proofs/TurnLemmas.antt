@@ -5,7 +5,7 @@ use Rattle.std.specs.List.{AllByRecursion}
 use Rattle.std.proofs.lemmas.Bool.Decides.{nat_tests}
 use Rattle.std.proofs.lemmas.List.{take_all}
 use Rattle.std.proofs.lemmas.List.Elements.{filter-append}
-use Rattle.packet_pool.specs.pool_defs.Pools.{PoolState, packet_at, IsPool}
+use Rattle.pdcp_defs.specs.pool_defs.Pools.{PoolState, packet_at, IsPool}
 use Rattle.pdcp_entities.specs.Packets.{AreParked}
 use Rattle.pdcp_entities.specs.inside.Freeing.{freed_if, AreLeft}
 use Rattle.pdcp_entities.specs.inside.Rings.{with_slot, held_from}

@@ -2,11 +2,11 @@
 -- the length of their numbers, their quota, and whether they are frozen.
 use Rattle.std.specs.Prelude.{◌≡◌, ◌==◌, ℕ, ◌+◌, Bool, true, false, not, ◌&&◌, nat_lt, nat_le, List, [], ◌∷◌, filter, drop, Option, Some, None, Result, Ok, Err, if◌then◌else◌}
 use Rattle.gnb_types.specs.declared.names.SnBits.{SnBits}
-use Rattle.pdcp_defs.specs.pdcp.Near.{last_count}
+use Rattle.pdcp.specs.Near.{last_count}
 use Rattle.pdcp_defs.specs.Counts.{near_count, count_below}
 use Rattle.pdcp_defs.specs.Senders.{Sender, new_sender, has_room, confirmed_to, confirmed_by, is_reported}
 use Rattle.pdcp_defs.specs.Receivers.{Receiver, new_receiver, is_duplicate, is_ahead}
-use Rattle.packet_pool.specs.pool_defs.Pools.{PoolState}
+use Rattle.pdcp_defs.specs.pool_defs.Pools.{PoolState}
 use Rattle.pdcp_entities.specs.Packets.{octets_in}
 use Rattle.pdcp_entities.specs.Bits.{bits_of}
 use Rattle.pdcp_entities.specs.declared.tx.NumberError.{NumberError}

@@ -2,8 +2,8 @@
 use Rattle.std.specs.Prelude.{◌≡◌, ℕ, List, [], ◌∷◌, Option, Some, None, IsSome}
 use Rattle.std.specs.Ordering.{nat_cmp}
 use Rattle.std.specs.List.{AllByRecursion}
-use Rattle.pdcp_defs.specs.tables.Tables.{find, map_values}
-use Rattle.packet_pool.specs.pool_defs.Pools.{Stored, PoolState, packet_of, packet_at, with_packet, without_packet, with_place, without_place, AreApart}
+use Rattle.tables.specs.Tables.{find, map_values}
+use Rattle.pdcp_defs.specs.pool_defs.Pools.{Stored, PoolState, packet_of, packet_at, with_packet, without_packet, with_place, without_place, AreApart}
 
 -- each entry's place holds a packet of this pool, and no place is that of two entries
 pub record AreParked (p : PoolState) (es : List (ℕ × ℕ)) : Type 0 where

@@ -1,7 +1,7 @@
 //! The COUNT of a number among those that were given (TS 38.323, 7.1).
 
 ghost use Rattle.std.specs.Prelude.{◌≡◌, ◌*◌};
-ghost use Rattle.pdcp_defs.specs.pdcp.Numbers.{space, half};
+ghost use Rattle.pdcp.specs.Numbers.{space, half};
 ghost use Rattle.pdcp_defs.specs.Counts.{count_below};
 
 use gnb_types::names::SnBits;

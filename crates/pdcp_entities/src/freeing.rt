@@ -2,7 +2,7 @@
 
 ghost use Rattle.std.specs.Prelude.{◌≡◌, ◌+◌, ◌^◌, ◌<◌, ◌≤◌, not, nat_lt, length, filter, IsSome, is_some, IfSome, if◌then◌else◌};
 ghost use Rattle.pdcp_defs.specs.Senders.{is_reported};
-ghost use Rattle.packet_pool.specs.pool_defs.Pools.{packet_at, IsPool};
+ghost use Rattle.pdcp_defs.specs.pool_defs.Pools.{packet_at, IsPool};
 ghost use Rattle.packet_pool.specs.declared.region.TheConstants.{BLOCK};
 ghost use Rattle.pdcp_entities.specs.Bits.{bits_of};
 ghost use Rattle.pdcp_entities.specs.Packets.{AreParked, Frees, freed};

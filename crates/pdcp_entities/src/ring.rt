@@ -3,7 +3,7 @@
 ghost use Rattle.std.specs.Prelude.{◌≡◌, ℕ, ◌+◌, ◌-◌, ◌^◌, ◌<◌, ◌≤◌, ◌==◌, nat_le, List, [], ◌∷◌, ◌++◌, length, find, map, drop, slice_get, slice_set, unwrap_or, max, IfOk, IfSome, is_some, Some, None, if◌then◌else◌, IsTrue, ◌↔◌};
 ghost use Rattle.pdcp_defs.specs.Senders.{is_above, last_of};
 ghost use Rattle.std.specs.Ordering.{nat_cmp};
-ghost use Rattle.pdcp_defs.specs.tables.Tables.{put};
+ghost use Rattle.tables.specs.Tables.{put};
 ghost use Rattle.circular_buffer.specs.Buffer.{buffer, last_item};
 ghost use Rattle.pdcp_entities.specs.inside.Rings.{held, held_from, padded, is_empty_slot, IsFirstFull, IsLastFull};
 

@@ -2,9 +2,9 @@
 
 ghost use Rattle.std.specs.Prelude.{◌≡◌, ℕ, ◌+◌, ◌≤◌, true, false, nat_le, length, find, Ok, Some, None, IsSome, IfOk, IfSome, IfNone, IfErr};
 ghost use Rattle.pdcp_defs.specs.Receivers.{stored, deliver, with_packet, received_bits, is_duplicate, is_ahead};
-ghost use Rattle.pdcp_defs.specs.pdcp.Near.{last_count};
+ghost use Rattle.pdcp.specs.Near.{last_count};
 ghost use Rattle.packet_pool.specs.declared.region.TheConstants.{BLOCK};
-ghost use Rattle.packet_pool.specs.pool_defs.Pools.{used, quota, packet_of};
+ghost use Rattle.pdcp_defs.specs.pool_defs.Pools.{used, quota, packet_of};
 ghost use Rattle.pdcp_entities.specs.Packets.{AreParked, OthersStay, Puts, Unparks, Frees, bytes_of};
 ghost use Rattle.pdcp_entities.specs.Entities.{new_rx, receiver_in, taken, stored_count, handed_up, advanced, cleared};
 
@@ -14,7 +14,7 @@ use gnb_types::bits::Bits;
 use gnb_types::items::Memory;
 use gnb_types::names::SnBits;
 use packet_pool::{Key, Pool, Ref};
-use pdcp_defs::from_pdcp::near;
+use pdcp::near;
 use std::alloc::Global;
 use std::marker::Model;
 use thiserror::Error;

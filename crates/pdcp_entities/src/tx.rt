@@ -3,7 +3,7 @@
 ghost use Rattle.std.specs.Prelude.{◌≡◌, ℕ, ◌+◌, ◌≤◌, ◌↔◌, true, false, nat_le, length, find, Some, None, IsSome, IsOk, IsTrue, IfOk, IfErr, OnOk};
 ghost use Rattle.pdcp_defs.specs.Senders.{first, has_room, window, numbered, may_restore, restored, emptied};
 ghost use Rattle.pdcp_defs.specs.Counts.{count_below};
-ghost use Rattle.packet_pool.specs.pool_defs.Pools.{packet_of};
+ghost use Rattle.pdcp_defs.specs.pool_defs.Pools.{packet_of};
 ghost use Rattle.pdcp_entities.specs.Packets.{AreParked, OthersStay, Parks, Frees, bytes_of};
 ghost use Rattle.pdcp_entities.specs.Entities.{new_tx, sender_in, refuses_number, confirmed_number, confirmed_report, named_by_number, named_by_report};
 

@@ -6,7 +6,7 @@ use Rattle.aper_defs.specs.Values.{Value, components, chosen, raw, no_options, a
 use Rattle.aper_defs.specs.Fields.{Path}
 use Rattle.aper_defs.specs.Fields as fields
 use Rattle.aper_defs.specs.Membership.{Has, HasComponents, HasAlternative, HasAdded, Either, IsRaw}
-use Rattle.aper_proof_answers.proofs.NumberFacts.{by_cases}
+use Rattle.proof_aper.proofs.answers.NumberFacts.{by_cases}
 use Rattle.message_defs.specs.profile_defs.Forms.{Components, component, no_components, tree, parts}
 use Rattle.message_defs.specs.profile_defs.Profile.{token_type}
 use Rattle.message_defs.specs.profile_defs.Tokens as forms

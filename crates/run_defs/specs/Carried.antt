@@ -1,13 +1,13 @@
 -- Which packet the octets of an item carry, and which octets each link has (TS 29.281, 5.2; TS 38.425, 5.5.2; TS 38.323, 6.2).
 use Rattle.std.specs.Prelude.{ℕ, ◌≡◌, Bool, List, [], ◌∷◌, Option, Some, None, Contains, ◌⊎◌}
-use Rattle.scenario_text.specs.gnb_types.declared.names.NodeId.{NodeId}
-use Rattle.scenario_text.specs.gnb_types.declared.names.NodeId.TheVariants.{CuUp, Du, Core, Ue}
-use Rattle.scenario_text.specs.gnb_types.declared.names.Dir.{Dir}
-use Rattle.scenario_text.specs.gnb_types.declared.names.Dir.TheVariants.{Dl, Ul}
-use Rattle.scenario_text.specs.gnb_types.declared.names.SnBits.{SnBits}
-use Rattle.unit_octet_defs.specs.pdcp.Pdus.{Content, data_pdu, status_report, radio_data, report_octets}
-use Rattle.unit_octet_defs.specs.link_defs.Decoding.{Link as LinkKind, n3, f1u_downlink, f1u_uplink, forwarding_down, forwarding_up, Item as Decoded, fresh, numbered, pdu, framed, poll, status, end_of_tunnel, CarriesPdu, DecodesOn}
-use Rattle.unit_octet_defs.specs.link_defs.Layouts.{f1u_downlink_packet, f1u_downlink_report, f1u_downlink_poll, f1u_uplink_data, f1u_uplink_report, delivery_status, forwarded_numbered, forwarded_fresh, end_marker}
+use Rattle.gnb_types.specs.declared.names.NodeId.{NodeId}
+use Rattle.gnb_types.specs.declared.names.NodeId.TheVariants.{CuUp, Du, Core, Ue}
+use Rattle.gnb_types.specs.declared.names.Dir.{Dir}
+use Rattle.gnb_types.specs.declared.names.Dir.TheVariants.{Dl, Ul}
+use Rattle.gnb_types.specs.declared.names.SnBits.{SnBits}
+use Rattle.pdcp.specs.Pdus.{Content, data_pdu, status_report, radio_data, report_octets}
+use Rattle.link_defs.specs.Decoding.{Link as LinkKind, n3, f1u_downlink, f1u_uplink, forwarding_down, forwarding_up, Item as Decoded, fresh, numbered, pdu, framed, poll, status, end_of_tunnel, CarriesPdu, DecodesOn}
+use Rattle.link_defs.specs.Layouts.{f1u_downlink_packet, f1u_downlink_report, f1u_downlink_poll, f1u_uplink_data, f1u_uplink_report, delivery_status, forwarded_numbered, forwarded_fresh, end_marker}
 use Rattle.scenario_text.specs.declared.line.Link.{Link}
 use Rattle.scenario_text.specs.declared.line.Link.TheVariants.{Tunnel, Radio}
 use Rattle.scenario_text.specs.declared.line.Item.{Item}

@@ -2,25 +2,25 @@
 -- is quiet; and what a terminal is that is set up without messages.
 use Rattle.std.specs.Prelude.{ℕ, ◌==◌, zero, suc, ◌+◌, ◌*◌, Bool, true, false, not, ◌&&◌, ◌||◌, nat_lt, if◌then◌else◌, List, [], ◌∷◌, ◌++◌, map, Option, Some, None, is_some}
 use Rattle.std.specs.List.{list_all, list_any, flat_map}
-use Rattle.scenario_text.specs.gnb_types.declared.names.Gnb.{Gnb}
-use Rattle.scenario_text.specs.gnb_types.declared.names.Gnb.TheVariants.{A, B}
-use Rattle.scenario_text.specs.gnb_types.declared.names.NodeId.{NodeId}
-use Rattle.scenario_text.specs.gnb_types.declared.names.NodeId.TheVariants.{CuUp, Du, Ue}
-use Rattle.scenario_text.specs.gnb_types.declared.names.UeId.{UeId}
-use Rattle.scenario_text.specs.gnb_types.declared.names.BearerId.{BearerId}
-use Rattle.scenario_text.specs.gnb_types.declared.names.Dir.{Dir}
-use Rattle.scenario_text.specs.gnb_types.declared.names.Dir.TheVariants.{Dl, Ul}
-use Rattle.scenario_text.specs.gnb_types.declared.keys.TunnelEnd.{TunnelEnd}
-use Rattle.scenario_text.specs.gnb_types.declared.keys.EntityKey.{EntityKey}
-use Rattle.scenario_text.specs.gnb_types.declared.plans.Plan.{Plan}
-use Rattle.scenario_text.specs.gnb_types.declared.plans.Tunnel.{Tunnel}
-use Rattle.scenario_text.specs.gnb_types.Orders.{ue_cmp}
-use Rattle.transport_defs.specs.tables.Tables.{find, put}
-use Rattle.unit_octet_defs.specs.unit_defs.declared.UeState.{UeState}
-use Rattle.unit_octet_defs.specs.unit_defs.Messages.{is_same_gnb, shares_interface}
-use Rattle.unit_octet_defs.specs.unit_defs.Ue.{UeNode, new_ue, placed, is_connected}
-use Rattle.unit_octet_defs.specs.unit_defs.Accessors.{state_of, taken_epoch, place_of, is_set_up, up_has_context, du_epoch, ue_state, ue_rests}
-use Rattle.unit_octet_defs.specs.unit_defs.Static.{up_placed, du_placed, cp_placed, cp_set_up, up_set_up, du_set_up}
+use Rattle.gnb_types.specs.declared.names.Gnb.{Gnb}
+use Rattle.gnb_types.specs.declared.names.Gnb.TheVariants.{A, B}
+use Rattle.gnb_types.specs.declared.names.NodeId.{NodeId}
+use Rattle.gnb_types.specs.declared.names.NodeId.TheVariants.{CuUp, Du, Ue}
+use Rattle.gnb_types.specs.declared.names.UeId.{UeId}
+use Rattle.gnb_types.specs.declared.names.BearerId.{BearerId}
+use Rattle.gnb_types.specs.declared.names.Dir.{Dir}
+use Rattle.gnb_types.specs.declared.names.Dir.TheVariants.{Dl, Ul}
+use Rattle.gnb_types.specs.declared.keys.TunnelEnd.{TunnelEnd}
+use Rattle.gnb_types.specs.declared.keys.EntityKey.{EntityKey}
+use Rattle.gnb_types.specs.declared.plans.Plan.{Plan}
+use Rattle.gnb_types.specs.declared.plans.Tunnel.{Tunnel}
+use Rattle.gnb_types.specs.Orders.{ue_cmp}
+use Rattle.tables.specs.Tables.{find, put}
+use Rattle.unit_defs.specs.declared.UeState.{UeState}
+use Rattle.unit_defs.specs.Messages.{is_same_gnb, shares_interface}
+use Rattle.unit_defs.specs.Ue.{UeNode, new_ue, placed, is_connected}
+use Rattle.unit_defs.specs.Accessors.{state_of, taken_epoch, place_of, is_set_up, up_has_context, du_epoch, ue_state, ue_rests}
+use Rattle.unit_defs.specs.Static.{up_placed, du_placed, cp_placed, cp_set_up, up_set_up, du_set_up}
 use Rattle.run_defs.specs.Lines.{RunLine, is_quiet, is_busy}
 use Rattle.run_defs.specs.Units.{Units, gnb_nodes, cp_of, with_cp, up_of, with_up, du_of, with_du, ue_of, with_ue, is_serving, has_attempt, requests_rest, ups_rest, epoch_at}
 use Rattle.transport_defs.specs.declared.Item.{Item}

@@ -1,27 +1,27 @@
 -- The events of a script: each is refused by the first condition that applies, or makes its steps (TS 38.401, 8).
 use Rattle.std.specs.Prelude.{ℕ, ◌==◌, zero, suc, ◌+◌, ◌-◌, Bool, true, false, not, ◌&&◌, ◌||◌, nat_lt, if◌then◌else◌, List, [], ◌∷◌, ◌++◌, length, Option, Some, None, is_some}
-use Rattle.scenario_text.specs.gnb_types.declared.names.Gnb.{Gnb}
-use Rattle.scenario_text.specs.gnb_types.declared.names.Gnb.TheVariants.{A, B}
-use Rattle.scenario_text.specs.gnb_types.declared.names.NodeId.{NodeId}
-use Rattle.scenario_text.specs.gnb_types.declared.names.NodeId.TheVariants.{CuCp, CuUp, Du, Core, Ue}
-use Rattle.scenario_text.specs.gnb_types.declared.names.UeId.{UeId}
-use Rattle.scenario_text.specs.gnb_types.declared.names.BearerId.{BearerId}
-use Rattle.scenario_text.specs.gnb_types.declared.names.Dir.{Dir}
-use Rattle.scenario_text.specs.gnb_types.declared.names.Dir.TheVariants.{Dl, Ul}
-use Rattle.scenario_text.specs.gnb_types.declared.keys.TunnelEnd.{TunnelEnd}
-use Rattle.scenario_text.specs.gnb_types.declared.keys.EntityKey.{EntityKey}
-use Rattle.scenario_text.specs.gnb_types.declared.plans.Plan.{Plan}
-use Rattle.scenario_text.specs.gnb_types.declared.inputs.Order.{Order}
-use Rattle.scenario_text.specs.gnb_types.declared.inputs.Order.TheVariants as orders
-use Rattle.scenario_text.specs.gnb_types.declared.reasons.RefuseReason.TheVariants.{Attached, NotStarted, NoBearer, NoPath, Size, Quota, NoSuch, Empty, NoRadio, NotAllowed, NoUe, NotAccessing, NoHome, Busy, Same, NoLink, Decodable}
-use Rattle.scenario_text.specs.gnb_types.Orders.{ue_cmp, tunnel_cmp}
-use Rattle.transport_defs.specs.tables.Tables.{find, put}
-use Rattle.unit_octet_defs.specs.unit_defs.Ways.{teids_spent}
-use Rattle.unit_octet_defs.specs.unit_defs.Messages.{teid_of}
-use Rattle.unit_octet_defs.specs.unit_defs.Core.{CorePath}
-use Rattle.unit_octet_defs.specs.unit_defs.Ue.{new_ue, is_connected, is_accessing, may_return, largest_packet}
-use Rattle.unit_octet_defs.specs.unit_defs.Accessors.{is_unconfirmed, ue_home}
-use Rattle.unit_octet_defs.specs.unit_defs.Static.{up_has_room, up_has_teids, du_has_teids}
+use Rattle.gnb_types.specs.declared.names.Gnb.{Gnb}
+use Rattle.gnb_types.specs.declared.names.Gnb.TheVariants.{A, B}
+use Rattle.gnb_types.specs.declared.names.NodeId.{NodeId}
+use Rattle.gnb_types.specs.declared.names.NodeId.TheVariants.{CuCp, CuUp, Du, Core, Ue}
+use Rattle.gnb_types.specs.declared.names.UeId.{UeId}
+use Rattle.gnb_types.specs.declared.names.BearerId.{BearerId}
+use Rattle.gnb_types.specs.declared.names.Dir.{Dir}
+use Rattle.gnb_types.specs.declared.names.Dir.TheVariants.{Dl, Ul}
+use Rattle.gnb_types.specs.declared.keys.TunnelEnd.{TunnelEnd}
+use Rattle.gnb_types.specs.declared.keys.EntityKey.{EntityKey}
+use Rattle.gnb_types.specs.declared.plans.Plan.{Plan}
+use Rattle.gnb_types.specs.declared.inputs.Order.{Order}
+use Rattle.gnb_types.specs.declared.inputs.Order.TheVariants as orders
+use Rattle.gnb_types.specs.declared.reasons.RefuseReason.TheVariants.{Attached, NotStarted, NoBearer, NoPath, Size, Quota, NoSuch, Empty, NoRadio, NotAllowed, NoUe, NotAccessing, NoHome, Busy, Same, NoLink, Decodable}
+use Rattle.gnb_types.specs.Orders.{ue_cmp, tunnel_cmp}
+use Rattle.tables.specs.Tables.{find, put}
+use Rattle.unit_defs.specs.Ways.{teids_spent}
+use Rattle.unit_defs.specs.Messages.{teid_of}
+use Rattle.unit_defs.specs.Core.{CorePath}
+use Rattle.unit_defs.specs.Ue.{new_ue, is_connected, is_accessing, may_return, largest_packet}
+use Rattle.unit_defs.specs.Accessors.{is_unconfirmed, ue_home}
+use Rattle.unit_defs.specs.Static.{up_has_room, up_has_teids, du_has_teids}
 use Rattle.run_defs.specs.Lines.{Letter, got_item, got_message, lost_items, lost_message, held_at, tunnel_link, radio_link, shown}
 use Rattle.run_defs.specs.Units.{starting_nodes, up_of, du_of, ue_of, with_ue, is_source}
 use Rattle.transport_defs.specs.declared.Item.{Item}

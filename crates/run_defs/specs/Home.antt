@@ -1,26 +1,26 @@
 -- From which states settling ends: the bearers fit, and the terminals are at home.
 use Rattle.std.specs.Prelude.{ℕ, ◌≡◌, ◌==◌, ◌-◌, Bool, true, false, not, ◌&&◌, ◌||◌, nat_le, List, [], ◌∷◌, ◌++◌, length, map, Option, Some, None}
 use Rattle.std.specs.List.{flat_map, list_all, list_any}
-use Rattle.scenario_text.specs.gnb_types.declared.names.Gnb.TheVariants.{A, B}
-use Rattle.scenario_text.specs.gnb_types.declared.names.NodeId.{NodeId}
-use Rattle.scenario_text.specs.gnb_types.declared.names.NodeId.TheVariants.{CuCp}
-use Rattle.scenario_text.specs.gnb_types.declared.names.UeId.{UeId}
-use Rattle.scenario_text.specs.gnb_types.declared.names.Dir.{Dir}
-use Rattle.scenario_text.specs.gnb_types.declared.names.Dir.TheVariants.{Dl, Ul}
-use Rattle.scenario_text.specs.gnb_types.declared.keys.EntityKey.{EntityKey}
-use Rattle.scenario_text.specs.gnb_types.declared.plans.Plan.{Plan}
-use Rattle.scenario_text.specs.gnb_types.Orders.{ue_cmp, bearer_cmp}
-use Rattle.transport_defs.specs.tables.Tables.{find}
-use Rattle.unit_octet_defs.specs.transaction_defs.Callers.{is_open}
-use Rattle.unit_octet_defs.specs.pdcp_defs.Senders.{window}
-use Rattle.unit_octet_defs.specs.unit_defs.declared.AttemptKind.{AttemptKind}
-use Rattle.unit_octet_defs.specs.unit_defs.declared.AttemptKind.TheVariants as kinds
-use Rattle.unit_octet_defs.specs.unit_defs.Messages.{channel}
-use Rattle.unit_octet_defs.specs.unit_defs.Transactions.{waits_at}
-use Rattle.unit_octet_defs.specs.unit_defs.UpRecords.{UpBearer, UpContext}
-use Rattle.unit_octet_defs.specs.unit_defs.UpBearers.{hop_is_done}
-use Rattle.unit_octet_defs.specs.unit_defs.Ue.{UeBearer, UeNode}
-use Rattle.unit_octet_defs.specs.unit_defs.CpRecords.{Attempt, CpContext, CuCpRecord, terminal_of}
+use Rattle.gnb_types.specs.declared.names.Gnb.TheVariants.{A, B}
+use Rattle.gnb_types.specs.declared.names.NodeId.{NodeId}
+use Rattle.gnb_types.specs.declared.names.NodeId.TheVariants.{CuCp}
+use Rattle.gnb_types.specs.declared.names.UeId.{UeId}
+use Rattle.gnb_types.specs.declared.names.Dir.{Dir}
+use Rattle.gnb_types.specs.declared.names.Dir.TheVariants.{Dl, Ul}
+use Rattle.gnb_types.specs.declared.keys.EntityKey.{EntityKey}
+use Rattle.gnb_types.specs.declared.plans.Plan.{Plan}
+use Rattle.gnb_types.specs.Orders.{ue_cmp, bearer_cmp}
+use Rattle.tables.specs.Tables.{find}
+use Rattle.transaction_defs.specs.Callers.{is_open}
+use Rattle.pdcp_defs.specs.Senders.{window}
+use Rattle.unit_defs.specs.declared.AttemptKind.{AttemptKind}
+use Rattle.unit_defs.specs.declared.AttemptKind.TheVariants as kinds
+use Rattle.unit_defs.specs.Messages.{channel}
+use Rattle.unit_defs.specs.Transactions.{waits_at}
+use Rattle.unit_defs.specs.UpRecords.{UpBearer, UpContext}
+use Rattle.unit_defs.specs.UpBearers.{hop_is_done}
+use Rattle.unit_defs.specs.Ue.{UeBearer, UeNode}
+use Rattle.unit_defs.specs.CpRecords.{Attempt, CpContext, CuCpRecord, terminal_of}
 use Rattle.run_defs.specs.Lines.{Letter}
 use Rattle.run_defs.specs.Units.{ue_of}
 use Rattle.transport_defs.specs.Links.{Bag, letter, tunnel_counts, radio_counts, least}

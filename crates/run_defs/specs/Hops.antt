@@ -4,17 +4,17 @@
 use Rattle.std.specs.Prelude.{ℕ, ◌≡◌, ◌==◌, ◌+◌, Bool, true, false, not, ◌&&◌, List, [], ◌∷◌, ◌++◌, drop, filter, length, Option, Some, None, is_some, slice_get, if◌then◌else◌}
 use Rattle.std.specs.List.{flat_map, list_any}
 use Rattle.std.specs.Ordering.{eq_by_cmp}
-use Rattle.scenario_text.specs.gnb_types.declared.names.NodeId.{NodeId}
-use Rattle.scenario_text.specs.gnb_types.declared.names.NodeId.TheVariants.{CuUp}
-use Rattle.scenario_text.specs.gnb_types.declared.keys.EntityKey.{EntityKey}
-use Rattle.scenario_text.specs.gnb_types.declared.plans.Peer.{Peer}
-use Rattle.scenario_text.specs.gnb_types.declared.plans.Tunnel.{Tunnel}
-use Rattle.scenario_text.specs.gnb_types.Orders.{node_cmp}
-use Rattle.unit_octet_defs.specs.message_types.declared.e1.E1Message.TheVariants as e1s
-use Rattle.unit_octet_defs.specs.message_types.declared.rrc.Token.{Token}
-use Rattle.unit_octet_defs.specs.link_defs.Layouts.{end_marker}
-use Rattle.unit_octet_defs.specs.unit_defs.Ways.{Message, e1}
-use Rattle.unit_octet_defs.specs.unit_defs.Messages.{mode_freeze, teid_of}
+use Rattle.gnb_types.specs.declared.names.NodeId.{NodeId}
+use Rattle.gnb_types.specs.declared.names.NodeId.TheVariants.{CuUp}
+use Rattle.gnb_types.specs.declared.keys.EntityKey.{EntityKey}
+use Rattle.gnb_types.specs.declared.plans.Peer.{Peer}
+use Rattle.gnb_types.specs.declared.plans.Tunnel.{Tunnel}
+use Rattle.gnb_types.specs.Orders.{node_cmp}
+use Rattle.message_types.specs.declared.e1.E1Message.TheVariants as e1s
+use Rattle.message_types.specs.declared.rrc.Token.{Token}
+use Rattle.link_defs.specs.Layouts.{end_marker}
+use Rattle.unit_defs.specs.Ways.{Message, e1}
+use Rattle.unit_defs.specs.Messages.{mode_freeze, teid_of}
 use Rattle.scenario_text.specs.declared.line.Link.{Link}
 use Rattle.scenario_text.specs.declared.line.Link.TheVariants.{Tunnel as tunnel}
 use Rattle.scenario_text.specs.declared.line.Item.{Item}

@@ -1,14 +1,14 @@
 -- The lines of a transcript, with whatever stands for a control message.
 use Rattle.std.specs.Prelude.{ℕ, List, Option}
-use Rattle.scenario_text.specs.gnb_types.declared.names.NodeId.{NodeId}
-use Rattle.scenario_text.specs.gnb_types.declared.names.UeId.{UeId}
-use Rattle.scenario_text.specs.gnb_types.declared.names.BearerId.{BearerId}
-use Rattle.scenario_text.specs.gnb_types.declared.keys.TunnelEnd.{TunnelEnd}
-use Rattle.scenario_text.specs.gnb_types.declared.keys.EntityKey.{EntityKey}
-use Rattle.scenario_text.specs.gnb_types.declared.reasons.DropReason.{DropReason}
-use Rattle.scenario_text.specs.gnb_types.declared.reasons.HeldReason.{HeldReason}
-use Rattle.scenario_text.specs.gnb_types.declared.reasons.CauseName.{CauseName}
-use Rattle.scenario_text.specs.gnb_types.declared.reasons.RefuseReason.{RefuseReason}
+use Rattle.gnb_types.specs.declared.names.NodeId.{NodeId}
+use Rattle.gnb_types.specs.declared.names.UeId.{UeId}
+use Rattle.gnb_types.specs.declared.names.BearerId.{BearerId}
+use Rattle.gnb_types.specs.declared.keys.TunnelEnd.{TunnelEnd}
+use Rattle.gnb_types.specs.declared.keys.EntityKey.{EntityKey}
+use Rattle.gnb_types.specs.declared.reasons.DropReason.{DropReason}
+use Rattle.gnb_types.specs.declared.reasons.HeldReason.{HeldReason}
+use Rattle.gnb_types.specs.declared.reasons.CauseName.{CauseName}
+use Rattle.gnb_types.specs.declared.reasons.RefuseReason.{RefuseReason}
 pub use Rattle.transport_defs.specs.declared.Letter.{Letter}
 use Rattle.scenario_text.specs.declared.line.Link.{Link}
 use Rattle.scenario_text.specs.declared.line.Link.TheVariants as links

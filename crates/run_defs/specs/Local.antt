@@ -2,11 +2,11 @@
 -- messages are spelled is an argument.
 use Rattle.std.specs.Prelude.{ℕ, ◌≡◌, ◌==◌, Bool, true, false, List, [], ◌∷◌, ◌++◌, map, Option, Some, None, slice_get, Any, All, ◌⊎◌, if◌then◌else◌}
 use Rattle.std.specs.List.{flat_map, list_any}
-use Rattle.scenario_text.specs.gnb_types.declared.names.NodeId.{NodeId}
-use Rattle.scenario_text.specs.gnb_types.declared.names.SnBits.{SnBits}
-use Rattle.scenario_text.specs.gnb_types.declared.names.SnBits.TheVariants.{Len12}
-use Rattle.scenario_text.specs.gnb_types.declared.names.UeId.{UeId}
-use Rattle.scenario_text.specs.gnb_types.declared.keys.EntityKey.{EntityKey}
+use Rattle.gnb_types.specs.declared.names.NodeId.{NodeId}
+use Rattle.gnb_types.specs.declared.names.SnBits.{SnBits}
+use Rattle.gnb_types.specs.declared.names.SnBits.TheVariants.{Len12}
+use Rattle.gnb_types.specs.declared.names.UeId.{UeId}
+use Rattle.gnb_types.specs.declared.keys.EntityKey.{EntityKey}
 use Rattle.scenario_text.specs.declared.event.Event.{Event}
 use Rattle.scenario_text.specs.declared.event.Event.TheVariants as events
 use Rattle.scenario_text.specs.declared.line.Link.{Link}

@@ -2,22 +2,22 @@
 -- messages are what they say.
 use Rattle.std.specs.Prelude.{ℕ, Bool, true, false, List, [], ◌∷◌, map, Option, Some, None}
 use Rattle.std.specs.List.{flat_map}
-use Rattle.scenario_text.specs.gnb_types.declared.names.NodeId.{NodeId}
-use Rattle.scenario_text.specs.gnb_types.declared.names.NodeId.TheVariants.{CuCp, CuUp, Du, Core, Ue}
-use Rattle.scenario_text.specs.gnb_types.declared.names.SnBits.{SnBits}
-use Rattle.scenario_text.specs.gnb_types.declared.keys.TunnelEnd.{TunnelEnd}
-use Rattle.scenario_text.specs.gnb_types.declared.reasons.DropReason.{DropReason}
-use Rattle.scenario_text.specs.gnb_types.declared.reasons.DropReason.TheVariants.{Undecodable}
-use Rattle.unit_octet_defs.specs.message_types.declared.rrc.Token.{Token}
-use Rattle.unit_octet_defs.specs.link_defs.Decoding.{Link}
-use Rattle.unit_octet_defs.specs.unit_defs.Ways.{Message, rrc, Pdu, packet_pdu, report_pdu, Content, packet_content, report_content, Load, fresh, numbered, frame, uplink, status, end_marker, Taken, fresh_item, numbered_item, frame_item, uplink_item, status_item, end_item, Input, control_input, packet_input, radio_input, confirm_input, offer_input, tick_input, order_input, dropped, Way, Answer, gives, spent}
-use Rattle.unit_octet_defs.specs.Writing.{load_octets}
-use Rattle.unit_octet_defs.specs.Reading.{up_link, du_link}
-use Rattle.unit_octet_defs.specs.unit_defs.CuCp.{cu_cp_acts}
-use Rattle.unit_octet_defs.specs.unit_defs.CuUp.{cu_up_acts}
-use Rattle.unit_octet_defs.specs.unit_defs.Du.{du_acts}
-use Rattle.unit_octet_defs.specs.unit_defs.Ue.{UeNode, ue_acts}
-use Rattle.unit_octet_defs.specs.unit_defs.Core.{CoreRecord, core_acts}
+use Rattle.gnb_types.specs.declared.names.NodeId.{NodeId}
+use Rattle.gnb_types.specs.declared.names.NodeId.TheVariants.{CuCp, CuUp, Du, Core, Ue}
+use Rattle.gnb_types.specs.declared.names.SnBits.{SnBits}
+use Rattle.gnb_types.specs.declared.keys.TunnelEnd.{TunnelEnd}
+use Rattle.gnb_types.specs.declared.reasons.DropReason.{DropReason}
+use Rattle.gnb_types.specs.declared.reasons.DropReason.TheVariants.{Undecodable}
+use Rattle.message_types.specs.declared.rrc.Token.{Token}
+use Rattle.link_defs.specs.Decoding.{Link}
+use Rattle.unit_defs.specs.Ways.{Message, rrc, Pdu, packet_pdu, report_pdu, Content, packet_content, report_content, Load, fresh, numbered, frame, uplink, status, end_marker, Taken, fresh_item, numbered_item, frame_item, uplink_item, status_item, end_item, Input, control_input, packet_input, radio_input, confirm_input, offer_input, tick_input, order_input, dropped, Way, Answer, gives, spent}
+use Rattle.unit_defs.specs.octet_defs.Writing.{load_octets}
+use Rattle.unit_defs.specs.octet_defs.Reading.{up_link, du_link}
+use Rattle.unit_defs.specs.CuCp.{cu_cp_acts}
+use Rattle.unit_defs.specs.CuUp.{cu_up_acts}
+use Rattle.unit_defs.specs.Du.{du_acts}
+use Rattle.unit_defs.specs.Ue.{UeNode, ue_acts}
+use Rattle.unit_defs.specs.Core.{CoreRecord, core_acts}
 use Rattle.scenario_text.specs.declared.event.Event.{Event}
 use Rattle.scenario_text.specs.declared.event.Event.TheVariants as events
 use Rattle.run_defs.specs.Lines.{RunLine}

@@ -2,8 +2,8 @@
 use Rattle.std.specs.Prelude.{ℕ, ◌≡◌, ◌+◌, ◌-◌, ◌==◌, Bool, true, false, ◌&&◌, if◌then◌else◌, List, [], ◌∷◌, ◌++◌, length, drop, Some, slice_get}
 use Rattle.std.specs.List.{flat_map, list_any}
 use Rattle.std.specs.Ordering.{eq_by_cmp}
-use Rattle.scenario_text.specs.gnb_types.declared.keys.EntityKey.{EntityKey}
-use Rattle.scenario_text.specs.gnb_types.Orders.{entity_cmp, node_cmp}
+use Rattle.gnb_types.specs.declared.keys.EntityKey.{EntityKey}
+use Rattle.gnb_types.specs.Orders.{entity_cmp, node_cmp}
 use Rattle.scenario_text.specs.declared.event.Event.{Event}
 use Rattle.scenario_text.specs.declared.event.Event.TheVariants as events
 use Rattle.scenario_text.specs.declared.line.Link.{Link}

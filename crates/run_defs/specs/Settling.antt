@@ -2,20 +2,20 @@
 -- prints nothing and changes nothing.
 use Rattle.std.specs.Prelude.{ℕ, ◌==◌, zero, suc, ◌+◌, ◌*◌, ◌-◌, ◌^◌, Bool, true, false, ◌||◌, if◌then◌else◌, List, [], ◌∷◌, length, map, sum, Option, Some, None}
 use Rattle.std.specs.List.{list_all, flat_map}
-use Rattle.scenario_text.specs.gnb_types.declared.names.UeId.{UeId}
-use Rattle.scenario_text.specs.gnb_types.declared.names.BearerId.{BearerId}
-use Rattle.scenario_text.specs.gnb_types.declared.names.NodeId.{NodeId}
-use Rattle.scenario_text.specs.gnb_types.declared.names.NodeId.TheVariants.{CuUp, Ue}
-use Rattle.scenario_text.specs.gnb_types.declared.keys.TunnelEnd.{TunnelEnd}
-use Rattle.scenario_text.specs.gnb_types.declared.keys.EntityKey.{EntityKey}
-use Rattle.scenario_text.specs.gnb_types.declared.plans.Plan.{Plan}
-use Rattle.scenario_text.specs.gnb_types.declared.inputs.Order.{Order}
-use Rattle.scenario_text.specs.gnb_types.declared.inputs.Order.TheVariants as orders
-use Rattle.scenario_text.specs.gnb_types.Orders.{tunnel_cmp}
-use Rattle.transport_defs.specs.tables.Tables.{at, entry_after, first_entry}
-use Rattle.unit_octet_defs.specs.unit_defs.declared.UeState.{UeState}
-use Rattle.unit_octet_defs.specs.unit_defs.declared.UeState.TheVariants as ue_states
-use Rattle.unit_octet_defs.specs.unit_defs.Accessors.{is_unconfirmed}
+use Rattle.gnb_types.specs.declared.names.UeId.{UeId}
+use Rattle.gnb_types.specs.declared.names.BearerId.{BearerId}
+use Rattle.gnb_types.specs.declared.names.NodeId.{NodeId}
+use Rattle.gnb_types.specs.declared.names.NodeId.TheVariants.{CuUp, Ue}
+use Rattle.gnb_types.specs.declared.keys.TunnelEnd.{TunnelEnd}
+use Rattle.gnb_types.specs.declared.keys.EntityKey.{EntityKey}
+use Rattle.gnb_types.specs.declared.plans.Plan.{Plan}
+use Rattle.gnb_types.specs.declared.inputs.Order.{Order}
+use Rattle.gnb_types.specs.declared.inputs.Order.TheVariants as orders
+use Rattle.gnb_types.specs.Orders.{tunnel_cmp}
+use Rattle.tables.specs.Tables.{at, entry_after, first_entry}
+use Rattle.unit_defs.specs.declared.UeState.{UeState}
+use Rattle.unit_defs.specs.declared.UeState.TheVariants as ue_states
+use Rattle.unit_defs.specs.Accessors.{is_unconfirmed}
 use Rattle.run_defs.specs.Lines.{RunLine, held_at, has_settled, has_not_settled, tunnel_link, radio_link}
 use Rattle.run_defs.specs.Units.{up_of}
 use Rattle.transport_defs.specs.declared.Item.{Item}

@@ -1,21 +1,21 @@
 -- The state of a run, and what the run is told of its units and its links: how a unit answers, and how what it puts is shown.
 use Rattle.std.specs.Prelude.{◌==◌, ℕ, Bool, false, not, ◌&&◌, nat_le, List, [], ◌∷◌, ◌++◌, Option, Some, None, is_some}
 use Rattle.std.specs.List.{list_any}
-use Rattle.scenario_text.specs.gnb_types.declared.names.NodeId.{NodeId}
-use Rattle.scenario_text.specs.gnb_types.declared.names.UeId.{UeId}
-use Rattle.scenario_text.specs.gnb_types.declared.names.BearerId.{BearerId}
-use Rattle.scenario_text.specs.gnb_types.declared.names.Dir.{Dir}
-use Rattle.scenario_text.specs.gnb_types.declared.names.SnBits.{SnBits}
-use Rattle.scenario_text.specs.gnb_types.declared.names.SnBits.TheVariants.{Len12}
-use Rattle.scenario_text.specs.gnb_types.declared.keys.TunnelEnd.{TunnelEnd}
-use Rattle.scenario_text.specs.gnb_types.declared.keys.EntityKey.{EntityKey}
-use Rattle.scenario_text.specs.gnb_types.declared.plans.Plan.{Plan}
-use Rattle.scenario_text.specs.gnb_types.declared.inputs.Order.{Order}
-use Rattle.scenario_text.specs.gnb_types.declared.reasons.RefuseReason.{RefuseReason}
-use Rattle.scenario_text.specs.gnb_types.Orders.{ue_cmp, entity_cmp}
-use Rattle.transport_defs.specs.tables.Tables.{find, put, at}
-use Rattle.unit_octet_defs.specs.unit_defs.Ways.{Put}
-use Rattle.unit_octet_defs.specs.unit_defs.Core.{CoreRecord, new_core}
+use Rattle.gnb_types.specs.declared.names.NodeId.{NodeId}
+use Rattle.gnb_types.specs.declared.names.UeId.{UeId}
+use Rattle.gnb_types.specs.declared.names.BearerId.{BearerId}
+use Rattle.gnb_types.specs.declared.names.Dir.{Dir}
+use Rattle.gnb_types.specs.declared.names.SnBits.{SnBits}
+use Rattle.gnb_types.specs.declared.names.SnBits.TheVariants.{Len12}
+use Rattle.gnb_types.specs.declared.keys.TunnelEnd.{TunnelEnd}
+use Rattle.gnb_types.specs.declared.keys.EntityKey.{EntityKey}
+use Rattle.gnb_types.specs.declared.plans.Plan.{Plan}
+use Rattle.gnb_types.specs.declared.inputs.Order.{Order}
+use Rattle.gnb_types.specs.declared.reasons.RefuseReason.{RefuseReason}
+use Rattle.gnb_types.specs.Orders.{ue_cmp, entity_cmp}
+use Rattle.tables.specs.Tables.{find, put, at}
+use Rattle.unit_defs.specs.Ways.{Put}
+use Rattle.unit_defs.specs.Core.{CoreRecord, new_core}
 use Rattle.run_defs.specs.Lines.{RunLine, was_refused}
 use Rattle.run_defs.specs.Units.{Units, new_units}
 use Rattle.transport_defs.specs.declared.Item.{Item}

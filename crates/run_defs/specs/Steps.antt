@@ -2,26 +2,26 @@
 -- and added to the links, and then the span of each bearer is looked at.
 use Rattle.std.specs.Prelude.{ℕ, ◌==◌, zero, suc, ◌+◌, ◌-◌, Bool, true, false, nat_lt, max, if◌then◌else◌, List, [], ◌∷◌, ◌++◌, length, Option, Some, None}
 use Rattle.std.specs.List.{flat_map}
-use Rattle.scenario_text.specs.gnb_types.declared.names.NodeId.{NodeId}
-use Rattle.scenario_text.specs.gnb_types.declared.names.NodeId.TheVariants.{Ue}
-use Rattle.scenario_text.specs.gnb_types.declared.names.UeId.{UeId}
-use Rattle.scenario_text.specs.gnb_types.declared.names.BearerId.{BearerId}
-use Rattle.scenario_text.specs.gnb_types.declared.names.Dir.{Dir}
-use Rattle.scenario_text.specs.gnb_types.declared.names.Dir.TheVariants.{Dl, Ul}
-use Rattle.scenario_text.specs.gnb_types.declared.keys.TunnelEnd.{TunnelEnd}
-use Rattle.scenario_text.specs.gnb_types.declared.keys.EntityKey.{EntityKey}
-use Rattle.scenario_text.specs.gnb_types.declared.outputs.Tag.{Tag}
-use Rattle.scenario_text.specs.gnb_types.declared.outputs.Tag.TheVariants.{Absent, Own, Same}
-use Rattle.scenario_text.specs.gnb_types.declared.plans.Plan.{Plan}
-use Rattle.scenario_text.specs.gnb_types.declared.reasons.HeldReason.{HeldReason}
-use Rattle.scenario_text.specs.gnb_types.declared.reasons.RefuseReason.{RefuseReason}
-use Rattle.scenario_text.specs.gnb_types.Orders.{ue_cmp, tunnel_cmp}
-use Rattle.transport_defs.specs.tables.Tables.{find, put, without, at}
-use Rattle.unit_octet_defs.specs.pdcp.Numbers.{half}
-use Rattle.unit_octet_defs.specs.unit_defs.declared.UeState.{UeState}
-use Rattle.unit_octet_defs.specs.unit_defs.declared.UeState.TheVariants as ue_states
-use Rattle.unit_octet_defs.specs.unit_defs.Ways.{Put, control, packet, radio, deliver, dropped, held, opened, closed, failed, no}
-use Rattle.unit_octet_defs.specs.unit_defs.Ue.{UeNode}
+use Rattle.gnb_types.specs.declared.names.NodeId.{NodeId}
+use Rattle.gnb_types.specs.declared.names.NodeId.TheVariants.{Ue}
+use Rattle.gnb_types.specs.declared.names.UeId.{UeId}
+use Rattle.gnb_types.specs.declared.names.BearerId.{BearerId}
+use Rattle.gnb_types.specs.declared.names.Dir.{Dir}
+use Rattle.gnb_types.specs.declared.names.Dir.TheVariants.{Dl, Ul}
+use Rattle.gnb_types.specs.declared.keys.TunnelEnd.{TunnelEnd}
+use Rattle.gnb_types.specs.declared.keys.EntityKey.{EntityKey}
+use Rattle.gnb_types.specs.declared.outputs.Tag.{Tag}
+use Rattle.gnb_types.specs.declared.outputs.Tag.TheVariants.{Absent, Own, Same}
+use Rattle.gnb_types.specs.declared.plans.Plan.{Plan}
+use Rattle.gnb_types.specs.declared.reasons.HeldReason.{HeldReason}
+use Rattle.gnb_types.specs.declared.reasons.RefuseReason.{RefuseReason}
+use Rattle.gnb_types.specs.Orders.{ue_cmp, tunnel_cmp}
+use Rattle.tables.specs.Tables.{find, put, without, at}
+use Rattle.pdcp.specs.Numbers.{half}
+use Rattle.unit_defs.specs.declared.UeState.{UeState}
+use Rattle.unit_defs.specs.declared.UeState.TheVariants as ue_states
+use Rattle.unit_defs.specs.Ways.{Put, control, packet, radio, deliver, dropped, held, opened, closed, failed, no}
+use Rattle.unit_defs.specs.Ue.{UeNode}
 use Rattle.run_defs.specs.Lines.{Letter, RunLine, put_item, put_message, delivers, lost_items, drops_input, procedure_failed, tunnel_link, radio_link, shown}
 use Rattle.run_defs.specs.Units.{Units, ue_of}
 use Rattle.transport_defs.specs.declared.Item.{Item}

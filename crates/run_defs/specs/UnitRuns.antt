@@ -1,21 +1,21 @@
 -- `UnitRun`: the run of units of any meaning. Links hold octets, each unit is given octets, and beside an item stands the COUNT that its
 -- tag told. The core is the run's own. And `tables`: the meaning that the procedure tables give, after decoding.
 use Rattle.std.specs.Prelude.{ℕ, Bool, true, false, List, [], ◌∷◌, map, Option, Some, None, is_some, Result, Ok, Err}
-use Rattle.scenario_text.specs.gnb_types.declared.names.NodeId.{NodeId}
-use Rattle.scenario_text.specs.gnb_types.declared.names.NodeId.TheVariants.{CuCp, CuUp, Du, Core, Ue}
-use Rattle.scenario_text.specs.gnb_types.declared.inputs.Input.{Input}
-use Rattle.scenario_text.specs.gnb_types.declared.inputs.Input.TheVariants as ins
-use Rattle.scenario_text.specs.gnb_types.declared.outputs.Output.{Output}
-use Rattle.scenario_text.specs.gnb_types.declared.outputs.Output.TheVariants as outs
-use Rattle.scenario_text.specs.gnb_types.declared.reasons.DropReason.{DropReason}
-use Rattle.scenario_text.specs.gnb_types.declared.reasons.DropReason.TheVariants.{Unexpected}
-use Rattle.unit_octet_defs.specs.link_defs.Layouts.{forwarded_fresh}
-use Rattle.unit_octet_defs.specs.unit_defs.Ways.{Message, Put, control, packet, radio, deliver, dropped, held, opened, closed, failed, no, gives, spent}
-use Rattle.unit_octet_defs.specs.unit_defs.Ue.{UeNode}
-use Rattle.unit_octet_defs.specs.unit_defs.Core.{CoreRecord}
-use Rattle.unit_octet_defs.specs.Codec.{Codec}
-use Rattle.unit_octet_defs.specs.Writing.{outputs_of}
-use Rattle.unit_octet_defs.specs.Units.{OctetAnswer, cu_cp_steps, cu_up_steps, du_steps, ue_steps, core_steps}
+use Rattle.gnb_types.specs.declared.names.NodeId.{NodeId}
+use Rattle.gnb_types.specs.declared.names.NodeId.TheVariants.{CuCp, CuUp, Du, Core, Ue}
+use Rattle.gnb_types.specs.declared.inputs.Input.{Input}
+use Rattle.gnb_types.specs.declared.inputs.Input.TheVariants as ins
+use Rattle.gnb_types.specs.declared.outputs.Output.{Output}
+use Rattle.gnb_types.specs.declared.outputs.Output.TheVariants as outs
+use Rattle.gnb_types.specs.declared.reasons.DropReason.{DropReason}
+use Rattle.gnb_types.specs.declared.reasons.DropReason.TheVariants.{Unexpected}
+use Rattle.link_defs.specs.Layouts.{forwarded_fresh}
+use Rattle.unit_defs.specs.Ways.{Message, Put, control, packet, radio, deliver, dropped, held, opened, closed, failed, no, gives, spent}
+use Rattle.unit_defs.specs.Ue.{UeNode}
+use Rattle.unit_defs.specs.Core.{CoreRecord}
+use Rattle.unit_defs.specs.octet_defs.Codec.{Codec}
+use Rattle.unit_defs.specs.octet_defs.Writing.{outputs_of}
+use Rattle.unit_defs.specs.octet_defs.Units.{OctetAnswer, cu_cp_steps, cu_up_steps, du_steps, ue_steps, core_steps}
 use Rattle.scenario_text.specs.declared.event.Event.{Event}
 use Rattle.run_defs.specs.Units.{Units, cp_of, with_cp, up_of, with_up, du_of, with_du, ue_of, with_ue}
 use Rattle.run_defs.specs.States.{Given, letter_for, item_for, carried_for, confirmed_for, offer_for, tick_for, order_for, octets_from, octets_on, Stepped, stepped, step_spent, CoreStepped, core_stepped, World}

@@ -1,22 +1,22 @@
 -- The units of both gNBs and the terminals, as one record of their records, and what a run asks of several of them.
 use Rattle.std.specs.Prelude.{ℕ, Bool, true, false, ◌&&◌, ◌||◌, List, [], ◌∷◌, ◌++◌, Option, None}
 use Rattle.std.specs.List.{list_all}
-use Rattle.scenario_text.specs.gnb_types.declared.names.Gnb.{Gnb}
-use Rattle.scenario_text.specs.gnb_types.declared.names.Gnb.TheVariants.{A, B}
-use Rattle.scenario_text.specs.gnb_types.declared.names.NodeId.{NodeId}
-use Rattle.scenario_text.specs.gnb_types.declared.names.NodeId.TheVariants.{CuCp, CuUp as up_id, Du as du_id}
-use Rattle.scenario_text.specs.gnb_types.declared.names.UeId.{UeId}
-use Rattle.scenario_text.specs.gnb_types.declared.names.BearerId.{BearerId}
-use Rattle.scenario_text.specs.gnb_types.Orders.{ue_cmp, node_cmp}
-use Rattle.transport_defs.specs.tables.Tables.{find, put, at}
-use Rattle.unit_octet_defs.specs.unit_defs.declared.StateName.{StateName}
-use Rattle.unit_octet_defs.specs.unit_defs.declared.StateName.TheVariants as states
-use Rattle.unit_octet_defs.specs.unit_defs.UpRecords.{CuUp}
-use Rattle.unit_octet_defs.specs.unit_defs.CuUp.{new_cu_up}
-use Rattle.unit_octet_defs.specs.unit_defs.Du.{Du, new_du}
-use Rattle.unit_octet_defs.specs.unit_defs.Ue.{UeNode}
-use Rattle.unit_octet_defs.specs.unit_defs.CpRecords.{CuCpRecord, new_cu_cp}
-use Rattle.unit_octet_defs.specs.unit_defs.Accessors.{state_of, cp_rests, up_rests, du_epoch}
+use Rattle.gnb_types.specs.declared.names.Gnb.{Gnb}
+use Rattle.gnb_types.specs.declared.names.Gnb.TheVariants.{A, B}
+use Rattle.gnb_types.specs.declared.names.NodeId.{NodeId}
+use Rattle.gnb_types.specs.declared.names.NodeId.TheVariants.{CuCp, CuUp as up_id, Du as du_id}
+use Rattle.gnb_types.specs.declared.names.UeId.{UeId}
+use Rattle.gnb_types.specs.declared.names.BearerId.{BearerId}
+use Rattle.gnb_types.specs.Orders.{ue_cmp, node_cmp}
+use Rattle.tables.specs.Tables.{find, put, at}
+use Rattle.unit_defs.specs.declared.StateName.{StateName}
+use Rattle.unit_defs.specs.declared.StateName.TheVariants as states
+use Rattle.unit_defs.specs.UpRecords.{CuUp}
+use Rattle.unit_defs.specs.CuUp.{new_cu_up}
+use Rattle.unit_defs.specs.Du.{Du, new_du}
+use Rattle.unit_defs.specs.Ue.{UeNode}
+use Rattle.unit_defs.specs.CpRecords.{CuCpRecord, new_cu_cp}
+use Rattle.unit_defs.specs.Accessors.{state_of, cp_rests, up_rests, du_epoch}
 
 pub record Units (M C : Type 0) : Type 0 where
   pub cp_a : CuCpRecord M C

@@ -1,9 +1,9 @@
 -- What stands on the links of `Run`: what an item or PDU says, and beside it its octets, which are made for printing alone, when it is put.
 use Rattle.std.specs.Prelude.{ℕ, List, map}
-use Rattle.scenario_text.specs.gnb_types.declared.names.SnBits.{SnBits}
-use Rattle.unit_octet_defs.specs.message_types.declared.rrc.Token.{Token}
-use Rattle.unit_octet_defs.specs.unit_defs.Ways.{Message, Pdu, Load, Put, control, packet, radio, deliver, dropped, held, opened, closed, failed, no}
-use Rattle.unit_octet_defs.specs.Writing.{pdu_octets, load_octets, written_load}
+use Rattle.gnb_types.specs.declared.names.SnBits.{SnBits}
+use Rattle.message_types.specs.declared.rrc.Token.{Token}
+use Rattle.unit_defs.specs.Ways.{Message, Pdu, Load, Put, control, packet, radio, deliver, dropped, held, opened, closed, failed, no}
+use Rattle.unit_defs.specs.octet_defs.Writing.{pdu_octets, load_octets, written_load}
 use Rattle.run_defs.specs.States.{Lengths, Stepped, stepped, step_spent, CoreStepped}
 
 pub record Written (X : Type 0) : Type 0 where

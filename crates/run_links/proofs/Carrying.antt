@@ -7,9 +7,9 @@ use Rattle.gnb_types.specs.Orders.{ue_cmp}
 use Rattle.tables.specs.Tables.{find}
 use Rattle.scenario_text.specs.declared.line.OutLine.{OutLine}
 use Rattle.scenario_text.specs.declared.line.OutLine.TheVariants as outs
-use Rattle.run_defs.specs.transport_defs.declared.Item.{Item}
-use Rattle.links.specs.links_bag.declared.error.LinkError.{LinkError}
-use Rattle.links.specs.links_bag.declared.error.LinkError.TheVariants as errors
+use Rattle.transport_defs.specs.declared.Item.{Item}
+use Rattle.links.specs.declared.links_bag.error.LinkError.{LinkError}
+use Rattle.links.specs.declared.links_bag.error.LinkError.TheVariants as errors
 use Rattle.links.specs.links_bag.Answers.{gives, refuses, AnswersSurely}
 use Rattle.links.specs.Radios.{RadioLinks, radio_of, with_radio, uncarried, head, carry, confirm, confirm_in}
 use Rattle.run_defs.specs.Lines.{radio_link, shown}

@@ -15,7 +15,7 @@ use Rattle.gnb_types.specs.Orders.{entity_cmp}
 use Rattle.gnb_types.proofs.OrderLemmas.{entity_total, entity_exact}
 use Rattle.gnb_types.proofs.Choices.{by_test}
 use Rattle.tables.specs.Tables.{without, IsSorted}
-use Rattle.run_defs.specs.transport_defs.Links.{Radio, emptied}
+use Rattle.transport_defs.specs.Links.{Radio, emptied}
 use Rattle.links.specs.Radios.{first_of}
 use Rattle.run_links.specs.Grounds.{Octets}
 

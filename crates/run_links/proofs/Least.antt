@@ -1,6 +1,6 @@
 -- The least COUNT of two lists of them.
 use Rattle.std.proofs.Common.{◌≡◌, ◌≤◌, ℕ, min, List, [], ◌∷◌, ◌++◌, refl, ◌∙◌, ap, arith}
-use Rattle.run_defs.specs.transport_defs.Links.{least, least_of}
+use Rattle.transport_defs.specs.Links.{least, least_of}
 use Rattle.run_links.specs.Spans.{lowered}
 
 pub least-append : (n : ℕ) (xs ys : List ℕ) → least n (xs ++ ys) ≡ least (least n xs) ys

@@ -5,7 +5,7 @@ use Rattle.gnb_types.specs.declared.names.UeId.{UeId}
 use Rattle.gnb_types.specs.declared.keys.EntityKey.{EntityKey}
 use Rattle.gnb_types.proofs.Choices.{by_test}
 use Rattle.scenario_text.specs.declared.line.OutLine.{OutLine}
-use Rattle.run_defs.specs.transport_defs.Links.{Radio, emptied}
+use Rattle.transport_defs.specs.Links.{Radio, emptied}
 use Rattle.links.specs.Radios.{first_of}
 use Rattle.run_defs.specs.Steps.{radios_of, lose_each}
 use Rattle.run_defs.specs.UnitRuns.{unit_world}

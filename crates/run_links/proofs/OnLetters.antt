@@ -5,10 +5,10 @@ use Rattle.std.proofs.lemmas.List.{length-append}
 use Rattle.std.proofs.lemmas.Bool.Decides.{Decides-ltb}
 use Rattle.scenario_text.specs.declared.line.OutLine.{OutLine}
 use Rattle.scenario_text.specs.declared.line.OutLine.TheVariants as outs
-use Rattle.run_defs.specs.transport_defs.declared.Letter.{Letter}
-use Rattle.run_defs.specs.transport_defs.Links.{Bag, most_letters, put_letter, letter, landed, is_in}
-use Rattle.links.specs.links_bag.declared.error.LinkError.{LinkError}
-use Rattle.links.specs.links_bag.declared.error.LinkError.TheVariants as errors
+use Rattle.transport_defs.specs.declared.Letter.{Letter}
+use Rattle.transport_defs.specs.Links.{Bag, most_letters, put_letter, letter, landed, is_in}
+use Rattle.links.specs.declared.links_bag.error.LinkError.{LinkError}
+use Rattle.links.specs.declared.links_bag.error.LinkError.TheVariants as errors
 use Rattle.links.specs.links_bag.Answers.{gives, refuses, AnswersSurely}
 use Rattle.links.specs.links_bag.Bags.{put, give, lose, lose_in}
 use Rattle.run_defs.specs.Printing.{shown_message}

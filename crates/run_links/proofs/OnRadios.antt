@@ -7,10 +7,10 @@ use Rattle.gnb_types.specs.Orders.{ue_cmp}
 use Rattle.tables.specs.Tables.{find}
 use Rattle.scenario_text.specs.declared.line.OutLine.{OutLine}
 use Rattle.scenario_text.specs.declared.line.OutLine.TheVariants as outs
-use Rattle.run_defs.specs.transport_defs.declared.Item.{Item}
-use Rattle.run_defs.specs.transport_defs.Links.{is_epoch}
+use Rattle.transport_defs.specs.declared.Item.{Item}
+use Rattle.transport_defs.specs.Links.{is_epoch}
 use Rattle.links.specs.Radios.{RadioLinks, radio_of, with_radio, with_item, put_item, connected_in, failed}
-use Rattle.run_defs.specs.unit_octet_defs.Codec.{Codec}
+use Rattle.unit_defs.specs.octet_defs.Codec.{Codec}
 use Rattle.run_defs.specs.Lines.{radio_link, shown, lost_items, put_item as puts_line}
 use Rattle.run_defs.specs.States.{goes, told_before, ◌next◌, goes_on, with_radio as with_radio_in, radio_of as radio_in}
 use Rattle.run_defs.specs.Steps.{put_on_radio, radio_lost, lose_each, radios_of, lose_radios_of, lose_radios, epoch_now, same_epoch, connect_in, reconnect}

@@ -9,8 +9,8 @@ use Rattle.gnb_types.specs.Orders.{tunnel_cmp}
 use Rattle.tables.specs.Tables.{find, put, at}
 use Rattle.scenario_text.specs.declared.line.OutLine.{OutLine}
 use Rattle.scenario_text.specs.declared.line.OutLine.TheVariants as outs
-use Rattle.run_defs.specs.transport_defs.declared.Item.{Item}
-use Rattle.links.specs.links_bag.declared.error.LinkError.{LinkError}
+use Rattle.transport_defs.specs.declared.Item.{Item}
+use Rattle.links.specs.declared.links_bag.error.LinkError.{LinkError}
 use Rattle.links.specs.links_bag.Answers.{gives, refuses, AnswersSurely}
 use Rattle.links.specs.Tunnels.{OpenTunnels, put_on, put_item, get, closed}
 use Rattle.run_defs.specs.Lines.{tunnel_link, shown, put_item as puts_line, lost_items}

@@ -4,7 +4,7 @@ use Rattle.std.specs.List.{flat_map}
 use Rattle.gnb_types.specs.declared.names.UeId.{UeId}
 use Rattle.gnb_types.specs.declared.plans.Plan.{Plan}
 use Rattle.gnb_types.specs.declared.keys.EntityKey.{EntityKey}
-use Rattle.run_defs.specs.pdcp.Numbers.{half}
+use Rattle.pdcp.specs.Numbers.{half}
 use Rattle.run_defs.specs.States.{Stop, outstanding, sn_of}
 use Rattle.run_defs.specs.Steps.{span, first_outstanding, bearer_numbers, entities_of}
 use Rattle.run_links.specs.Grounds.{OctetState}

@@ -9,7 +9,7 @@ use Rattle.gnb_types.specs.declared.outputs.Tag.{Tag}
 use Rattle.gnb_types.specs.declared.outputs.Tag.TheVariants.{Absent, Own, Same}
 use Rattle.gnb_types.specs.declared.outputs.Output.{Output}
 use Rattle.scenario_text.specs.declared.line.OutLine.{OutLine}
-use Rattle.run_defs.specs.transport_defs.Links.{most_letters}
+use Rattle.transport_defs.specs.Links.{most_letters}
 use Rattle.run_defs.specs.Steps.{noted, put_out, put_out_all}
 use Rattle.run_defs.specs.UnitRuns.{Records, unit_world, put_of}
 use Rattle.run_links.specs.declared.ground.Ground.{Ground}

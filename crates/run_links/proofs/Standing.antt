@@ -4,13 +4,13 @@ use Rattle.std.specs.Prelude.{Ok, Err}
 use Rattle.gnb_types.specs.declared.keys.TunnelEnd.{TunnelEnd}
 use Rattle.gnb_types.specs.Orders.{tunnel_cmp}
 use Rattle.tables.specs.Tables.{find}
-use Rattle.links.specs.links_bag.declared.error.LinkError.{LinkError}
-use Rattle.links.specs.links_bag.declared.error.LinkError.TheVariants as errors
+use Rattle.links.specs.declared.links_bag.error.LinkError.{LinkError}
+use Rattle.links.specs.declared.links_bag.error.LinkError.TheVariants as errors
 use Rattle.links.specs.links_bag.Answers.{gives, refuses}
 use Rattle.links.specs.Tunnels.{OpenTunnels, head}
 use Rattle.gnb_types.specs.declared.reasons.RefuseReason.{RefuseReason}
 use Rattle.gnb_types.specs.declared.reasons.RefuseReason.TheVariants as reasons
-use Rattle.run_defs.specs.transport_defs.declared.Item.{Item}
+use Rattle.transport_defs.specs.declared.Item.{Item}
 use Rattle.run_defs.specs.Events.{is_lossy}
 use Rattle.run_links.specs.Grounds.{Octets, OctetWorld}
 use Rattle.run_links.specs.Told.{oldest_in, stands_on, lost_by, loses}

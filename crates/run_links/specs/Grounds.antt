@@ -7,11 +7,11 @@ use Rattle.gnb_types.specs.declared.outputs.Output.{Output}
 use Rattle.gnb_types.specs.declared.outputs.Output.TheVariants as outs
 use Rattle.gnb_types.specs.Orders.{entity_cmp}
 use Rattle.tables.specs.Tables.{put, at}
-use Rattle.run_defs.specs.transport_defs.Links.{no_letters}
+use Rattle.transport_defs.specs.Links.{no_letters}
 use Rattle.links.specs.Tunnels.{no_tunnels}
 use Rattle.links.specs.Radios.{no_radios}
 use Rattle.run_links.specs.declared.ground.Ground.{Ground}
-use Rattle.run_defs.specs.unit_defs.Core.{CoreRecord}
+use Rattle.unit_defs.specs.Core.{CoreRecord}
 use Rattle.run_defs.specs.States.{State, World, Within, Outcome, Book, new_book}
 use Rattle.run_defs.specs.UnitRuns.{Records}
 

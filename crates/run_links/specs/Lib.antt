@@ -1,4 +1,3 @@
 pub mod Grounds
 pub mod Spans
 pub mod Told
-pub use Rattle.run_defs.specs as run_defs

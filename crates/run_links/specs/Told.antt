@@ -7,12 +7,12 @@ use Rattle.gnb_types.specs.declared.reasons.RefuseReason.{RefuseReason}
 use Rattle.gnb_types.specs.declared.reasons.RefuseReason.TheVariants as reasons
 use Rattle.scenario_text.specs.declared.line.OutLine.{OutLine}
 use Rattle.scenario_text.specs.declared.line.OutLine.TheVariants as outs
-use Rattle.links.specs.links_bag.declared.error.LinkError.{LinkError}
-use Rattle.links.specs.links_bag.declared.error.LinkError.TheVariants as errors
-use Rattle.run_defs.specs.transport_defs.declared.Item.{Item}
-use Rattle.run_defs.specs.transport_defs.Links.{emptied}
+use Rattle.links.specs.declared.links_bag.error.LinkError.{LinkError}
+use Rattle.links.specs.declared.links_bag.error.LinkError.TheVariants as errors
+use Rattle.transport_defs.specs.declared.Item.{Item}
+use Rattle.transport_defs.specs.Links.{emptied}
 use Rattle.gnb_types.specs.declared.keys.EntityKey.{EntityKey}
-use Rattle.run_defs.specs.unit_octet_defs.Codec.{Codec}
+use Rattle.unit_defs.specs.octet_defs.Codec.{Codec}
 use Rattle.run_defs.specs.Lines.{RunLine}
 use Rattle.run_defs.specs.Printing.{out_lines}
 use Rattle.run_defs.specs.States.{goes, stops, radio_of}

@@ -1,8 +1,8 @@
 //! Control messages: they are put, given and lost, with the lines of it.
 
 ghost use Rattle.std.specs.Prelude.{◌≡◌, ◌<◌, List, ℕ, IfOk, OnOk, Some, option_copied, length, not, nat_lt, ◌+◌};
-ghost use Rattle.run_defs.specs.transport_defs.declared.Letter.{Letter};
-ghost use Rattle.run_defs.specs.transport_defs.Links.{letter, most_letters};
+ghost use Rattle.transport_defs.specs.declared.Letter.{Letter};
+ghost use Rattle.transport_defs.specs.Links.{letter, most_letters};
 ghost use Rattle.links.specs.links_bag.Bags.{message};
 ghost use Rattle.tables.specs.Queues.{first_item};
 ghost use Rattle.run_defs.specs.Printing.{shown_message};
@@ -18,8 +18,8 @@ use gnb_types::octets::Octets;
 use gnb_types::reasons::RefuseReason;
 use links::bag::Message;
 use links::error::LinkError;
-use run_defs::from_transport_defs::Letter;
 use scenario_text::line::{Message as ShownMessage, OutLine};
+use transport_defs::Letter;
 
 fn shown_message(number: u32, from: NodeId, to: NodeId, ue: u8, bytes: Octets) -> ShownMessage
     ensures { result ≡ shown_message (λ octets. octets) number (message from to ue bytes) }

@@ -1,7 +1,7 @@
 //! What a unit puts out in a step.
 
 ghost use Rattle.std.specs.Prelude.{◌≡◌, ◌+◌, ◌≤◌, ◌∷◌, [], map, OnOk, length};
-ghost use Rattle.run_defs.specs.transport_defs.Links.{most_letters};
+ghost use Rattle.transport_defs.specs.Links.{most_letters};
 ghost use Rattle.run_defs.specs.Lines.{delivers};
 ghost use Rattle.run_defs.specs.States.{goes};
 ghost use Rattle.run_defs.specs.Steps.{count_beside, noted, delivered, put_on_tunnel, put_on_radio, put_out, put_out_all, too_many_letters};

@@ -3,11 +3,11 @@
 ghost use Rattle.std.specs.Prelude.{◌≡◌, ◌==◌, ◌∷◌, List, ℕ, OnOk, Some, option_copied, false};
 ghost use Rattle.gnb_types.specs.Orders.{ue_cmp, entity_cmp};
 ghost use Rattle.tables.specs.Tables.{find, at};
-ghost use Rattle.run_defs.specs.transport_defs.declared.Item.{Item};
-ghost use Rattle.run_defs.specs.transport_defs.Links.{silent};
+ghost use Rattle.transport_defs.specs.declared.Item.{Item};
+ghost use Rattle.transport_defs.specs.Links.{silent};
 ghost use Rattle.links.specs.Radios.{uncarried, oldest_carried, failed};
 ghost use Rattle.scenario_text.specs.declared.line.OutLine.{OutLine as ShownLine};
-ghost use Rattle.run_defs.specs.unit_octet_defs.Codec.{Codec};
+ghost use Rattle.unit_defs.specs.octet_defs.Codec.{Codec};
 ghost use Rattle.run_defs.specs.Conditions.{epoch_in};
 ghost use Rattle.run_defs.specs.UnitRuns.{Meaning, Records, unit_world};
 ghost use Rattle.run_defs.specs.Steps.{put_on_radio, lose_radios, reconnect, epoch_now, same_epoch};

@@ -2,10 +2,10 @@
 
 ghost use Rattle.std.specs.Prelude.{◌≡◌, ◌∷◌, [], ◌++◌};
 ghost use Rattle.std.specs.List.{flat_map};
-ghost use Rattle.run_defs.specs.transport_defs.Links.{tunnel_counts, radio_counts, least};
+ghost use Rattle.transport_defs.specs.Links.{tunnel_counts, radio_counts, least};
 ghost use Rattle.tables.specs.Tables.{find};
 ghost use Rattle.gnb_types.specs.Orders.{ue_cmp};
-ghost use Rattle.run_defs.specs.pdcp.Numbers.{half};
+ghost use Rattle.pdcp.specs.Numbers.{half};
 ghost use Rattle.run_defs.specs.States.{sn_in};
 ghost use Rattle.run_defs.specs.Steps.{span, first_outstanding, bearer_numbers, checked_by, check_spans};
 ghost use Rattle.run_defs.specs.UnitRuns.{Records};

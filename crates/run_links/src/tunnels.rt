@@ -3,7 +3,7 @@
 ghost use Rattle.std.specs.Prelude.{◌≡◌, ◌∷◌, [], List, ℕ, IfOk, OnOk, Some};
 ghost use Rattle.gnb_types.specs.Orders.{tunnel_cmp};
 ghost use Rattle.tables.specs.Tables.{find};
-ghost use Rattle.run_defs.specs.transport_defs.declared.Item.{Item};
+ghost use Rattle.transport_defs.specs.declared.Item.{Item};
 ghost use Rattle.run_defs.specs.Steps.{put_on_tunnel, with_tunnel, opens, closes};
 ghost use Rattle.run_defs.specs.Events.{taken_off, is_lossy, lose_item};
 ghost use Rattle.scenario_text.specs.declared.line.OutLine.{OutLine as ShownLine};

@@ -14,17 +14,17 @@ use Rattle.gnb_types.specs.declared.outputs.Output.TheVariants as outs
 use Rattle.gnb_types.specs.declared.reasons.HeldReason.{HeldReason}
 use Rattle.gnb_types.specs.declared.reasons.RefuseReason.{RefuseReason}
 use Rattle.tables.specs.Tables.{find}
-use Rattle.ue_node.specs.unit_defs.Accessors.{is_set_up}
-use Rattle.ue_node.specs.unit_defs.CpRecords.{CuCpRecord}
-use Rattle.ue_node.specs.unit_defs.Static.{up_has_room, up_has_teids, du_has_teids}
-use Rattle.ue_node.specs.unit_defs.Ways.{teids_spent}
-use Rattle.plain_defs.specs.run_defs.Units.{cp_of, up_of, du_of}
-use Rattle.plain_defs.specs.run_defs.Conditions.{units_placed, all_set_up}
-use Rattle.plain_defs.specs.run_defs.UnitRuns.{Records, Meaning, UnitAnswer, unit_gives, unit_spent}
-use Rattle.du_node.specs.unit_steps.declared.StepError.{StepError}
-use Rattle.du_node.specs.unit_steps.declared.StepError.TheVariants as errors
-use Rattle.cu_user.specs.up_rows.up_contexts.declared.placing.PlaceError.{PlaceError}
-use Rattle.cu_user.specs.up_rows.up_contexts.declared.placing.PlaceError.TheVariants as places
+use Rattle.unit_defs.specs.Accessors.{is_set_up}
+use Rattle.unit_defs.specs.CpRecords.{CuCpRecord}
+use Rattle.unit_defs.specs.Static.{up_has_room, up_has_teids, du_has_teids}
+use Rattle.unit_defs.specs.Ways.{teids_spent}
+use Rattle.run_defs.specs.Units.{cp_of, up_of, du_of}
+use Rattle.run_defs.specs.Conditions.{units_placed, all_set_up}
+use Rattle.run_defs.specs.UnitRuns.{Records, Meaning, UnitAnswer, unit_gives, unit_spent}
+use Rattle.unit_messages.specs.declared.steps.StepError.{StepError}
+use Rattle.unit_messages.specs.declared.steps.StepError.TheVariants as errors
+use Rattle.cu_up_contexts.specs.declared.contexts.placing.PlaceError.{PlaceError}
+use Rattle.cu_up_contexts.specs.declared.contexts.placing.PlaceError.TheVariants as places
 
 -- this answer was given: these outputs, and these are the records then; or the spent counter. Out of memory nothing is said.
 abbrev pub StepGives : UnitAnswer → Records → Result (List Output) StepError → Type 0

@@ -5,18 +5,17 @@ ghost use Rattle.std.specs.Map.{keys_of};
 ghost use Rattle.std.specs.Option.{option_map};
 ghost use Rattle.gnb_types.specs.Orders.{node_cmp, ue_cmp};
 ghost use Rattle.tables.specs.Tables.{find};
-ghost use Rattle.ue_node.specs.unit_defs.Ue.{new_ue};
-ghost use Rattle.plain_defs.specs.run_defs.Units.{new_units, cp_of, ue_of, with_ue, ups_rest};
-ghost use Rattle.plain_defs.specs.run_defs.UnitRuns.{Records, Meaning};
-ghost use Rattle.plain_defs.specs.Plain.{IsPlanned, IsGiven, KeepRange, IsPlain};
-ghost use Rattle.plain_defs.specs.run_defs.Conditions.{is_held_by_units};
+ghost use Rattle.unit_defs.specs.Ue.{new_ue};
+ghost use Rattle.run_defs.specs.Units.{new_units, cp_of, ue_of, with_ue, ups_rest};
+ghost use Rattle.run_defs.specs.UnitRuns.{Records, Meaning};
+ghost use Rattle.run_defs.specs.plain_defs.Plain.{IsPlanned, IsGiven, KeepRange, IsPlain};
+ghost use Rattle.run_defs.specs.Conditions.{is_held_by_units};
 ghost use Rattle.run_units.specs.Steps.{StepGives, PlacingGives, LeavesAll};
-ghost use Rattle.cu_user.specs.up_rows.up_contexts.declared.placing.PlaceError.TheVariants as errors;
+ghost use Rattle.cu_up_contexts.specs.declared.contexts.placing.PlaceError.TheVariants as errors;
 
 use cu_control::CuControl;
 use cu_user::{CuUser, PlaceError};
 use du_node::DuNode;
-use du_node::from_unit_steps::StepError;
 use gnb_types::inputs::Input;
 use gnb_types::items::{Items, Memory};
 use gnb_types::names::{BearerId, Gnb, NodeId, UeId};
@@ -24,7 +23,8 @@ use gnb_types::outputs::Outputs;
 use gnb_types::plans::Plan;
 use std::alloc::Global;
 use ue_node::UeNode;
-use ue_node::from_unit_messages::MessageCodec;
+use unit_messages::MessageCodec;
+use unit_messages::steps::StepError;
 
 /// The units of both gNBs and the terminals. What they are is `records`, and `answer` says what one of them makes of an input: it may
 /// be any function of the records, the unit and the input that leaves all where the unit holds what a run asks of it, or refuses an event.

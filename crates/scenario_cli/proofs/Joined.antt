@@ -1,7 +1,7 @@
 -- What each word promises, joined to what the program does.
 use Rattle.std.proofs.Common.{◌≡◌, ◌≤◌, ◌⊎◌, ℕ, List, [], ◌∷◌, refl, sym, ap, ◌∙◌, subst, inl, inr, arith, Err}
 use Rattle.gnb_base.specs.Outside.{SourceAt, SinkAt, Rose}
-use Rattle.input_lines.proofs.Sources.{none_failed as no_read_failed}
+use Rattle.commands.proofs.input_lines.Sources.{none_failed as no_read_failed}
 use Rattle.scenario_text.specs.declared.line.OutLine.{OutLine}
 use Rattle.scenario_text.specs.Print.{print}
 use Rattle.command_defs.specs.declared.CommonEnd.{CommonEnd}
@@ -10,8 +10,8 @@ use Rattle.command_defs.specs.declared.Status.{Status}
 use Rattle.command_defs.specs.Ends.{StopsAtLine, UsagePrints, Written, Cut, Unwritten, UsageMeets}
 use Rattle.command_defs.specs.Outside.{OutsideAt, outside, ReadsTo, AllRead, ReadStopped, WritesTo, AllWritten, WriteStopped, CallsTo, NoWriteFailed}
 use Rattle.command_defs.specs.Statuses.{usage_status, common_status, stop_line}
-use Rattle.command_output.specs.Writes.{WritesAll, WritesLines}
-use Rattle.command_output.proofs.Written.{none_failed}
+use Rattle.commands.specs.command_output.Writes.{WritesAll, WritesLines}
+use Rattle.commands.proofs.command_output.Written.{none_failed}
 use Rattle.command_run.specs.declared.end.RunEnd.{RunEnd}
 use Rattle.command_run.specs.declared.end.RunEnd.TheVariants.{Common}
 use Rattle.command_run.specs.Ends.{run_status, StopsAtEvent as StopsAtStep}
@@ -20,29 +20,29 @@ use Rattle.command_run.specs.Whole.{RunsWholly}
 use Rattle.command_run.proofs.Finished.{out_of_memory}
 use Rattle.command_run.proofs.Whole.{complete, near}
 use Rattle.run_defs.specs.Runs.{Transcript}
-use Rattle.command_generate.specs.declared.end.GenerateEnd.{GenerateEnd}
-use Rattle.command_generate.specs.declared.end.GenerateEnd.TheVariants as ends
-use Rattle.command_generate.specs.Script.{script}
-use Rattle.command_generate.specs.Ends.{generate_status}
-use Rattle.command_generate.specs.Generate.{PrintsEnd, GenerateMeets, GeneratesWholly}
-use Rattle.command_generate.specs.Generate as generated
-use Rattle.command_check.specs.declared.end.CheckEnd.{CheckEnd}
-use Rattle.command_check.specs.Report.{check_status, CheckMeets}
-use Rattle.command_check.specs.Whole.{ChecksWholly}
+use Rattle.command_run.specs.declared.generate.end.GenerateEnd.{GenerateEnd}
+use Rattle.command_run.specs.declared.generate.end.GenerateEnd.TheVariants as ends
+use Rattle.command_run.specs.generate.Script.{script}
+use Rattle.command_run.specs.generate.Ends.{generate_status}
+use Rattle.command_run.specs.generate.Generate.{PrintsEnd, GenerateMeets, GeneratesWholly}
+use Rattle.command_run.specs.generate.Generate as generated
+use Rattle.commands.specs.declared.command_check.end.CheckEnd.{CheckEnd}
+use Rattle.commands.specs.command_check.Report.{check_status, CheckMeets}
+use Rattle.commands.specs.command_check.Whole.{ChecksWholly}
 use Rattle.profile.specs.declared.version.Version.{Version}
-use Rattle.command_profile.specs.Written.{PrintsProfile, ProfileMeets, WritesWholly}
-use Rattle.command_profile.specs.Written as written
+use Rattle.commands.specs.command_profile.Written.{PrintsProfile, ProfileMeets, WritesWholly}
+use Rattle.commands.specs.command_profile.Written as written
 use Rattle.scenario_cli.specs.declared.top.Form.{Form}
-use Rattle.command_um.specs.declared.config.UmConfig.{UmConfig}
-use Rattle.command_um.specs.declared.end.ScriptEnd.{ScriptEnd}
-use Rattle.command_um.specs.Ends.{script_status, StopsAtEvent}
-use Rattle.command_um.specs.Run.{UmMeets}
-use Rattle.command_um.specs.Whole.{RunsWholly as RunsWhollyUm}
-use Rattle.command_dup.specs.declared.config.DupConfig.{DupConfig}
-use Rattle.command_dup.specs.declared.end.ScriptEnd.{ScriptEnd as DupScriptEnd}
-use Rattle.command_dup.specs.Ends.{script_status as dup_script_status, StopsAtEvent as StopsAtDupEvent}
-use Rattle.command_dup.specs.Run.{DupMeets}
-use Rattle.command_dup.specs.Whole.{RunsWholly as RunsWhollyDup}
+use Rattle.command_bearers.specs.declared.command_um.config.UmConfig.{UmConfig}
+use Rattle.command_bearers.specs.declared.command_um.end.ScriptEnd.{ScriptEnd}
+use Rattle.command_bearers.specs.command_um.Ends.{script_status, StopsAtEvent}
+use Rattle.command_bearers.specs.command_um.Run.{UmMeets}
+use Rattle.command_bearers.specs.command_um.Whole.{RunsWholly as RunsWhollyUm}
+use Rattle.command_bearers.specs.declared.command_dup.config.DupConfig.{DupConfig}
+use Rattle.command_bearers.specs.declared.command_dup.end.ScriptEnd.{ScriptEnd as DupScriptEnd}
+use Rattle.command_bearers.specs.command_dup.Ends.{script_status as dup_script_status, StopsAtEvent as StopsAtDupEvent}
+use Rattle.command_bearers.specs.command_dup.Run.{DupMeets}
+use Rattle.command_bearers.specs.command_dup.Whole.{RunsWholly as RunsWhollyDup}
 use Rattle.command_values.specs.declared.way.Way.{Way}
 use Rattle.command_values.specs.declared.end.ValuesEnd.{ValuesEnd}
 use Rattle.command_values.specs.Ends.{values_status, StopsAtValue}

@@ -7,22 +7,22 @@ use Rattle.command_defs.specs.Outside.{OutsideAt}
 use Rattle.command_run.specs.declared.end.RunEnd.{RunEnd}
 use Rattle.command_run.specs.Ends.{run_status}
 use Rattle.command_run.specs.Run.{Setting, run_of, RunMeets}
-use Rattle.command_generate.specs.Script.{script}
-use Rattle.command_generate.specs.Generate.{GenerateMeets}
-use Rattle.command_check.specs.declared.end.CheckEnd.{CheckEnd}
-use Rattle.command_check.specs.Report.{check_status, CheckMeets}
+use Rattle.command_run.specs.generate.Script.{script}
+use Rattle.command_run.specs.generate.Generate.{GenerateMeets}
+use Rattle.commands.specs.declared.command_check.end.CheckEnd.{CheckEnd}
+use Rattle.commands.specs.command_check.Report.{check_status, CheckMeets}
 use Rattle.profile.specs.declared.version.Version.TheVariants.{One, Two}
-use Rattle.command_profile.specs.Written.{ProfileMeets, WritesWholly}
-use Rattle.script_words.specs.Forms.{sn_bits_of, number_of}
+use Rattle.commands.specs.command_profile.Written.{ProfileMeets, WritesWholly}
+use Rattle.scenario_text.specs.script_words.Forms.{sn_bits_of, number_of}
 use Rattle.gnb_types.specs.declared.names.SnBits.{SnBits}
-use Rattle.command_um.specs.declared.config.UmConfig.{UmConfig}
-use Rattle.command_um.specs.declared.end.ScriptEnd.{ScriptEnd}
-use Rattle.command_um.specs.Ends.{script_status}
-use Rattle.command_um.specs.Run.{UmMeets}
-use Rattle.command_dup.specs.declared.config.DupConfig.{DupConfig}
-use Rattle.command_dup.specs.declared.end.ScriptEnd.{ScriptEnd as DupScriptEnd}
-use Rattle.command_dup.specs.Ends.{script_status as dup_script_status}
-use Rattle.command_dup.specs.Run.{DupMeets}
+use Rattle.command_bearers.specs.declared.command_um.config.UmConfig.{UmConfig}
+use Rattle.command_bearers.specs.declared.command_um.end.ScriptEnd.{ScriptEnd}
+use Rattle.command_bearers.specs.command_um.Ends.{script_status}
+use Rattle.command_bearers.specs.command_um.Run.{UmMeets}
+use Rattle.command_bearers.specs.declared.command_dup.config.DupConfig.{DupConfig}
+use Rattle.command_bearers.specs.declared.command_dup.end.ScriptEnd.{ScriptEnd as DupScriptEnd}
+use Rattle.command_bearers.specs.command_dup.Ends.{script_status as dup_script_status}
+use Rattle.command_bearers.specs.command_dup.Run.{DupMeets}
 use Rattle.command_values.specs.declared.way.Way.TheVariants.{Encode, Decode}
 use Rattle.command_values.specs.declared.end.ValuesEnd.{ValuesEnd}
 use Rattle.command_values.specs.Ends.{values_status}

@@ -4,7 +4,7 @@ ghost use Rattle.std.specs.Prelude.{map};
 ghost use Rattle.std.specs.String.{string_bytes};
 ghost use Rattle.command_defs.specs.Outside.{outside};
 ghost use Rattle.command_run.specs.Run.{setting_of};
-ghost use Rattle.message_codec.specs.message_codec_defs.Codecs.{profile_codec};
+ghost use Rattle.message_codec_defs.specs.Codecs.{profile_codec};
 ghost use Rattle.run_defs.specs.UnitRuns.{tables};
 ghost use Rattle.scenario_cli.specs.Gnb.{form_of as form_of_words, FormMeets};
 

@@ -5,20 +5,20 @@ use Rattle.std.specs.Option.{ok_or}
 use Rattle.std.specs.List.{find, join_with_byte, list_any, list_all}
 use Rattle.std.proofs.lemmas.List.Splits.{join_with_byte-slice_split}
 use Rattle.std.proofs.lemmas.List.Folds.{list_all-append}
-use Rattle.script_words.specs.gnb_types.Names.{node_text}
-use Rattle.script_words.specs.gnb_types.declared.names.Gnb.TheVariants.{A, B}
-use Rattle.script_words.specs.gnb_types.declared.names.NodeId.{NodeId}
-use Rattle.script_words.specs.gnb_types.declared.names.NodeId.TheVariants.{CuCp, CuUp, Du, Core, Ue}
+use Rattle.gnb_types.specs.Names.{node_text}
+use Rattle.gnb_types.specs.declared.names.Gnb.TheVariants.{A, B}
+use Rattle.gnb_types.specs.declared.names.NodeId.{NodeId}
+use Rattle.gnb_types.specs.declared.names.NodeId.TheVariants.{CuCp, CuUp, Du, Core, Ue}
 use Rattle.std.specs.Fmt.{decimal}
-use Rattle.script_words.specs.declared.reason.TextReason.{TextReason}
-use Rattle.script_words.specs.declared.reason.TextReason.TheVariants.{Word}
-use Rattle.script_words.specs.declared.reason.TextError.{TextError}
-use Rattle.script_words.specs.Answers.{GivesOrMemory}
-use Rattle.script_words.specs.Forms.{words, ◌is◌, ◌begins◌, fixed}
-use Rattle.script_words.specs.Ranges.{IsNode}
-use Rattle.script_words.specs.Places.{Place, Values, InPlaces, AreWordsOf, value_words, next_word, result_then, place, line_end, read_places}
-use Rattle.script_words.proofs.FormLaws.{chosen, and_true, ok_or_ok, is_text}
-use Rattle.script_words.proofs.PlaceLaws.{Lacks, Lacks-node, AllLack, AreEventPlaces, places_sound, places_again, value_words-AreWordsOf, words-joined, words_lack_blanks}
+use Rattle.scenario_text.specs.declared.script_words.reason.TextReason.{TextReason}
+use Rattle.scenario_text.specs.declared.script_words.reason.TextReason.TheVariants.{Word}
+use Rattle.scenario_text.specs.declared.script_words.reason.TextError.{TextError}
+use Rattle.scenario_text.specs.script_words.Answers.{GivesOrMemory}
+use Rattle.scenario_text.specs.script_words.Forms.{words, ◌is◌, ◌begins◌, fixed}
+use Rattle.scenario_text.specs.script_words.Ranges.{IsNode}
+use Rattle.scenario_text.specs.script_words.Places.{Place, Values, InPlaces, AreWordsOf, value_words, next_word, result_then, place, line_end, read_places}
+use Rattle.scenario_text.proofs.script_words.FormLaws.{chosen, and_true, ok_or_ok, is_text}
+use Rattle.scenario_text.proofs.script_words.PlaceLaws.{Lacks, Lacks-node, AllLack, AreEventPlaces, places_sound, places_again, value_words-AreWordsOf, words-joined, words_lack_blanks}
 use Rattle.scenario_text.specs.declared.event.Event.{Event}
 use Rattle.scenario_text.specs.declared.event.Event.TheVariants as events
 use Rattle.scenario_text.specs.declared.event.Keyword.{Keyword}

@@ -3,7 +3,7 @@ use Rattle.std.proofs.Common.{◌≡◌, ℕ, ◌+◌, ◌-◌, ◌^◌, ◌<◌
 use Rattle.std.proofs.lemmas.List.{take_more, flat_map_more}
 use Rattle.std.proofs.lemmas.Fmt.{hex_byte}
 use Rattle.std.specs.Fmt.{digits, padded_integral, format_spec}
-use Rattle.script_words.specs.gnb_types.Hex.{hex_of, hex_byte as digits_of_byte}
+use Rattle.gnb_types.specs.Hex.{hex_of, hex_byte as digits_of_byte}
 
 -- the digits of one more byte, as `{:02X}` writes them
 pub hex_of-more : (bytes : List ℕ) (i : ℕ) → i < length bytes → get_or bytes i 0 < 256

@@ -1,4 +1,4 @@
 pub mod Grammar
 pub mod Texts
 pub mod Print
-pub use Rattle.script_words.specs.gnb_types as gnb_types
+pub mod script_words

@@ -2,9 +2,9 @@
 use Rattle.std.specs.Prelude.{ℕ, List, [], ◌∷◌, ◌++◌, codes, Option, Some, None}
 use Rattle.std.specs.List.{flat_map}
 use Rattle.std.specs.Fmt.{decimal}
-use Rattle.script_words.specs.gnb_types.Hex.{hex_of}
-use Rattle.script_words.specs.gnb_types.Names.{node_text, ue_text, bearer_text, dir_text}
-use Rattle.script_words.specs.gnb_types.Reasons.{drop_text, held_text, cause_text, refuse_text}
+use Rattle.gnb_types.specs.Hex.{hex_of}
+use Rattle.gnb_types.specs.Names.{node_text, ue_text, bearer_text, dir_text}
+use Rattle.gnb_types.specs.Reasons.{drop_text, held_text, cause_text, refuse_text}
 use Rattle.scenario_text.specs.declared.line.Link.{Link}
 use Rattle.scenario_text.specs.declared.line.Link.TheVariants.{Tunnel, Radio}
 use Rattle.scenario_text.specs.declared.line.Item.{Item}

@@ -1,11 +1,11 @@
 -- The same from the event to the line: the words of each event, how it is written, and which lines are texts of it.
 use Rattle.std.specs.Prelude.{◌≡◌, ℕ, List, [], ◌∷◌}
 use Rattle.std.specs.List.{join_with_byte}
-use Rattle.script_words.specs.gnb_types.declared.plans.Plan.{Plan}
+use Rattle.gnb_types.specs.declared.plans.Plan.{Plan}
 use Rattle.scenario_text.specs.declared.event.Event.{Event}
 use Rattle.scenario_text.specs.declared.event.Event.TheVariants as events
 use Rattle.scenario_text.specs.declared.event.Keyword.TheVariants as keywords
-use Rattle.script_words.specs.Places.{Values, InPlaces, AreWordsOf, value_words}
+use Rattle.scenario_text.specs.script_words.Places.{Values, InPlaces, AreWordsOf, value_words}
 use Rattle.scenario_text.specs.Grammar.{EventForm, keyword_text, plan_places, bare_form, static_form, attach_form, offer_form, get_form, air_form, ack_form, give_form, lose_message_form, lose_item_form, poll_form, ue_form, handover_form, ask_form, inject_message_form, inject_item_form}
 
 abbrev pub plan_values : Plan → Values plan_places

@@ -1,9 +1,9 @@
 //! The events of a script.
 
-use script_words::from_gnb_types::names::{BearerId, Dir, Gnb, NodeId, UeId};
-use script_words::from_gnb_types::octets::Octets;
-use script_words::from_gnb_types::plans::Plan;
-pub use script_words::reason::TextReason;
+pub use crate::script_words::reason::TextReason;
+use gnb_types::names::{BearerId, Dir, Gnb, NodeId, UeId};
+use gnb_types::octets::Octets;
+use gnb_types::plans::Plan;
 
 /// What a line of a script makes happen.
 #[derive(Drop)]

@@ -5,3 +5,4 @@ pub mod event;
 pub mod line;
 pub mod print;
 pub mod read;
+pub mod script_words;

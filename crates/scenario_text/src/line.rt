@@ -1,9 +1,9 @@
 //! The lines of a transcript.
 
 use crate::event::Event;
-use script_words::from_gnb_types::names::{BearerId, Dir, NodeId, UeId};
-use script_words::from_gnb_types::octets::Octets;
-use script_words::from_gnb_types::reasons::{CauseName, DropReason, HeldReason, RefuseReason};
+use gnb_types::names::{BearerId, Dir, NodeId, UeId};
+use gnb_types::octets::Octets;
+use gnb_types::reasons::{CauseName, DropReason, HeldReason, RefuseReason};
 
 /// A tunnel, named by its end, or the radio of a bearer, a direction and an epoch.
 #[derive(Clone, Copy)]

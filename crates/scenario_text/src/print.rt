@@ -2,17 +2,17 @@
 
 ghost use Rattle.std.specs.Prelude.{◌≡◌, Some, IfOk};
 ghost use Rattle.std.specs.List.{join_with_byte};
-ghost use Rattle.script_words.specs.gnb_types.Hex.{hex_of};
-ghost use Rattle.script_words.specs.Places.{sn_bits_text, value_words};
+ghost use Rattle.gnb_types.specs.Hex.{hex_of};
+ghost use Rattle.scenario_text.specs.script_words.Places.{sn_bits_text, value_words};
 ghost use Rattle.scenario_text.specs.Grammar.{plan_places, radio_places, bearer_places};
 ghost use Rattle.scenario_text.specs.Texts.{plan_values, event_text};
 ghost use Rattle.scenario_text.specs.Print.{link_text, count_text, item_text, message_text, line_text};
 
 use crate::event::Event;
 use crate::line::{Item, Link, Message, OutLine};
-use script_words::from_gnb_types::names::{BearerId, Dir, SnBits, UeId};
-use script_words::from_gnb_types::octets::{Memory, Octets};
-use script_words::from_gnb_types::plans::Plan;
+use gnb_types::names::{BearerId, Dir, SnBits, UeId};
+use gnb_types::octets::{Memory, Octets};
+use gnb_types::plans::Plan;
 use std::alloc::Global;
 use std::fmt;
 

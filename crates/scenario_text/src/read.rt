@@ -2,20 +2,19 @@
 
 ghost use Rattle.std.specs.Prelude.{◌≡◌, ◌==◌, ◌≤◌, IfOk, Bool};
 ghost use Rattle.std.specs.List.{list_any};
-ghost use Rattle.script_words.specs.Places.{read_places};
-ghost use Rattle.script_words.specs.Answers.{words_left, Gives, GivesOrMemory};
-ghost use Rattle.scenario_text.specs.Grammar.{keyword_text, keyword_of, plan_places, radio_places, bearer_places, ue_places, message_places, tunnel_places, inject_message_form, inject_item_form, read_form, names_message as names_a_message, names_tunnel as names_a_tunnel, keyword_event, event_of};
-ghost use Rattle.scenario_text.specs.Grammar.{is_skipped as skips};
+ghost use Rattle.scenario_text.specs.script_words.Places.{read_places};
+ghost use Rattle.scenario_text.specs.script_words.Answers.{words_left, Gives, GivesOrMemory};
+ghost use Rattle.scenario_text.specs.Grammar.{keyword_text, keyword_of, plan_places, radio_places, bearer_places, ue_places, message_places, tunnel_places, inject_message_form, inject_item_form, read_form, names_message as names_a_message, names_tunnel as names_a_tunnel, keyword_event, event_of, is_skipped as skips};
 ghost use Rattle.scenario_text.specs.Texts.{InRange, plan_values};
 ghost use Rattle.scenario_text.specs.declared.event.Keyword.TheVariants as keywords;
 
 use crate::event::{Event, Keyword};
-use script_words::from_gnb_types::names::{BearerId, Dir, NodeId, UeId};
-use script_words::from_gnb_types::octets::Octets;
-use script_words::from_gnb_types::plans::Plan;
-pub use script_words::reason::TextError;
-use script_words::reason::TextReason;
-use script_words::words::Words;
+pub use crate::script_words::reason::TextError;
+use crate::script_words::reason::TextReason;
+use crate::script_words::words::Words;
+use gnb_types::names::{BearerId, Dir, NodeId, UeId};
+use gnb_types::octets::Octets;
+use gnb_types::plans::Plan;
 use std::alloc::Global;
 
 /// All keywords.

@@ -12,18 +12,18 @@ use Rattle.gnb_types.specs.declared.names.UeId.{UeId}
 use Rattle.gnb_types.specs.declared.names.BearerId.{BearerId}
 use Rattle.gnb_types.specs.Orders.{node_cmp, ue_cmp}
 use Rattle.tables.specs.Tables.{find, put, map_values}
-use Rattle.run_defs.specs.unit_defs.Accessors.{up_rests}
-use Rattle.run_defs.specs.unit_defs.CpRecords.{new_cu_cp}
-use Rattle.run_defs.specs.unit_defs.Static.{up_set_up, du_set_up}
+use Rattle.unit_defs.specs.Accessors.{up_rests}
+use Rattle.unit_defs.specs.CpRecords.{new_cu_cp}
+use Rattle.unit_defs.specs.Static.{up_set_up, du_set_up}
 use Rattle.run_defs.specs.Units.{new_units, ups_rest}
 use Rattle.run_defs.specs.Conditions.{all_set_up}
-use Rattle.site_proof_leaves.specs.cu_control.Units.{ControlUnit}
-use Rattle.site_tables.specs.cu_user.Users.{User, new_user}
-use Rattle.site_tables.specs.du_node.Nodes.{Node, new_node}
+use Rattle.cu_control.specs.Units.{ControlUnit}
+use Rattle.cu_user.specs.Users.{User, new_user}
+use Rattle.du_node.specs.Nodes.{Node, new_node}
 use Rattle.site.specs.declared.unit_set.UnitSet.{UnitSet}
 use Rattle.site.specs.Each.{EachIs}
-use Rattle.site_tables.specs.Users.{Users, first_users, as_set_up as user_set_up}
-use Rattle.site_tables.specs.Nodes.{Nodes, first_nodes, as_set_up as node_set_up}
+use Rattle.site.specs.site_tables.Users.{Users, first_users, as_set_up as user_set_up}
+use Rattle.site.specs.site_tables.Nodes.{Nodes, first_nodes, as_set_up as node_set_up}
 use Rattle.site.specs.Sites.{records_of, AreWorking, all_marked}
 use Rattle.site.proofs.Each.{mapped_each}
 

@@ -8,19 +8,19 @@ use Rattle.gnb_types.specs.declared.names.NodeId.TheVariants.{Du as du_id}
 use Rattle.gnb_types.specs.declared.plans.Plan.{Plan}
 use Rattle.gnb_types.specs.Orders.{ue_cmp, node_cmp}
 use Rattle.tables.specs.Tables.{put}
-use Rattle.run_defs.specs.unit_defs.Static.{cp_placed, du_placed}
-use Rattle.run_defs.specs.unit_defs.Du.{Du}
-use Rattle.run_defs.specs.unit_defs.Ue.{UeNode, new_ue, placed}
+use Rattle.unit_defs.specs.Static.{cp_placed, du_placed}
+use Rattle.unit_defs.specs.Du.{Du}
+use Rattle.unit_defs.specs.Ue.{UeNode, new_ue, placed}
 use Rattle.run_defs.specs.Units.{cp_of, with_cp, du_of, with_du, with_ue}
 use Rattle.run_defs.specs.Conditions.{all_set_up}
 use Rattle.run_defs.specs.UnitRuns.{Records}
-use Rattle.unit_steps.specs.declared.StepError.{StepError}
-use Rattle.unit_steps.specs.declared.StepError.TheVariants as errors
-use Rattle.site_proof_leaves.specs.cu_control.Units.{ControlUnit, PlacesFrom}
-use Rattle.site_tables.specs.du_node.Nodes.{Node}
+use Rattle.unit_messages.specs.declared.steps.StepError.{StepError}
+use Rattle.unit_messages.specs.declared.steps.StepError.TheVariants as errors
+use Rattle.cu_control.specs.Units.{ControlUnit, PlacesFrom}
+use Rattle.du_node.specs.Nodes.{Node}
 use Rattle.ue_node.specs.Nodes.{NodeState, new_node}
-use Rattle.site_tables.specs.Nodes.{Nodes, node_at, PlacesNode}
-use Rattle.site_tables.specs.Terminals.{Terminals, as_placed}
+use Rattle.site.specs.site_tables.Nodes.{Nodes, node_at, PlacesNode}
+use Rattle.site.specs.site_tables.Terminals.{Terminals, as_placed}
 use Rattle.site.specs.declared.unit_set.UnitSet.{UnitSet}
 use Rattle.site.specs.Sites.{records_of, AreWorking, all_marked}
 use Rattle.site.specs.Placing.{control_placed, placed_beside, PlacesOthers}

@@ -4,30 +4,30 @@ use Rattle.std.specs.Prelude.{Result, Ok, Err, is_some, ◌||◌}
 use Rattle.gnb_types.specs.declared.names.Gnb.{Gnb}
 use Rattle.gnb_types.specs.declared.names.Gnb.TheVariants.{A, B}
 use Rattle.gnb_types.specs.declared.plans.Plan.{Plan}
-use Rattle.run_defs.specs.unit_defs.Teids.{teids_are_left, last_teid}
-use Rattle.site_tables.specs.up_contexts.Placing.{downlinks_fit}
-use Rattle.site_tables.specs.du_contexts.Placing.{uplinks_fit}
-use Rattle.site_tables.specs.up_contexts.declared.placing.PlaceError.{PlaceError}
-use Rattle.site_tables.specs.up_contexts.declared.placing.PlaceError.TheVariants as places
-use Rattle.unit_steps.specs.declared.StepError.{StepError}
-use Rattle.unit_steps.specs.declared.StepError.TheVariants as errors
+use Rattle.unit_defs.specs.Teids.{teids_are_left, last_teid}
+use Rattle.cu_up_contexts.specs.contexts.Placing.{downlinks_fit}
+use Rattle.du_contexts.specs.Placing.{uplinks_fit}
+use Rattle.cu_up_contexts.specs.declared.contexts.placing.PlaceError.{PlaceError}
+use Rattle.cu_up_contexts.specs.declared.contexts.placing.PlaceError.TheVariants as places
+use Rattle.unit_messages.specs.declared.steps.StepError.{StepError}
+use Rattle.unit_messages.specs.declared.steps.StepError.TheVariants as errors
 use Rattle.gnb_types.specs.declared.names.NodeId.TheVariants.{CuUp as up_id}
 use Rattle.gnb_types.specs.Orders.{node_cmp, ue_cmp}
 use Rattle.tables.specs.Tables.{find, put}
-use Rattle.run_defs.specs.unit_defs.UpRecords.{CuUp}
-use Rattle.run_defs.specs.unit_defs.Du.{DuContext, Du}
-use Rattle.run_defs.specs.unit_defs.Accessors.{place_of, up_has_context, epoch_in, du_epoch}
-use Rattle.run_defs.specs.unit_defs.Ue.{new_ue, placed}
-use Rattle.run_defs.specs.unit_defs.Static.{up_has_room, up_has_teids, up_placed, du_has_teids, du_placed, cp_placed}
+use Rattle.unit_defs.specs.UpRecords.{CuUp}
+use Rattle.unit_defs.specs.Du.{DuContext, Du}
+use Rattle.unit_defs.specs.Accessors.{place_of, up_has_context, epoch_in, du_epoch}
+use Rattle.unit_defs.specs.Ue.{new_ue, placed}
+use Rattle.unit_defs.specs.Static.{up_has_room, up_has_teids, up_placed, du_has_teids, du_placed, cp_placed}
 use Rattle.run_defs.specs.Units.{cp_of, with_cp, up_of, with_up, du_of, with_du, with_ue}
 use Rattle.run_defs.specs.Conditions.{units_placed, all_set_up, is_held_by_units}
 use Rattle.run_defs.specs.UnitRuns.{Records}
-use Rattle.site_proof_leaves.specs.run_units.Steps.{has_room, has_teids, PlacingGives}
-use Rattle.site_tables.specs.cu_user.Users.{User}
-use Rattle.site_tables.specs.du_node.Nodes.{Node}
+use Rattle.run_units.specs.Steps.{has_room, has_teids, PlacingGives}
+use Rattle.cu_user.specs.Users.{User}
+use Rattle.du_node.specs.Nodes.{Node}
 use Rattle.site.specs.declared.unit_set.UnitSet.{UnitSet}
-use Rattle.site_tables.specs.Users.{Users, user_at, PlacesUser}
-use Rattle.site_tables.specs.Nodes.{node_at}
+use Rattle.site.specs.site_tables.Users.{Users, user_at, PlacesUser}
+use Rattle.site.specs.site_tables.Nodes.{node_at}
 use Rattle.site.specs.Sites.{records_of, AreWorking}
 use Rattle.site.specs.Placing.{placed_beside, PlacesOthers}
 use Rattle.site.proofs.Sets.{with_user, up_is, ups_put, du_is}

@@ -6,18 +6,18 @@ use Rattle.gnb_types.specs.declared.inputs.Input.TheVariants as ins
 use Rattle.gnb_types.specs.declared.names.NodeId.{NodeId}
 use Rattle.gnb_types.specs.declared.outputs.Output.{Output}
 use Rattle.gnb_types.specs.declared.plans.Plan.{Plan}
-use Rattle.run_defs.specs.unit_defs.Ue.{new_ue}
-use Rattle.run_defs.specs.unit_octet_defs.Codec.{Codec}
+use Rattle.unit_defs.specs.Ue.{new_ue}
+use Rattle.unit_defs.specs.octet_defs.Codec.{Codec}
 use Rattle.run_defs.specs.Units.{new_units, with_ue}
 use Rattle.run_defs.specs.UnitRuns.{Records, tables}
-use Rattle.plain_defs.specs.Plain.{IsGiven, IsPlanned}
-use Rattle.site_proof_leaves.specs.run_units.Steps.{StepGives, PlacingGives}
-use Rattle.site_tables.specs.up_contexts.declared.placing.PlaceError.{PlaceError}
-use Rattle.site_tables.specs.up_contexts.declared.placing.PlaceError.TheVariants as places
-use Rattle.unit_steps.specs.declared.StepError.{StepError}
+use Rattle.run_defs.specs.plain_defs.Plain.{IsGiven, IsPlanned}
+use Rattle.run_units.specs.Steps.{StepGives, PlacingGives}
+use Rattle.cu_up_contexts.specs.declared.contexts.placing.PlaceError.{PlaceError}
+use Rattle.cu_up_contexts.specs.declared.contexts.placing.PlaceError.TheVariants as places
+use Rattle.unit_messages.specs.declared.steps.StepError.{StepError}
 use Rattle.ue_node.specs.Nodes.{HasPacket}
-use Rattle.site_proof_leaves.specs.Settled.{AreSettled}
-use Rattle.site_proof_leaves.proofs.Keeping.{settled_begin, settled_come, settled_place, settled_answer}
+use Rattle.proof_site.specs.leaves.Settled.{AreSettled}
+use Rattle.proof_site.proofs.leaves.Keeping.{settled_begin, settled_come, settled_place, settled_answer}
 use Rattle.site.specs.declared.unit_set.UnitSet.{UnitSet}
 use Rattle.site.specs.Sites.{records_of, AreWorking, AreReady}
 

@@ -13,27 +13,27 @@ use Rattle.gnb_types.specs.Orders.{node_cmp, ue_cmp}
 use Rattle.gnb_types.proofs.OrderLemmas.{node_total, ue_total}
 use Rattle.tables.specs.Tables.{find, put}
 use Rattle.tables.proofs.TableLaws.{find-mapped, put-mapped}
-use Rattle.run_defs.specs.unit_defs.Ways.{gives, spent}
-use Rattle.run_defs.specs.unit_defs.CpRecords.{CuCpRecord}
-use Rattle.run_defs.specs.unit_defs.UpRecords.{CuUp}
-use Rattle.run_defs.specs.unit_defs.Du.{Du}
-use Rattle.run_defs.specs.unit_defs.Ue.{UeNode}
-use Rattle.run_defs.specs.unit_octet_defs.Codec.{Codec}
-use Rattle.run_defs.specs.unit_octet_defs.Units.{OctetAnswer, cu_cp_steps, cu_up_steps, du_steps, ue_steps}
+use Rattle.unit_defs.specs.Ways.{gives, spent}
+use Rattle.unit_defs.specs.CpRecords.{CuCpRecord}
+use Rattle.unit_defs.specs.UpRecords.{CuUp}
+use Rattle.unit_defs.specs.Du.{Du}
+use Rattle.unit_defs.specs.Ue.{UeNode}
+use Rattle.unit_defs.specs.octet_defs.Codec.{Codec}
+use Rattle.unit_defs.specs.octet_defs.Units.{OctetAnswer, cu_cp_steps, cu_up_steps, du_steps, ue_steps}
 use Rattle.run_defs.specs.Units.{up_of, with_up, du_of, with_du, with_cp, with_ue}
 use Rattle.run_defs.specs.UnitRuns.{Records, UnitAnswer, unit_gives, unit_spent, answered_with, ue_answers, tables}
-use Rattle.site_proof_leaves.specs.run_units.Steps.{StepGives}
-use Rattle.unit_steps.specs.declared.StepError.{StepError}
-use Rattle.unit_steps.specs.declared.StepError.TheVariants as errors
-use Rattle.unit_steps.specs.Steps.{Step, stepped, stopped, step_after}
-use Rattle.site_proof_leaves.specs.cu_control.Units.{ControlUnit, StepsFrom, StepsTo}
-use Rattle.site_tables.specs.cu_user.Users.{User, new_user}
-use Rattle.site_tables.specs.du_node.Nodes.{Node, new_node}
+use Rattle.run_units.specs.Steps.{StepGives}
+use Rattle.unit_messages.specs.declared.steps.StepError.{StepError}
+use Rattle.unit_messages.specs.declared.steps.StepError.TheVariants as errors
+use Rattle.unit_messages.specs.steps.Steps.{Step, stepped, stopped, step_after}
+use Rattle.cu_control.specs.Units.{ControlUnit, StepsFrom, StepsTo}
+use Rattle.cu_user.specs.Users.{User, new_user}
+use Rattle.du_node.specs.Nodes.{Node, new_node}
 use Rattle.ue_node.specs.Nodes.{NodeState}
-use Rattle.site_tables.specs.Steps.{Kind, Steps}
-use Rattle.site_tables.specs.Users.{Users, user_kind, user_at}
-use Rattle.site_tables.specs.Nodes.{Nodes, node_kind, node_at}
-use Rattle.site_tables.specs.Terminals.{Terminals, terminal_kind, IsWorking, TerminalSteps}
+use Rattle.site.specs.site_tables.Steps.{Kind, Steps}
+use Rattle.site.specs.site_tables.Users.{Users, user_kind, user_at}
+use Rattle.site.specs.site_tables.Nodes.{Nodes, node_kind, node_at}
+use Rattle.site.specs.site_tables.Terminals.{Terminals, terminal_kind, IsWorking, TerminalSteps}
 use Rattle.site.specs.declared.unit_set.UnitSet.{UnitSet}
 use Rattle.site.specs.Sites.{records_of, AreWorking}
 use Rattle.site.proofs.Each.{at_each, put_each, at_mapped}

@@ -1,8 +1,8 @@
 -- Why a site's units are plain, and keep all records in range: they do what the tables say.
 use Rattle.std.specs.Prelude.{refl}
-use Rattle.run_defs.specs.unit_octet_defs.Codec.{Codec}
+use Rattle.unit_defs.specs.octet_defs.Codec.{Codec}
 use Rattle.run_defs.specs.UnitRuns.{Meaning, tables}
-use Rattle.plain_defs.specs.Plain.{KeepRange, IsPlain}
+use Rattle.run_defs.specs.plain_defs.Plain.{KeepRange, IsPlain}
 
 -- all records are in range
 pub all_in_range : (answer : Meaning) → KeepRange answer (λ _. Unit {0})

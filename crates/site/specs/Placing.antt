@@ -3,17 +3,17 @@ use Rattle.std.specs.Prelude.{◌≡◌, ℕ, true, false, Result, Ok, Err}
 use Rattle.gnb_types.specs.declared.names.Gnb.{Gnb}
 use Rattle.gnb_types.specs.declared.names.Gnb.TheVariants.{A, B}
 use Rattle.gnb_types.specs.declared.plans.Plan.{Plan}
-use Rattle.run_defs.specs.unit_defs.Static.{cp_placed, du_placed}
-use Rattle.run_defs.specs.unit_defs.Ue.{new_ue, placed}
-use Rattle.run_defs.specs.unit_defs.Ways.{teids_spent}
+use Rattle.unit_defs.specs.Static.{cp_placed, du_placed}
+use Rattle.unit_defs.specs.Ue.{new_ue, placed}
+use Rattle.unit_defs.specs.Ways.{teids_spent}
 use Rattle.run_defs.specs.Units.{cp_of, with_cp, du_of, with_du, with_ue}
 use Rattle.run_defs.specs.Conditions.{all_set_up}
 use Rattle.run_defs.specs.UnitRuns.{Records}
-use Rattle.unit_steps.specs.declared.StepError.{StepError}
-use Rattle.unit_steps.specs.declared.StepError.TheVariants as errors
-use Rattle.site_tables.specs.du_contexts.Placing.{may_place}
+use Rattle.unit_messages.specs.declared.steps.StepError.{StepError}
+use Rattle.unit_messages.specs.declared.steps.StepError.TheVariants as errors
+use Rattle.du_contexts.specs.Placing.{may_place}
 use Rattle.site.specs.declared.unit_set.UnitSet.{UnitSet}
-use Rattle.site_tables.specs.Nodes.{node_at}
+use Rattle.site.specs.site_tables.Nodes.{node_at}
 use Rattle.site.specs.Sites.{records_of, AreWorking}
 
 abbrev pub control_placed : Plan → Gnb → UnitSet → UnitSet

@@ -2,14 +2,14 @@
 use Rattle.std.specs.Prelude.{◌≡◌, Option, Some, None}
 use Rattle.gnb_types.specs.Orders.{ue_cmp, node_cmp}
 use Rattle.tables.specs.Tables.{map_values}
-use Rattle.run_defs.specs.unit_defs.Static.{cp_set_up}
+use Rattle.unit_defs.specs.Static.{cp_set_up}
 use Rattle.run_defs.specs.Units.{new_units}
 use Rattle.run_defs.specs.UnitRuns.{Records}
-use Rattle.site_proof_leaves.specs.Settled.{AreSettled}
+use Rattle.proof_site.specs.leaves.Settled.{AreSettled}
 use Rattle.site.specs.declared.unit_set.UnitSet.{UnitSet}
 use Rattle.site.specs.Each.{EachIs}
-use Rattle.site_tables.specs.Users as users
-use Rattle.site_tables.specs.Nodes as nodes
+use Rattle.site.specs.site_tables.Users as users
+use Rattle.site.specs.site_tables.Nodes as nodes
 
 abbrev pub records_of : UnitSet → Records
 records_of s = record {

@@ -2,6 +2,7 @@
 #![tactic(auto)]
 
 pub mod site;
+pub mod site_tables;
 pub mod unit_set;
 
 pub use site::Site;

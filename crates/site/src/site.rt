@@ -3,19 +3,19 @@
 ghost use Rattle.std.specs.Prelude.{◌≡◌, None};
 
 use crate::unit_set::UnitSet;
+use cu_control::CuControl;
+use cu_user::{CuUser, PlaceError};
+use du_node::DuNode;
 use gnb_types::inputs::Input;
 use gnb_types::items::{Items, Memory};
 use gnb_types::names::{BearerId, Gnb, NodeId, UeId};
 use gnb_types::outputs::Outputs;
 use gnb_types::plans::Plan;
-use lawful_codecs::LawfulCodec;
-use site_proof_leaves::from_cu_control::CuControl;
-use site_proof_leaves::from_run_units::units::Units;
-use site_tables::from_cu_user::{CuUser, PlaceError};
-use site_tables::from_du_node::DuNode;
+use run_units::units::Units;
 use std::alloc::Global;
 use ue_node::UeNode;
-use unit_steps::StepError;
+use unit_messages::lawful_codecs::LawfulCodec;
+use unit_messages::steps::StepError;
 
 /// The ten units of both gNBs and the terminals, once they have begun.
 #[derive(Drop)]
@@ -35,7 +35,7 @@ impl Site {
 impl<C: LawfulCodec> Units<C> for Site {
     ghost use Rattle.std.specs.Prelude.{true};
     ghost use Rattle.run_defs.specs.UnitRuns.{tables};
-    ghost use Rattle.site_proof_leaves.proofs.Leaves.{leaves_all};
+    ghost use Rattle.proof_site.proofs.leaves.Leaves.{leaves_all};
     ghost use Rattle.site.specs.Sites.{records_in, AreReady};
     ghost use Rattle.site.specs.Laws.{all_in_range, tables_alike};
 

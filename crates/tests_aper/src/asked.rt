@@ -2,10 +2,10 @@
 
 ghost use Rattle.std.specs.Prelude.{◌<◌, length};
 
-use aper_asking::{ask_count, ask_index, ask_integer, ask_number};
+use aper_cursor::asking::{ask_count, ask_index, ask_integer, ask_number};
 use aper_cursor::{Cursor, Range, Role};
 use aper_defs::Reason;
-use asn1_types::Size;
+use asn1_syntax::types::Size;
 use std::alloc::Global;
 
 fn number(alloc: Global, octets: &[u8], span: u64) -> Result<u64, Reason>

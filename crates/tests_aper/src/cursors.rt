@@ -5,8 +5,8 @@ ghost use Rattle.aper_cursor.specs.Questions.{IsAskable};
 
 use aper_cursor::{Cursor, Extent, Question, Range, Role};
 use aper_defs::Reason;
-use asn1_assignments::{Criticality, IeRow, Presence};
-use asn1_types::{Size, TypeId};
+use asn1_syntax::assignments::{Criticality, IeRow, Presence};
+use asn1_syntax::types::{Size, TypeId};
 use std::alloc::Global;
 
 fn is_askable(question: &Question) -> bool

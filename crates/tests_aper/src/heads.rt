@@ -4,13 +4,13 @@ ghost use Rattle.std.specs.Prelude.{◌<◌, length};
 
 use aper_cursor::{Cursor, Unanswered};
 use aper_defs::Reason;
-use aper_heads::{
+use aper_frames::heads::{
     ElementHead, MessageHead, RawError, ask_element_count, ask_element_head, ask_flags, ask_marks,
     ask_message_head, ask_raw, rows_left,
 };
 use aper_values::value::Value;
-use asn1_assignments::{Criticality, IeRow, Presence};
-use asn1_types::{Component, TypeId};
+use asn1_syntax::assignments::{Criticality, IeRow, Presence};
+use asn1_syntax::types::{Component, TypeId};
 use gnb_types::bits::Bits;
 use gnb_types::octets::Octets;
 use std::alloc::Global;

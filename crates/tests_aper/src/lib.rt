@@ -11,3 +11,4 @@ mod heads;
 mod measuring;
 #[cfg(test)]
 mod strings;
+pub mod values;

@@ -1,14 +1,14 @@
 //! How many octets worked spellings have, and values that are none of their types.
 
-use aper_measuring::simple::{
+use aper::measuring::simple::{
     bit_string_end, boolean_end, enumerated_end, integer_end, octet_string_end,
     printable_string_end,
 };
-use aper_value_checks::{is_value, spelled_length};
+use aper::value_checks::{is_value, spelled_length};
+use aper_fields::widths::place::{Place, octet_count};
 use aper_values::value::Value;
-use aper_widths::place::{Place, octet_count};
 use asn1_module::{Module, read_module};
-use asn1_types::Size;
+use asn1_syntax::types::Size;
 use gnb_types::bits::Bits;
 use gnb_types::octets::Octets;
 use std::alloc::Global;

@@ -3,10 +3,10 @@
 ghost use Rattle.std.specs.Prelude.{◌<◌, length};
 ghost use Rattle.aper_defs.specs.Bounds.{IsSizeBounded};
 
+use aper_cursor::strings::{Content, ask_string};
 use aper_cursor::{Cursor, Unanswered};
 use aper_defs::Reason;
-use aper_strings::{Content, ask_string};
-use asn1_types::Size;
+use asn1_syntax::types::Size;
 use gnb_types::octets::Octets;
 use std::alloc::Global;
 

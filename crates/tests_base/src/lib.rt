@@ -1,6 +1,7 @@
 //! Tests of the plain types, of the containers, and of bits, by public calls alone.
 #![tactic(auto)]
 
+pub mod asn1;
 #[cfg(test)]
 mod bits;
 #[cfg(test)]

@@ -18,8 +18,8 @@ use Rattle.aper_defs.specs.Bits.{put_all}
 use Rattle.aper_defs.specs.Parts.{number_fields, integer_fields, index_fields, part_fields, string_fields, count_fields}
 use Rattle.aper_defs.specs.Layouts.{layout, component_fields, addition_fields, alternative_fields, added_fields, row_fields, body_fields, outcome_fields}
 use Rattle.aper_defs.specs.Membership.{Has, HasComponents, HasAdditions, HasAlternative, HasAdded, HasRow, HasBody, HasOutcome}
-use Rattle.profile_defs.specs.Forms.{tree, parts, rows, procedures, outcome_tree}
-use Rattle.profile_defs.specs.Profile.{core_type, xn_type, token_type}
+use Rattle.message_defs.specs.profile_defs.Forms.{tree, parts, rows, procedures, outcome_tree}
+use Rattle.message_defs.specs.profile_defs.Profile.{core_type, xn_type, token_type}
 use Rattle.message_defs.specs.Core.{written_core}
 use Rattle.message_defs.specs.Xn.{written_xn}
 use Rattle.message_defs.specs.Tokens.{written_token}

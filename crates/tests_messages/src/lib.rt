@@ -3,6 +3,9 @@
 
 #[cfg(test)]
 mod path_switch;
+pub mod tests_message_codec;
+pub mod tests_message_octets;
+pub mod tests_profile;
 #[cfg(test)]
 mod tokens;
 #[cfg(test)]

@@ -2,7 +2,7 @@
 
 ghost use Rattle.std.specs.Prelude.{[]};
 ghost use Rattle.aper_defs.specs.Membership.{Has};
-ghost use Rattle.profile_defs.specs.Profile.{core_type};
+ghost use Rattle.message_defs.specs.profile_defs.Profile.{core_type};
 ghost use Rattle.message_defs.specs.Core.{written_core};
 
 use core_messages::hearing::heard;

@@ -2,7 +2,7 @@
 
 ghost use Rattle.std.specs.Prelude.{[]};
 ghost use Rattle.aper_defs.specs.Membership.{Has};
-ghost use Rattle.profile_defs.specs.Profile.{token_type};
+ghost use Rattle.message_defs.specs.profile_defs.Profile.{token_type};
 ghost use Rattle.message_defs.specs.Tokens.{written_token};
 
 use gnb_types::names::{Gnb, UeId};

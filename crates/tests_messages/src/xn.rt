@@ -2,7 +2,7 @@
 
 ghost use Rattle.std.specs.Prelude.{ℕ, []};
 ghost use Rattle.aper_defs.specs.Membership.{Has};
-ghost use Rattle.profile_defs.specs.Profile.{xn_type};
+ghost use Rattle.message_defs.specs.profile_defs.Profile.{xn_type};
 ghost use Rattle.message_defs.specs.Xn.{written_xn};
 
 use gnb_types::bits::Bits;

@@ -2,11 +2,11 @@
 
 ghost use Rattle.std.specs.Prelude.{◌<◌};
 
-use asn1_types::ModuleReason;
-use command_check::{CheckedModule, check_module};
+use asn1_syntax::types::ModuleReason;
+use command_defs::input_defs::InputEnd;
+use commands::command_check::{CheckedModule, check_module};
+use commands::input_module::ModuleStop;
 use gnb_base::memory::MemorySource;
-use input_defs::InputEnd;
-use input_module::ModuleStop;
 use scenario_text::event::TextReason;
 use std::alloc::{AllocError, Global};
 

@@ -7,3 +7,6 @@ mod check;
 mod lines;
 #[cfg(test)]
 mod outside;
+pub mod scripts;
+pub mod tests_dup;
+pub mod tests_um;

@@ -1,10 +1,10 @@
 //! A line at a time, and each end.
 
+use command_defs::input_defs::InputEnd;
+use commands::input_lines::next_line;
 use gnb_base::lines::{Line, LineReader};
 use gnb_base::memory::MemorySource;
 use gnb_types::octets::Memory;
-use input_defs::InputEnd;
-use input_lines::next_line;
 use std::alloc::{AllocError, Global};
 
 fn source_of(alloc: Global) -> Result<MemorySource, AllocError> {

@@ -4,7 +4,7 @@ use Rattle.std.specs.Prelude.{Result}
 use Rattle.gnb_types.specs.declared.reasons.DropReason.{DropReason}
 use Rattle.message_types.specs.declared.e1.E1Message.TheVariants as e1s
 use Rattle.unit_defs.specs.Ways.{Message, e1}
-use Rattle.codec_range_defs.specs.Ranges.{IsE1InRange, IsInRange, ReadsInRange}
+use Rattle.unit_defs.specs.codec_range_defs.Ranges.{IsE1InRange, IsInRange, ReadsInRange}
 use Rattle.tests_up.specs.FewMessages.{heard, few_messages}
 
 abbrev IsAnswerInRange : Result (Message (List ℕ)) DropReason → Type 0

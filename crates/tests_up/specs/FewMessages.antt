@@ -11,7 +11,7 @@ use Rattle.gnb_types.specs.declared.reasons.DropReason.TheVariants.{Undecodable,
 use Rattle.message_types.specs.declared.e1.E1Message.{E1Message}
 use Rattle.message_types.specs.declared.e1.E1Message.TheVariants as e1s
 use Rattle.unit_defs.specs.Ways.{Message, e1}
-use Rattle.unit_octet_defs.specs.Codec.{Codec}
+use Rattle.unit_defs.specs.octet_defs.Codec.{Codec}
 
 -- what a CU-UP says, with the TEIDs and the COUNTs of the one bearer, if there is one
 abbrev pub teid_in : List Tunnel → ℕ

@@ -10,7 +10,7 @@ use gnb_types::outputs::{Output, Outputs, Tag};
 use gnb_types::reasons::{DropReason, HeldReason, RefuseReason};
 use std::alloc::Global;
 use std::test::Fail;
-use unit_steps::StepError;
+use unit_messages::steps::StepError;
 
 pub const UE: UeId = UeId(1);
 

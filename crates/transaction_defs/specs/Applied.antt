@@ -2,8 +2,8 @@
 -- And the same calls made at a responder.
 use Rattle.std.specs.Prelude.{ℕ, Bool, true, false, not, nat_lt, ◌&&◌, ◌||◌, if◌then◌else◌, List, [], ◌∷◌, Option, Some, None}
 use Rattle.std.specs.Ordering.{eq_by_cmp}
-use Rattle.tables.specs.gnb_types.declared.keys.Channel.{Channel}
-use Rattle.tables.specs.gnb_types.Orders.{channel_cmp}
+use Rattle.gnb_types.specs.declared.keys.Channel.{Channel}
+use Rattle.gnb_types.specs.Orders.{channel_cmp}
 use Rattle.transaction_defs.specs.Callees.{Callee, Verdict, new, again, stale, verdict, accepted, keep, keep_for, is_newest}
 
 -- a request: its initiator and terminal, and its instance

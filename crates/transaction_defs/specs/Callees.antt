@@ -1,8 +1,8 @@
 -- What a responder keeps of the requests that it took: for each initiator and terminal the newest instance, and the reply to
 -- it. A request is acted on where its instance is above all earlier ones; the newest one is answered again with its reply.
 use Rattle.std.specs.Prelude.{◌==◌, ℕ, Bool, nat_lt, if◌then◌else◌, List, Option, Some, None}
-use Rattle.tables.specs.gnb_types.declared.keys.Channel.{Channel}
-use Rattle.tables.specs.gnb_types.Orders.{channel_cmp}
+use Rattle.gnb_types.specs.declared.keys.Channel.{Channel}
+use Rattle.gnb_types.specs.Orders.{channel_cmp}
 use Rattle.tables.specs.Tables.{find, put}
 
 pub record Kept (M : Type 0) : Type 0 where

@@ -2,8 +2,8 @@
 -- terminal the last instance that it gave, and the request that is open. What stands for a request is a parameter.
 use Rattle.std.specs.Prelude.{◌==◌, ℕ, ◌+◌, ◌-◌, ◌^◌, Bool, false, not, nat_le, if◌then◌else◌, List, [], ◌∷◌, map, filter, Option, Some, None, is_some}
 use Rattle.std.specs.List.{flat_map, list_any}
-use Rattle.tables.specs.gnb_types.declared.keys.Channel.{Channel}
-use Rattle.tables.specs.gnb_types.Orders.{channel_cmp}
+use Rattle.gnb_types.specs.declared.keys.Channel.{Channel}
+use Rattle.gnb_types.specs.Orders.{channel_cmp}
 use Rattle.tables.specs.Tables.{find, put, without, at}
 
 -- the last instance that is ever given on a channel

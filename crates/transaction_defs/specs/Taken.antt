@@ -1,6 +1,6 @@
 -- Steps of an initiator, and which replies it takes. Each reply that is taken closes its request.
 use Rattle.std.specs.Prelude.{◌==◌, ℕ, ◌+◌, ◌&&◌, if◌then◌else◌, List, [], ◌∷◌, ◌++◌, Option}
-use Rattle.tables.specs.gnb_types.declared.keys.Channel.{Channel}
+use Rattle.gnb_types.specs.declared.keys.Channel.{Channel}
 use Rattle.transaction_defs.specs.Callers.{Caller, Begin, begun, running, spent, begin, keep_request, is_awaited, close, after_tick}
 use Rattle.transaction_defs.specs.Applied.{Request, is_same}
 

@@ -3,11 +3,11 @@
 use Rattle.std.specs.Prelude.{◌==◌, ℕ, ◌+◌, ◌-◌, Bool, false, not, ◌&&◌, if◌then◌else◌, List, [], ◌∷◌, ◌++◌, length, filter, count_by, min, Option, Some, None}
 use Rattle.std.specs.List.{flat_map, list_any}
 use Rattle.std.specs.Ordering.{nat_cmp, eq_by_cmp}
-use Rattle.tables.specs.gnb_types.declared.names.UeId.{UeId}
-use Rattle.tables.specs.gnb_types.declared.names.BearerId.{BearerId}
-use Rattle.tables.specs.gnb_types.declared.keys.TunnelEnd.{TunnelEnd}
-use Rattle.tables.specs.gnb_types.declared.keys.EntityKey.{EntityKey}
-use Rattle.tables.specs.gnb_types.Orders.{ue_cmp, entity_cmp}
+use Rattle.gnb_types.specs.declared.names.UeId.{UeId}
+use Rattle.gnb_types.specs.declared.names.BearerId.{BearerId}
+use Rattle.gnb_types.specs.declared.keys.TunnelEnd.{TunnelEnd}
+use Rattle.gnb_types.specs.declared.keys.EntityKey.{EntityKey}
+use Rattle.gnb_types.specs.Orders.{ue_cmp, entity_cmp}
 use Rattle.tables.specs.Tables.{find, put, without}
 use Rattle.transport_defs.specs.declared.Letter.{Letter}
 use Rattle.transport_defs.specs.declared.Item.{Item}

@@ -1,8 +1,8 @@
 //! Definitions alone: the links of the whole base station (TS 38.401, 6.1.2), and what stands on them.
 #![tactic(auto)]
 
-use tables::from_gnb_types::keys::EntityKey;
-use tables::from_gnb_types::names::NodeId;
+use gnb_types::keys::EntityKey;
+use gnb_types::names::NodeId;
 
 /// A control message that was put: its ends, its terminal (0: none), and what stands for it.
 #[derive(Drop)]

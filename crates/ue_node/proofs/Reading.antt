@@ -14,20 +14,20 @@ use Rattle.gnb_types.specs.declared.reasons.DropReason.{DropReason}
 use Rattle.gnb_types.specs.declared.reasons.DropReason.TheVariants.{Undecodable, Unexpected}
 use Rattle.message_types.specs.declared.rrc.Token.{Token}
 use Rattle.pdcp.specs.Pdus.{Content}
-use Rattle.link_packets.specs.link_defs.Decoding.{CarriesPdu}
+use Rattle.link_defs.specs.Decoding.{CarriesPdu}
 use Rattle.unit_defs.specs.Ways.{radio_input, confirm_input, drops}
 use Rattle.unit_defs.specs.Ways as ways
 use Rattle.unit_defs.specs.Ue.{UeNode, ue_acts, take, confirm, told, told_by}
-use Rattle.unit_octet_defs.specs.Codec.{Codec, octet_way}
-use Rattle.unit_octet_defs.specs.Reading.{read_at_ue, pdu_read, message_read, content_by, count_received_in, count_confirmed_in, bearer_at}
-use Rattle.unit_octet_defs.specs.Units.{OctetAnswer, acts_on, ue_steps}
-use Rattle.codec_defs.specs.Reading.{ReadsPdus}
-use Rattle.ue_rows.specs.unit_messages.Messages.{message_as, answer_as}
-use Rattle.ue_rows.specs.unit_messages.declared.message.Message.{Message}
-use Rattle.ue_rows.specs.unit_messages.declared.message.Message.TheVariants as messages
-use Rattle.ue_rows.specs.unit_steps.declared.StepError.{StepError}
-use Rattle.ue_rows.specs.unit_steps.declared.StepError.TheVariants as errors
-use Rattle.ue_rows.specs.unit_steps.Steps.{stepped, step_after, IsStep}
+use Rattle.unit_defs.specs.octet_defs.Codec.{Codec, octet_way}
+use Rattle.unit_defs.specs.octet_defs.Reading.{read_at_ue, pdu_read, message_read, content_by, count_received_in, count_confirmed_in, bearer_at}
+use Rattle.unit_defs.specs.octet_defs.Units.{OctetAnswer, acts_on, ue_steps}
+use Rattle.unit_defs.specs.codec_defs.Reading.{ReadsPdus}
+use Rattle.unit_messages.specs.Messages.{message_as, answer_as}
+use Rattle.unit_messages.specs.declared.message.Message.{Message}
+use Rattle.unit_messages.specs.declared.message.Message.TheVariants as messages
+use Rattle.unit_messages.specs.declared.steps.StepError.{StepError}
+use Rattle.unit_messages.specs.declared.steps.StepError.TheVariants as errors
+use Rattle.unit_messages.specs.steps.Steps.{stepped, step_after, IsStep}
 use Rattle.ue_node.specs.Nodes.{token_in}
 
 -- a step that is an answer of the rows

@@ -9,13 +9,13 @@ use Rattle.gnb_types.specs.declared.outputs.Output.{Output}
 use Rattle.gnb_types.specs.declared.plans.Plan.{Plan}
 use Rattle.unit_defs.specs.Ways.{drops}
 use Rattle.unit_defs.specs.Ue.{UeNode, new_ue, placed, told}
-use Rattle.unit_octet_defs.specs.Codec.{Codec, octet_way}
-use Rattle.unit_octet_defs.specs.Units.{ue_steps}
-use Rattle.ue_rows.specs.unit_messages.declared.message.Message.{Message}
-use Rattle.ue_rows.specs.unit_messages.declared.message.Message.TheVariants.{Rrc}
-use Rattle.ue_rows.specs.unit_steps.declared.StepError.{StepError}
-use Rattle.ue_rows.specs.unit_steps.declared.StepError.TheVariants as errors
-use Rattle.ue_rows.specs.unit_steps.Steps.{Step, stepped, stopped, step_after}
+use Rattle.unit_defs.specs.octet_defs.Codec.{Codec, octet_way}
+use Rattle.unit_defs.specs.octet_defs.Units.{ue_steps}
+use Rattle.unit_messages.specs.declared.message.Message.{Message}
+use Rattle.unit_messages.specs.declared.message.Message.TheVariants.{Rrc}
+use Rattle.unit_messages.specs.declared.steps.StepError.{StepError}
+use Rattle.unit_messages.specs.declared.steps.StepError.TheVariants as errors
+use Rattle.unit_messages.specs.steps.Steps.{Step, stepped, stopped, step_after}
 
 -- After an error the record is unspecified.
 pub record NodeState : Type 0 where

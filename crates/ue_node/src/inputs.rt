@@ -3,14 +3,16 @@
 ghost use Rattle.std.specs.Prelude.{◌≡◌, IfOk, OnOk};
 ghost use Rattle.gnb_types.specs.declared.inputs.Input.TheVariants as ins;
 ghost use Rattle.gnb_types.specs.declared.names.UeId.{UeId};
-ghost use Rattle.codec_defs.specs.Reading.{ReadsPdus};
+ghost use Rattle.unit_defs.specs.codec_defs.Reading.{ReadsPdus};
 ghost use Rattle.unit_defs.specs.Ue.{ordered};
-ghost use Rattle.unit_octet_defs.specs.Codec.{Codec, octet_way};
-ghost use Rattle.unit_octet_defs.specs.Units.{ue_steps};
-ghost use Rattle.ue_rows.specs.unit_steps.Steps.{step_after, IsStep};
-ghost use Rattle.ue_rows.specs.Records.{record_of, IsRecord};
+ghost use Rattle.unit_defs.specs.octet_defs.Codec.{Codec, octet_way};
+ghost use Rattle.unit_defs.specs.octet_defs.Units.{ue_steps};
+ghost use Rattle.unit_messages.specs.steps.Steps.{step_after, IsStep};
+ghost use Rattle.ue_node.specs.rows.Records.{record_of, IsRecord};
 ghost use Rattle.ue_node.specs.Nodes.{HasPacket, IsHeard, token_in};
 
+use crate::rows::UeRecord;
+use crate::rows::says::drop_input;
 use gnb_types::inputs::{Input, Order};
 use gnb_types::items::Memory;
 use gnb_types::names::{BearerId, Dir, NodeId};
@@ -19,10 +21,8 @@ use gnb_types::reasons::DropReason;
 use link_packets::read_radio;
 use message_types::Token;
 use std::alloc::Global;
-use ue_rows::UeRecord;
-use ue_rows::from_unit_messages::{Message, MessageCodec};
-use ue_rows::from_unit_steps::StepError;
-use ue_rows::says::drop_input;
+use unit_messages::steps::StepError;
+use unit_messages::{Message, MessageCodec};
 
 /// The token that a message is, None where it is another message.
 fn token_in(message: &Message) -> Option<Token>
@@ -35,7 +35,7 @@ fn token_in(message: &Message) -> Option<Token>
 }
 
 /// The token that octets of a node say to this terminal, or why they are dropped: it takes the tokens of a DU, and no other message.
-#[tactic(auto, unfolding(unit_octet_defs::specs::Units::ue_steps, unit_octet_defs::specs::Reading::read_at_ue))]
+#[tactic(auto, unfolding(unit_defs::specs::octet_defs::Units::ue_steps, unit_defs::specs::octet_defs::Reading::read_at_ue))]
 fn read_token<C: MessageCodec>(
     record: &UeRecord,
     alloc: Global,
@@ -86,7 +86,7 @@ fn take_control<C: MessageCodec>(
 }
 
 /// A PDU that the radio carried.
-#[tactic(auto, unfolding(unit_octet_defs::specs::Units::ue_steps, unit_octet_defs::specs::Reading::read_at_ue))]
+#[tactic(auto, unfolding(unit_defs::specs::octet_defs::Units::ue_steps, unit_defs::specs::octet_defs::Reading::read_at_ue))]
 fn take_radio(
     record: &mut UeRecord,
     alloc: Global,
@@ -111,7 +111,7 @@ fn take_radio(
 }
 
 /// A PDU that the radio carried is confirmed.
-#[tactic(auto, unfolding(unit_octet_defs::specs::Units::ue_steps, unit_octet_defs::specs::Reading::read_at_ue))]
+#[tactic(auto, unfolding(unit_defs::specs::octet_defs::Units::ue_steps, unit_defs::specs::octet_defs::Reading::read_at_ue))]
 fn take_confirm(
     record: &mut UeRecord,
     alloc: Global,
@@ -163,7 +163,7 @@ fn take_order<C: MessageCodec>(
 }
 
 /// An input goes to the row that takes it.
-#[tactic(auto, unfolding(unit_octet_defs::specs::Units::ue_steps, unit_octet_defs::specs::Reading::read_at_ue, unit_defs::specs::Ue::ue_acts))]
+#[tactic(auto, unfolding(unit_defs::specs::octet_defs::Units::ue_steps, unit_defs::specs::octet_defs::Reading::read_at_ue, unit_defs::specs::Ue::ue_acts))]
 pub(crate) fn act<C: MessageCodec>(
     record: &mut UeRecord,
     alloc: Global,

@@ -3,10 +3,6 @@
 
 mod inputs;
 pub mod node;
+pub mod rows;
 
 pub use node::UeNode;
-
-/// Of `unit_messages`, for crates above.
-pub mod from_unit_messages {
-    pub use ue_rows::from_unit_messages::MessageCodec;
-}

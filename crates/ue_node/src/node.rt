@@ -1,11 +1,12 @@
 //! A terminal, which makes no step any more after one that failed.
 
 ghost use Rattle.std.specs.Prelude.{◌≡◌, ◌≤◌, IfOk};
-ghost use Rattle.codec_defs.specs.Reading.{ReadsPdus};
+ghost use Rattle.unit_defs.specs.codec_defs.Reading.{ReadsPdus};
 ghost use Rattle.unit_defs.specs.Accessors.{ue_rests};
 ghost use Rattle.ue_node.specs.Nodes.{HasPacket, new_node, IsNodeStep, IsPlaced, failure_of};
 
 use crate::inputs::act;
+use crate::rows::UeRecord;
 use gnb_types::inputs::Input;
 use gnb_types::items::Memory;
 use gnb_types::names::{BearerId, NodeId, UeId};
@@ -13,10 +14,9 @@ use gnb_types::outputs::Outputs;
 use gnb_types::plans::Plan;
 use std::alloc::Global;
 use std::marker::Model;
-use ue_rows::UeRecord;
-use ue_rows::from_unit_messages::MessageCodec;
-use ue_rows::from_unit_steps::StepError;
 use unit_defs::UeState;
+use unit_messages::MessageCodec;
+use unit_messages::steps::StepError;
 
 /// A terminal. Contracts see the record of the procedure tables, and the error with which a step failed.
 #[derive(Drop)]
@@ -30,7 +30,7 @@ impl Model for UeNode {
 
     ghost Value = { NodeState };
 
-    ghost use Rattle.ue_rows.specs.Records.{record_of};
+    ghost use Rattle.ue_node.specs.rows.Records.{record_of};
     ghost use Rattle.ue_node.specs.inside.Invariants.{IsSoundUnlessFailed};
 
     ghost view = { λ n. record { node = record_of n.record; failure = n.failure } };

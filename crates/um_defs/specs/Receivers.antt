@@ -6,9 +6,9 @@ use Rattle.gnb_types.specs.declared.names.SnBits.{SnBits}
 use Rattle.tables.specs.Tables.{find}
 use Rattle.pdcp_defs.specs.Counts.{near_count}
 use Rattle.pdcp_defs.specs.Receivers.{Receiver, new_receiver, Delivery, with_packet, deliver_from, deliver, stored}
-use Rattle.um_types.specs.declared.error.UmError.{UmError}
-use Rattle.um_types.specs.declared.error.UmError.TheVariants.{NoCount, Late, Duplicate, Ahead}
-use Rattle.um_types.specs.declared.out.Out.{Out}
+use Rattle.um_defs.specs.declared.types.error.UmError.{UmError}
+use Rattle.um_defs.specs.declared.types.error.UmError.TheVariants.{NoCount, Late, Duplicate, Ahead}
+use Rattle.um_defs.specs.declared.types.out.Out.{Out}
 
 pub record UmReceiver (X : Type 0) : Type 0 where
   pub receiver : Receiver X

@@ -1,11 +1,11 @@
 -- What a run looks at in the records of units, one definition for each call by which a unit reports it. A run reads nothing else of
 -- a record.
 use Rattle.std.specs.Prelude.{◌==◌, ℕ, Bool, true, false, not, ◌&&◌, ◌||◌, nat_lt, length, Option, Some, None, is_some}
-use Rattle.message_types.specs.gnb_types.declared.names.NodeId.{NodeId}
-use Rattle.message_types.specs.gnb_types.declared.names.UeId.{UeId}
-use Rattle.message_types.specs.gnb_types.declared.names.BearerId.{BearerId}
-use Rattle.message_types.specs.gnb_types.Orders.{ue_cmp, bearer_cmp}
-use Rattle.transaction_defs.specs.tables.Tables.{find}
+use Rattle.gnb_types.specs.declared.names.NodeId.{NodeId}
+use Rattle.gnb_types.specs.declared.names.UeId.{UeId}
+use Rattle.gnb_types.specs.declared.names.BearerId.{BearerId}
+use Rattle.gnb_types.specs.Orders.{ue_cmp, bearer_cmp}
+use Rattle.tables.specs.Tables.{find}
 use Rattle.unit_defs.specs.declared.StateName.{StateName}
 use Rattle.unit_defs.specs.declared.StateName.TheVariants as states
 use Rattle.unit_defs.specs.declared.UeState.{UeState}

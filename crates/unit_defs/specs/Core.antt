@@ -2,17 +2,17 @@
 --
 --   Path Switch Request     switch_path     End Markers on the old tunnels; the new path
 use Rattle.std.specs.Prelude.{ℕ, List, [], map, Option, Some, None}
-use Rattle.message_types.specs.gnb_types.declared.names.NodeId.{NodeId}
-use Rattle.message_types.specs.gnb_types.declared.names.NodeId.TheVariants.{CuCp, CuUp}
-use Rattle.message_types.specs.gnb_types.declared.names.UeId.{UeId}
-use Rattle.message_types.specs.gnb_types.declared.names.Dir.TheVariants.{Dl}
-use Rattle.message_types.specs.gnb_types.declared.keys.Channel.{Channel}
-use Rattle.message_types.specs.gnb_types.declared.plans.Peer.{Peer}
-use Rattle.message_types.specs.gnb_types.declared.plans.Tunnel.{Tunnel}
-use Rattle.message_types.specs.gnb_types.declared.reasons.DropReason.TheVariants.{Unexpected}
-use Rattle.message_types.specs.gnb_types.declared.outputs.Tag.TheVariants.{Absent}
-use Rattle.message_types.specs.gnb_types.Orders.{ue_cmp}
-use Rattle.transaction_defs.specs.tables.Tables.{find, put}
+use Rattle.gnb_types.specs.declared.names.NodeId.{NodeId}
+use Rattle.gnb_types.specs.declared.names.NodeId.TheVariants.{CuCp, CuUp}
+use Rattle.gnb_types.specs.declared.names.UeId.{UeId}
+use Rattle.gnb_types.specs.declared.names.Dir.TheVariants.{Dl}
+use Rattle.gnb_types.specs.declared.keys.Channel.{Channel}
+use Rattle.gnb_types.specs.declared.plans.Peer.{Peer}
+use Rattle.gnb_types.specs.declared.plans.Tunnel.{Tunnel}
+use Rattle.gnb_types.specs.declared.reasons.DropReason.TheVariants.{Unexpected}
+use Rattle.gnb_types.specs.declared.outputs.Tag.TheVariants.{Absent}
+use Rattle.gnb_types.specs.Orders.{ue_cmp}
+use Rattle.tables.specs.Tables.{find, put}
 use Rattle.message_types.specs.declared.xn.CoreMessage.TheVariants as cores
 use Rattle.unit_defs.specs.Ways.{Message, core, end_marker, Output, packet, Way, Answer, gives, ◌then◌, drops}
 use Rattle.unit_defs.specs.Transactions.{Kind, request, kind_of, Transactions, no_transactions, replied, on_request}

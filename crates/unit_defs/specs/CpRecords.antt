@@ -2,20 +2,20 @@
 -- the terminal then. What it says is carried out over the requests and replies of the unit.
 use Rattle.std.specs.Prelude.{◌==◌, ℕ, zero, suc, ◌-◌, ◌^◌, Bool, false, not, ◌&&◌, if◌then◌else◌, List, [], ◌∷◌, ◌++◌, map, filter, Option, Some, None}
 use Rattle.std.specs.List.{list_any}
-use Rattle.message_types.specs.gnb_types.declared.names.Gnb.{Gnb}
-use Rattle.message_types.specs.gnb_types.declared.names.NodeId.{NodeId}
-use Rattle.message_types.specs.gnb_types.declared.names.UeId.{UeId}
-use Rattle.message_types.specs.gnb_types.declared.names.BearerId.{BearerId}
-use Rattle.message_types.specs.gnb_types.declared.names.SnBits.{SnBits}
-use Rattle.message_types.specs.gnb_types.declared.keys.Channel.{Channel}
-use Rattle.message_types.specs.gnb_types.declared.plans.Tunnel.{Tunnel}
-use Rattle.message_types.specs.gnb_types.declared.reasons.DropReason.{DropReason}
-use Rattle.message_types.specs.gnb_types.declared.reasons.CauseName.{CauseName}
-use Rattle.message_types.specs.gnb_types.declared.reasons.RefuseReason.{RefuseReason}
-use Rattle.message_types.specs.gnb_types.Nodes.{node_cmp}
-use Rattle.message_types.specs.gnb_types.Orders.{ue_cmp}
+use Rattle.gnb_types.specs.declared.names.Gnb.{Gnb}
+use Rattle.gnb_types.specs.declared.names.NodeId.{NodeId}
+use Rattle.gnb_types.specs.declared.names.UeId.{UeId}
+use Rattle.gnb_types.specs.declared.names.BearerId.{BearerId}
+use Rattle.gnb_types.specs.declared.names.SnBits.{SnBits}
+use Rattle.gnb_types.specs.declared.keys.Channel.{Channel}
+use Rattle.gnb_types.specs.declared.plans.Tunnel.{Tunnel}
+use Rattle.gnb_types.specs.declared.reasons.DropReason.{DropReason}
+use Rattle.gnb_types.specs.declared.reasons.CauseName.{CauseName}
+use Rattle.gnb_types.specs.declared.reasons.RefuseReason.{RefuseReason}
+use Rattle.gnb_types.specs.Nodes.{node_cmp}
+use Rattle.gnb_types.specs.Orders.{ue_cmp}
 use Rattle.std.specs.Ordering.{eq_by_cmp}
-use Rattle.transaction_defs.specs.tables.Tables.{find, put}
+use Rattle.tables.specs.Tables.{find, put}
 use Rattle.unit_defs.specs.declared.StateName.{StateName}
 use Rattle.unit_defs.specs.declared.StateName.TheVariants as states
 use Rattle.unit_defs.specs.declared.AttemptKind.{AttemptKind}

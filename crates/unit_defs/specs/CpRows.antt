@@ -1,18 +1,18 @@
 -- The rows of a CU-CP, by procedure (TS 38.401, 8.9; TS 38.473; TS 37.483; TS 38.423). Each row is told of one terminal.
 use Rattle.std.specs.Prelude.{◌==◌, ℕ, ◌+◌, Bool, true, false, not, ◌&&◌, ◌||◌, nat_lt, nat_le, if◌then◌else◌, List, [], ◌∷◌, ◌++◌, Option, Some, None, max}
-use Rattle.message_types.specs.gnb_types.declared.names.Gnb.{Gnb}
-use Rattle.message_types.specs.gnb_types.declared.names.NodeId.{NodeId}
-use Rattle.message_types.specs.gnb_types.declared.names.NodeId.TheVariants.{CuCp, CuUp, Du, Core}
-use Rattle.message_types.specs.gnb_types.declared.names.UeId.{UeId}
-use Rattle.message_types.specs.gnb_types.declared.plans.Plan.{Plan}
-use Rattle.message_types.specs.gnb_types.declared.plans.Peer.{Peer}
-use Rattle.message_types.specs.gnb_types.declared.plans.Tunnel.{Tunnel}
-use Rattle.message_types.specs.gnb_types.declared.plans.SnStatus.{SnStatus}
-use Rattle.message_types.specs.gnb_types.declared.names.SnBits.{SnBits}
-use Rattle.message_types.specs.gnb_types.declared.reasons.DropReason.TheVariants.{NoContext, Unexpected}
-use Rattle.message_types.specs.gnb_types.declared.reasons.CauseName.{CauseName}
-use Rattle.message_types.specs.gnb_types.declared.reasons.CauseName.TheVariants.{Timeout}
-use Rattle.message_types.specs.gnb_types.declared.reasons.RefuseReason.TheVariants.{Attached, NotStarted, Same, NotAllowed, Busy, Empty, TooLate}
+use Rattle.gnb_types.specs.declared.names.Gnb.{Gnb}
+use Rattle.gnb_types.specs.declared.names.NodeId.{NodeId}
+use Rattle.gnb_types.specs.declared.names.NodeId.TheVariants.{CuCp, CuUp, Du, Core}
+use Rattle.gnb_types.specs.declared.names.UeId.{UeId}
+use Rattle.gnb_types.specs.declared.plans.Plan.{Plan}
+use Rattle.gnb_types.specs.declared.plans.Peer.{Peer}
+use Rattle.gnb_types.specs.declared.plans.Tunnel.{Tunnel}
+use Rattle.gnb_types.specs.declared.plans.SnStatus.{SnStatus}
+use Rattle.gnb_types.specs.declared.names.SnBits.{SnBits}
+use Rattle.gnb_types.specs.declared.reasons.DropReason.TheVariants.{NoContext, Unexpected}
+use Rattle.gnb_types.specs.declared.reasons.CauseName.{CauseName}
+use Rattle.gnb_types.specs.declared.reasons.CauseName.TheVariants.{Timeout}
+use Rattle.gnb_types.specs.declared.reasons.RefuseReason.TheVariants.{Attached, NotStarted, Same, NotAllowed, Busy, Empty, TooLate}
 use Rattle.message_types.specs.declared.f1.F1.TheVariants as f1s
 use Rattle.message_types.specs.declared.e1.E1Message.TheVariants as e1s
 use Rattle.message_types.specs.declared.xn.XnMessage.TheVariants as xns

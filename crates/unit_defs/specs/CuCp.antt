@@ -17,14 +17,14 @@
 --                                                      epoch is finished; Busy, where it is too early (token_on)
 --   a tick                                             open requests again; handover_expires; command
 use Rattle.std.specs.Prelude.{◌==◌, ℕ, ◌+◌, Bool, true, false, not, ◌&&◌, if◌then◌else◌, List, [], ◌∷◌, ◌++◌, map, Option, Some, None}
-use Rattle.message_types.specs.gnb_types.declared.names.NodeId.{NodeId}
-use Rattle.message_types.specs.gnb_types.declared.names.NodeId.TheVariants.{CuCp as cp_node}
-use Rattle.message_types.specs.gnb_types.declared.names.UeId.{UeId}
-use Rattle.message_types.specs.gnb_types.declared.keys.Channel.{Channel}
-use Rattle.message_types.specs.gnb_types.declared.reasons.CauseName.{CauseName}
-use Rattle.message_types.specs.gnb_types.declared.reasons.DropReason.TheVariants.{NoContext, Busy, Unexpected}
-use Rattle.message_types.specs.gnb_types.declared.inputs.Order.{Order}
-use Rattle.message_types.specs.gnb_types.declared.inputs.Order.TheVariants as orders
+use Rattle.gnb_types.specs.declared.names.NodeId.{NodeId}
+use Rattle.gnb_types.specs.declared.names.NodeId.TheVariants.{CuCp as cp_node}
+use Rattle.gnb_types.specs.declared.names.UeId.{UeId}
+use Rattle.gnb_types.specs.declared.keys.Channel.{Channel}
+use Rattle.gnb_types.specs.declared.reasons.CauseName.{CauseName}
+use Rattle.gnb_types.specs.declared.reasons.DropReason.TheVariants.{NoContext, Busy, Unexpected}
+use Rattle.gnb_types.specs.declared.inputs.Order.{Order}
+use Rattle.gnb_types.specs.declared.inputs.Order.TheVariants as orders
 use Rattle.message_types.specs.declared.f1.F1.TheVariants as f1s
 use Rattle.message_types.specs.declared.e1.E1Message.TheVariants as e1s
 use Rattle.message_types.specs.declared.xn.XnMessage.TheVariants as xns

@@ -15,28 +15,28 @@
 use Rattle.std.specs.Prelude.{◌==◌, ℕ, zero, suc, ◌+◌, ◌*◌, Bool, true, false, not, ◌&&◌, ◌||◌, nat_le, if◌then◌else◌, List, [], ◌∷◌, ◌++◌, length, map, Option, Some, None}
 use Rattle.std.specs.List.{flat_map, list_all}
 use Rattle.std.specs.Ordering.{nat_cmp}
-use Rattle.message_types.specs.gnb_types.declared.names.Gnb.{Gnb}
-use Rattle.message_types.specs.gnb_types.declared.names.NodeId.{NodeId}
-use Rattle.message_types.specs.gnb_types.declared.names.NodeId.TheVariants.{CuCp, CuUp as cu_up_node, Du}
-use Rattle.message_types.specs.gnb_types.declared.names.UeId.{UeId}
-use Rattle.message_types.specs.gnb_types.declared.names.BearerId.{BearerId}
-use Rattle.message_types.specs.gnb_types.declared.names.SnBits.{SnBits}
-use Rattle.message_types.specs.gnb_types.declared.keys.Channel.{Channel}
-use Rattle.message_types.specs.gnb_types.declared.plans.Peer.{Peer}
-use Rattle.message_types.specs.gnb_types.declared.plans.Tunnel.{Tunnel}
-use Rattle.message_types.specs.gnb_types.declared.plans.SnStatus.{SnStatus}
-use Rattle.message_types.specs.gnb_types.declared.reasons.DropReason.TheVariants.{NoContext, NoTunnel, Unexpected}
-use Rattle.message_types.specs.gnb_types.declared.reasons.HeldReason.{HeldReason}
-use Rattle.message_types.specs.gnb_types.declared.reasons.RefuseReason.TheVariants.{Empty, NoRadio}
-use Rattle.message_types.specs.gnb_types.declared.outputs.Tag.TheVariants.{Absent}
-use Rattle.message_types.specs.gnb_types.Names.{node_text}
-use Rattle.message_types.specs.gnb_types.Orders.{ue_cmp, bearer_cmp}
-use Rattle.transaction_defs.specs.tables.Tables.{find, put, without}
+use Rattle.gnb_types.specs.declared.names.Gnb.{Gnb}
+use Rattle.gnb_types.specs.declared.names.NodeId.{NodeId}
+use Rattle.gnb_types.specs.declared.names.NodeId.TheVariants.{CuCp, CuUp as cu_up_node, Du}
+use Rattle.gnb_types.specs.declared.names.UeId.{UeId}
+use Rattle.gnb_types.specs.declared.names.BearerId.{BearerId}
+use Rattle.gnb_types.specs.declared.names.SnBits.{SnBits}
+use Rattle.gnb_types.specs.declared.keys.Channel.{Channel}
+use Rattle.gnb_types.specs.declared.plans.Peer.{Peer}
+use Rattle.gnb_types.specs.declared.plans.Tunnel.{Tunnel}
+use Rattle.gnb_types.specs.declared.plans.SnStatus.{SnStatus}
+use Rattle.gnb_types.specs.declared.reasons.DropReason.TheVariants.{NoContext, NoTunnel, Unexpected}
+use Rattle.gnb_types.specs.declared.reasons.HeldReason.{HeldReason}
+use Rattle.gnb_types.specs.declared.reasons.RefuseReason.TheVariants.{Empty, NoRadio}
+use Rattle.gnb_types.specs.declared.outputs.Tag.TheVariants.{Absent}
+use Rattle.gnb_types.specs.Names.{node_text}
+use Rattle.gnb_types.specs.Orders.{ue_cmp, bearer_cmp}
+use Rattle.tables.specs.Tables.{find, put, without}
 use Rattle.message_types.specs.declared.e1.E1Message.{E1Message}
 use Rattle.message_types.specs.declared.e1.E1Message.TheVariants as e1s
 use Rattle.transaction_defs.specs.Callers.{close, due, after_tick, Due, repeats, expires}
-use Rattle.message_types.specs.gnb_types.declared.inputs.Order.{Order}
-use Rattle.message_types.specs.gnb_types.declared.inputs.Order.TheVariants as orders
+use Rattle.gnb_types.specs.declared.inputs.Order.{Order}
+use Rattle.gnb_types.specs.declared.inputs.Order.TheVariants as orders
 use Rattle.unit_defs.specs.Ways.{Message, e1, Taken, Input, control_input, packet_input, tick_input, order_input, Output, control, opened, closed, held, no, Way, Answer, gives, spent, ◌then◌, nothing, puts, drops, teids_spent}
 use Rattle.unit_defs.specs.Transactions.{Kind, request, reply, transfer, kind_of, no_instance, Transactions, no_transactions, ask, advance, replied, on_request, on_reply}
 use Rattle.unit_defs.specs.Teids.{teids_are_left, teid_after, without_each}

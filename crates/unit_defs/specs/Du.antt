@@ -14,28 +14,28 @@
 use Rattle.std.specs.Prelude.{◌==◌, ℕ, ◌+◌, ◌-◌, Bool, true, false, not, ◌&&◌, ◌||◌, nat_lt, if◌then◌else◌, List, [], ◌∷◌, ◌++◌, length, map, Option, Some, None}
 use Rattle.std.specs.List.{flat_map}
 use Rattle.std.specs.Ordering.{nat_cmp}
-use Rattle.message_types.specs.gnb_types.declared.names.Gnb.{Gnb}
-use Rattle.message_types.specs.gnb_types.declared.names.NodeId.{NodeId}
-use Rattle.message_types.specs.gnb_types.declared.names.NodeId.TheVariants.{CuCp, CuUp, Du as du_node_id, Ue}
-use Rattle.message_types.specs.gnb_types.declared.names.UeId.{UeId}
-use Rattle.message_types.specs.gnb_types.declared.names.BearerId.{BearerId}
-use Rattle.message_types.specs.gnb_types.declared.names.SnBits.{SnBits}
-use Rattle.message_types.specs.gnb_types.declared.names.Dir.TheVariants.{Dl, Ul}
-use Rattle.message_types.specs.gnb_types.declared.keys.Channel.{Channel}
-use Rattle.message_types.specs.gnb_types.declared.plans.Peer.{Peer}
-use Rattle.message_types.specs.gnb_types.declared.plans.Tunnel.{Tunnel}
-use Rattle.message_types.specs.gnb_types.declared.reasons.DropReason.TheVariants.{NoContext, NoTunnel, Gap, Unexpected}
-use Rattle.message_types.specs.gnb_types.declared.outputs.Tag.TheVariants.{Absent, Same}
-use Rattle.message_types.specs.gnb_types.Names.{node_text}
-use Rattle.message_types.specs.gnb_types.Orders.{ue_cmp, bearer_cmp}
-use Rattle.transaction_defs.specs.tables.Tables.{find, put, without}
+use Rattle.gnb_types.specs.declared.names.Gnb.{Gnb}
+use Rattle.gnb_types.specs.declared.names.NodeId.{NodeId}
+use Rattle.gnb_types.specs.declared.names.NodeId.TheVariants.{CuCp, CuUp, Du as du_node_id, Ue}
+use Rattle.gnb_types.specs.declared.names.UeId.{UeId}
+use Rattle.gnb_types.specs.declared.names.BearerId.{BearerId}
+use Rattle.gnb_types.specs.declared.names.SnBits.{SnBits}
+use Rattle.gnb_types.specs.declared.names.Dir.TheVariants.{Dl, Ul}
+use Rattle.gnb_types.specs.declared.keys.Channel.{Channel}
+use Rattle.gnb_types.specs.declared.plans.Peer.{Peer}
+use Rattle.gnb_types.specs.declared.plans.Tunnel.{Tunnel}
+use Rattle.gnb_types.specs.declared.reasons.DropReason.TheVariants.{NoContext, NoTunnel, Gap, Unexpected}
+use Rattle.gnb_types.specs.declared.outputs.Tag.TheVariants.{Absent, Same}
+use Rattle.gnb_types.specs.Names.{node_text}
+use Rattle.gnb_types.specs.Orders.{ue_cmp, bearer_cmp}
+use Rattle.tables.specs.Tables.{find, put, without}
 use Rattle.message_types.specs.declared.f1.F1.{F1}
 use Rattle.message_types.specs.declared.f1.F1.TheVariants as f1s
 use Rattle.message_types.specs.declared.rrc.Token.{Token}
 use Rattle.message_types.specs.declared.rrc.Token.TheVariants as tokens
 use Rattle.transaction_defs.specs.Callers.{close, due, after_tick, Due, repeats, expires}
-use Rattle.message_types.specs.gnb_types.declared.inputs.Order.{Order}
-use Rattle.message_types.specs.gnb_types.declared.inputs.Order.TheVariants as orders
+use Rattle.gnb_types.specs.declared.inputs.Order.{Order}
+use Rattle.gnb_types.specs.declared.inputs.Order.TheVariants as orders
 use Rattle.unit_defs.specs.Ways.{Message, f1, rrc, uplink, status, end_marker, Taken, frame_item, Input, control_input, packet_input, radio_input, confirm_input, tick_input, order_input, Output, control, packet, radio, opened, closed, Way, Answer, gives, spent, ◌then◌, nothing, puts, drops, teids_spent}
 use Rattle.unit_defs.specs.Transactions.{Kind, request, reply, transfer, kind_of, no_instance, Transactions, no_transactions, ask, advance, replied, on_request, on_reply}
 use Rattle.unit_defs.specs.Messages.{channel, is_same_gnb, bearers_of, are_first_bearers}

@@ -1,15 +1,15 @@
 -- Words on messages: the values of their enumerations, the lists of bearers in them, and the channel on which they come.
 use Rattle.std.specs.Prelude.{◌==◌, ℕ, ◌+◌, Bool, true, false, not, ◌&&◌, if◌then◌else◌, List, [], ◌∷◌, map, Option, Some, None}
-use Rattle.message_types.specs.gnb_types.declared.names.Gnb.{Gnb}
-use Rattle.message_types.specs.gnb_types.declared.names.Gnb.TheVariants.{A, B}
-use Rattle.message_types.specs.gnb_types.declared.names.NodeId.{NodeId}
-use Rattle.message_types.specs.gnb_types.declared.names.NodeId.TheVariants.{CuCp, CuUp, Du, Core, Ue}
-use Rattle.message_types.specs.gnb_types.declared.names.BearerId.{BearerId}
-use Rattle.message_types.specs.gnb_types.declared.keys.Channel.{Channel}
-use Rattle.message_types.specs.gnb_types.declared.plans.Tunnel.{Tunnel}
-use Rattle.message_types.specs.gnb_types.declared.plans.SnStatus.{SnStatus}
-use Rattle.message_types.specs.gnb_types.declared.reasons.CauseName.{CauseName}
-use Rattle.message_types.specs.gnb_types.declared.reasons.CauseName.TheVariants.{Quota, Busy, Unit as NoUnit}
+use Rattle.gnb_types.specs.declared.names.Gnb.{Gnb}
+use Rattle.gnb_types.specs.declared.names.Gnb.TheVariants.{A, B}
+use Rattle.gnb_types.specs.declared.names.NodeId.{NodeId}
+use Rattle.gnb_types.specs.declared.names.NodeId.TheVariants.{CuCp, CuUp, Du, Core, Ue}
+use Rattle.gnb_types.specs.declared.names.BearerId.{BearerId}
+use Rattle.gnb_types.specs.declared.keys.Channel.{Channel}
+use Rattle.gnb_types.specs.declared.plans.Tunnel.{Tunnel}
+use Rattle.gnb_types.specs.declared.plans.SnStatus.{SnStatus}
+use Rattle.gnb_types.specs.declared.reasons.CauseName.{CauseName}
+use Rattle.gnb_types.specs.declared.reasons.CauseName.TheVariants.{Quota, Busy, Unit as NoUnit}
 
 -- Cause ::= ENUMERATED {quota, busy, unit, ...}
 abbrev pub cause_quota : ℕ

@@ -1,7 +1,7 @@
 -- Tunnel endpoint identifiers (TS 29.281, 3.1): a node gives 1, 2, 3 and so on, and never one again.
 use Rattle.std.specs.Prelude.{◌==◌, ℕ, ◌+◌, ◌-◌, ◌^◌, Bool, not, ◌&&◌, nat_le, if◌then◌else◌, List, [], ◌∷◌}
 use Rattle.std.specs.Ordering.{nat_cmp}
-use Rattle.transaction_defs.specs.tables.Tables.{without}
+use Rattle.tables.specs.Tables.{without}
 
 abbrev pub last_teid : ℕ
 last_teid = 2 ^ 32 - 1

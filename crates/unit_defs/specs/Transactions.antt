@@ -2,10 +2,10 @@
 -- them (TS 38.401, 8; the class 1 procedures of F1AP, E1AP and XnAP).
 use Rattle.std.specs.Prelude.{◌==◌, ℕ, Bool, true, false, not, ◌&&◌, ◌||◌, if◌then◌else◌, List, [], ◌∷◌, ◌++◌, Option, Some, None}
 use Rattle.std.specs.List.{list_any}
-use Rattle.message_types.specs.gnb_types.declared.keys.Channel.{Channel}
-use Rattle.message_types.specs.gnb_types.declared.reasons.DropReason.TheVariants.{Stale}
-use Rattle.message_types.specs.gnb_types.Orders.{channel_cmp}
-use Rattle.transaction_defs.specs.tables.Tables.{put, without, at}
+use Rattle.gnb_types.specs.declared.keys.Channel.{Channel}
+use Rattle.gnb_types.specs.declared.reasons.DropReason.TheVariants.{Stale}
+use Rattle.gnb_types.specs.Orders.{channel_cmp}
+use Rattle.tables.specs.Tables.{put, without, at}
 use Rattle.transaction_defs.specs.Callers.{Caller, Begin, begun, running, spent as begins_no_more, no_requests, begin, is_open, is_awaited, keep_request, close, rests}
 use Rattle.transaction_defs.specs.Callees.{Callee, Verdict, new, again, stale, verdict, taken, keep, keep_for, kept_reply}
 use Rattle.message_types.specs.declared.f1.F1.TheVariants as f1s

@@ -10,23 +10,23 @@
 --   a PDU that was confirmed   confirm
 --   a tick                     tick       what it says, again
 use Rattle.std.specs.Prelude.{◌==◌, ℕ, ◌+◌, ◌-◌, ◌^◌, Bool, true, false, not, ◌&&◌, nat_lt, nat_le, if◌then◌else◌, List, [], ◌∷◌, ◌++◌, length, map, Option, Some, None, suc, zero}
-use Rattle.message_types.specs.gnb_types.declared.names.NodeId.{NodeId}
-use Rattle.message_types.specs.gnb_types.declared.names.NodeId.TheVariants.{Du}
-use Rattle.message_types.specs.gnb_types.declared.names.BearerId.{BearerId}
-use Rattle.message_types.specs.gnb_types.declared.names.Dir.TheVariants.{Dl, Ul}
-use Rattle.message_types.specs.gnb_types.declared.plans.Plan.{Plan}
-use Rattle.message_types.specs.gnb_types.declared.reasons.DropReason.TheVariants.{Stale, NoContext, Duplicate, Unexpected}
-use Rattle.message_types.specs.gnb_types.declared.reasons.HeldReason.TheVariants.{Ahead}
-use Rattle.message_types.specs.gnb_types.declared.reasons.RefuseReason.TheVariants.{NotAccessing, NoHome, Busy, NoRadio, Size, Quota}
-use Rattle.message_types.specs.gnb_types.declared.outputs.Tag.{Tag}
-use Rattle.message_types.specs.gnb_types.declared.outputs.Tag.TheVariants.{Absent, Own}
-use Rattle.message_types.specs.gnb_types.declared.inputs.Order.{Order}
-use Rattle.message_types.specs.gnb_types.declared.inputs.Order.TheVariants as orders
-use Rattle.message_types.specs.gnb_types.Orders.{bearer_cmp}
-use Rattle.transaction_defs.specs.tables.Tables.{find, put}
+use Rattle.gnb_types.specs.declared.names.NodeId.{NodeId}
+use Rattle.gnb_types.specs.declared.names.NodeId.TheVariants.{Du}
+use Rattle.gnb_types.specs.declared.names.BearerId.{BearerId}
+use Rattle.gnb_types.specs.declared.names.Dir.TheVariants.{Dl, Ul}
+use Rattle.gnb_types.specs.declared.plans.Plan.{Plan}
+use Rattle.gnb_types.specs.declared.reasons.DropReason.TheVariants.{Stale, NoContext, Duplicate, Unexpected}
+use Rattle.gnb_types.specs.declared.reasons.HeldReason.TheVariants.{Ahead}
+use Rattle.gnb_types.specs.declared.reasons.RefuseReason.TheVariants.{NotAccessing, NoHome, Busy, NoRadio, Size, Quota}
+use Rattle.gnb_types.specs.declared.outputs.Tag.{Tag}
+use Rattle.gnb_types.specs.declared.outputs.Tag.TheVariants.{Absent, Own}
+use Rattle.gnb_types.specs.declared.inputs.Order.{Order}
+use Rattle.gnb_types.specs.declared.inputs.Order.TheVariants as orders
+use Rattle.gnb_types.specs.Orders.{bearer_cmp}
+use Rattle.tables.specs.Tables.{find, put}
 use Rattle.message_types.specs.declared.rrc.Token.{Token}
 use Rattle.message_types.specs.declared.rrc.Token.TheVariants as tokens
-use Rattle.pdcp_defs.specs.pdcp.Near.{last_count}
+use Rattle.pdcp.specs.Near.{last_count}
 use Rattle.pdcp_defs.specs.Senders.{Sender, new_sender, numbered, has_room, confirmed_to, confirmed_by}
 use Rattle.pdcp_defs.specs.Receivers.{Receiver, Delivery, new_receiver, is_duplicate, is_ahead, stored, deliver as handed_up, received_bits}
 use Rattle.unit_defs.specs.declared.UeState.{UeState}

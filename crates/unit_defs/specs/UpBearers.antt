@@ -2,13 +2,13 @@
 -- control reaches it (made, uplinks added, switch, freeze, SN status, resume, release). Rows are told of these.
 use Rattle.std.specs.Prelude.{◌==◌, ℕ, ◌+◌, Bool, true, false, not, ◌&&◌, ◌||◌, nat_lt, if◌then◌else◌, List, [], ◌∷◌, ◌++◌, length, map, filter, Option, Some, None}
 use Rattle.std.specs.List.{list_any}
-use Rattle.message_types.specs.gnb_types.declared.names.NodeId.{NodeId}
-use Rattle.message_types.specs.gnb_types.declared.names.BearerId.{BearerId}
-use Rattle.message_types.specs.gnb_types.declared.names.Dir.TheVariants.{Dl, Ul}
-use Rattle.message_types.specs.gnb_types.declared.plans.SnStatus.{SnStatus}
-use Rattle.message_types.specs.gnb_types.declared.outputs.Tag.{Tag}
-use Rattle.message_types.specs.gnb_types.declared.outputs.Tag.TheVariants.{Absent, Own}
-use Rattle.pdcp_defs.specs.pdcp.Near.{last_count}
+use Rattle.gnb_types.specs.declared.names.NodeId.{NodeId}
+use Rattle.gnb_types.specs.declared.names.BearerId.{BearerId}
+use Rattle.gnb_types.specs.declared.names.Dir.TheVariants.{Dl, Ul}
+use Rattle.gnb_types.specs.declared.plans.SnStatus.{SnStatus}
+use Rattle.gnb_types.specs.declared.outputs.Tag.{Tag}
+use Rattle.gnb_types.specs.declared.outputs.Tag.TheVariants.{Absent, Own}
+use Rattle.pdcp.specs.Near.{last_count}
 use Rattle.pdcp_defs.specs.Senders.{new_sender, numbered as with_next, has_room, emptied}
 use Rattle.pdcp_defs.specs.Receivers.{new_receiver, deliver as handed_up, received_bits}
 use Rattle.unit_defs.specs.Ways.{packet_pdu, report_pdu, Load, fresh, numbered, frame, Output, packet, deliver, opened, Way, Answer, gives, spent, ◌then◌, nothing, puts, counts_spent, frames_spent}

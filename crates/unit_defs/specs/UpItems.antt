@@ -1,10 +1,10 @@
 -- What a CU-UP does with an item of a tunnel: when it holds it, and what it does to the bearer. Packets down, packets up, and
 -- what a context passes on that was frozen or released (TS 38.300, 9.2.3.2; TS 38.425, 5.4; TS 38.323, 5.2).
 use Rattle.std.specs.Prelude.{◌==◌, ℕ, Bool, true, false, not, ◌&&◌, ◌||◌, nat_lt, nat_le, if◌then◌else◌, List, [], ◌∷◌, ◌++◌, length, filter, Option, Some, None}
-use Rattle.message_types.specs.gnb_types.declared.reasons.DropReason.TheVariants.{Duplicate, Unexpected}
-use Rattle.message_types.specs.gnb_types.declared.reasons.HeldReason.{HeldReason}
-use Rattle.message_types.specs.gnb_types.declared.reasons.HeldReason.TheVariants.{Quota, Ahead, NoStatus, NotArrived, Early}
-use Rattle.message_types.specs.gnb_types.declared.outputs.Tag.TheVariants.{Absent, Same}
+use Rattle.gnb_types.specs.declared.reasons.DropReason.TheVariants.{Duplicate, Unexpected}
+use Rattle.gnb_types.specs.declared.reasons.HeldReason.{HeldReason}
+use Rattle.gnb_types.specs.declared.reasons.HeldReason.TheVariants.{Quota, Ahead, NoStatus, NotArrived, Early}
+use Rattle.gnb_types.specs.declared.outputs.Tag.TheVariants.{Absent, Same}
 use Rattle.pdcp_defs.specs.Senders.{may_restore, restored, confirmed_to, confirmed_by}
 use Rattle.pdcp_defs.specs.Receivers.{is_duplicate, is_ahead, stored}
 use Rattle.unit_defs.specs.Ways.{Content, packet_content, report_content, fresh, numbered, end_marker, Taken, fresh_item, numbered_item, uplink_item, status_item, end_item, closed, Way, Answer, ◌then◌, nothing, puts, drops}

@@ -1,11 +1,11 @@
 -- What a CU-UP keeps (TS 38.401, 6.1.2; TS 38.323, 5.2): per terminal a context, and in it per bearer the entities of PDCP, the
 -- ends of its tunnels, and what a handover leaves in between.
 use Rattle.std.specs.Prelude.{ℕ, ◌*◌, Bool, List, length, map, sum, Option}
-use Rattle.message_types.specs.gnb_types.declared.names.NodeId.{NodeId}
-use Rattle.message_types.specs.gnb_types.declared.names.Gnb.{Gnb}
-use Rattle.message_types.specs.gnb_types.declared.names.UeId.{UeId}
-use Rattle.message_types.specs.gnb_types.declared.names.BearerId.{BearerId}
-use Rattle.message_types.specs.gnb_types.declared.names.SnBits.{SnBits}
+use Rattle.gnb_types.specs.declared.names.NodeId.{NodeId}
+use Rattle.gnb_types.specs.declared.names.Gnb.{Gnb}
+use Rattle.gnb_types.specs.declared.names.UeId.{UeId}
+use Rattle.gnb_types.specs.declared.names.BearerId.{BearerId}
+use Rattle.gnb_types.specs.declared.names.SnBits.{SnBits}
 use Rattle.pdcp_defs.specs.Senders.{Sender}
 use Rattle.pdcp_defs.specs.Receivers.{Receiver}
 use Rattle.unit_defs.specs.Transactions.{Transactions}

@@ -1,22 +1,22 @@
 -- What units exchange, and what stands for it. A control message, a container in it and a PDCP PDU are each seen in two ways:
 -- as what they say, in the run that is looked at as a whole; and as octets, in units. What stands for them are parameters.
 use Rattle.std.specs.Prelude.{ℕ, Bool, List, [], ◌∷◌, ◌++◌, Option}
-use Rattle.message_types.specs.gnb_types.declared.names.NodeId.{NodeId}
-use Rattle.message_types.specs.gnb_types.declared.names.UeId.{UeId}
-use Rattle.message_types.specs.gnb_types.declared.names.BearerId.{BearerId}
-use Rattle.message_types.specs.gnb_types.declared.names.Dir.{Dir}
-use Rattle.message_types.specs.gnb_types.declared.names.SnBits.{SnBits}
-use Rattle.message_types.specs.gnb_types.declared.outputs.Tag.{Tag}
-use Rattle.message_types.specs.gnb_types.declared.reasons.DropReason.{DropReason}
-use Rattle.message_types.specs.gnb_types.declared.reasons.HeldReason.{HeldReason}
-use Rattle.message_types.specs.gnb_types.declared.reasons.CauseName.{CauseName}
-use Rattle.message_types.specs.gnb_types.declared.reasons.RefuseReason.{RefuseReason}
+use Rattle.gnb_types.specs.declared.names.NodeId.{NodeId}
+use Rattle.gnb_types.specs.declared.names.UeId.{UeId}
+use Rattle.gnb_types.specs.declared.names.BearerId.{BearerId}
+use Rattle.gnb_types.specs.declared.names.Dir.{Dir}
+use Rattle.gnb_types.specs.declared.names.SnBits.{SnBits}
+use Rattle.gnb_types.specs.declared.outputs.Tag.{Tag}
+use Rattle.gnb_types.specs.declared.reasons.DropReason.{DropReason}
+use Rattle.gnb_types.specs.declared.reasons.HeldReason.{HeldReason}
+use Rattle.gnb_types.specs.declared.reasons.CauseName.{CauseName}
+use Rattle.gnb_types.specs.declared.reasons.RefuseReason.{RefuseReason}
 use Rattle.message_types.specs.declared.f1.F1.{F1}
 use Rattle.message_types.specs.declared.e1.E1Message.{E1Message}
 use Rattle.message_types.specs.declared.xn.XnMessage.{XnMessage}
 use Rattle.message_types.specs.declared.xn.CoreMessage.{CoreMessage}
 use Rattle.message_types.specs.declared.rrc.Token.{Token}
-use Rattle.message_types.specs.gnb_types.declared.inputs.Order.{Order}
+use Rattle.gnb_types.specs.declared.inputs.Order.{Order}
 
 -- a control message of any interface; C stands for a container
 pub data Message (C : Type 0) : Type 0 where

@@ -3,17 +3,9 @@
 //! The names of states are types here, as the units report them.
 #![tactic(auto)]
 
-/// Of `gnb_types`, for crates above.
-pub mod from_gnb_types {
-    pub mod octets {
-        pub use message_types::from_gnb_types::octets::Memory;
-    }
-}
-
-/// Of `message_types`, for crates above.
-pub mod from_message_types {
-    pub use message_types::{CoreMessage, E1Message, F1, F1Message, Token, XnMessage};
-}
+pub mod codec_defs;
+pub mod codec_range_defs;
+pub mod octet_defs;
 
 /// What a CU-CP does with a terminal. `Idle` stands for no context.
 #[derive(Clone, Copy, Debug, PartialEq, Eq)]

@@ -1,2 +1,2 @@
 pub mod Messages
-pub use Rattle.unit_octet_defs.specs as unit_octet_defs
+pub mod steps

@@ -1,7 +1,7 @@
 //! What a unit asks of the codec of control messages.
 
 ghost use Rattle.std.specs.Prelude.{◌≡◌, IfOk};
-ghost use Rattle.unit_octet_defs.specs.Codec.{Codec};
+ghost use Rattle.unit_defs.specs.octet_defs.Codec.{Codec};
 ghost use Rattle.unit_messages.specs.Messages.{message_as, answer_as};
 
 use crate::message::Message;
@@ -9,8 +9,8 @@ use gnb_types::items::Memory;
 use gnb_types::names::NodeId;
 use gnb_types::octets::Octets;
 use gnb_types::reasons::DropReason;
+use message_types::Token;
 use std::alloc::Global;
-use unit_defs::from_message_types::Token;
 
 /// Reads and spells control messages. The member `codec` says which octets a message has, and what octets say: the rows of units
 /// are stated over it. Memory is the one error of each call.

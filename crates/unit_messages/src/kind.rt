@@ -5,7 +5,7 @@ ghost use Rattle.unit_defs.specs.Transactions.{kind_of};
 ghost use Rattle.unit_messages.specs.Messages.{message_as, kind_as};
 
 use crate::message::Message;
-use unit_defs::from_message_types::{CoreMessage, E1Message, F1, F1Message, XnMessage};
+use message_types::{CoreMessage, E1Message, F1, F1Message, XnMessage};
 
 /// A request or a reply, with its terminal (0: none) and its instance; or neither.
 #[derive(Clone, Copy)]

@@ -3,13 +3,10 @@
 
 mod codec;
 mod kind;
+pub mod lawful_codecs;
 mod message;
+pub mod steps;
 
 pub use codec::{MessageCodec, spelled};
 pub use kind::Kind;
 pub use message::Message;
-
-/// Of `message_types`, for crates above.
-pub mod from_message_types {
-    pub use unit_defs::from_message_types::{F1, Token};
-}

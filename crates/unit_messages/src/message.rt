@@ -5,7 +5,7 @@ ghost use Rattle.unit_defs.specs.Transactions.{with_instance, kind_of};
 ghost use Rattle.unit_messages.specs.Messages.{message_as, kind_as};
 
 use crate::kind::{Kind, kind_of_core, kind_of_e1, kind_of_f1, kind_of_xn};
-use unit_defs::from_message_types::{CoreMessage, E1Message, F1, F1Message, Token, XnMessage};
+use message_types::{CoreMessage, E1Message, F1, F1Message, Token, XnMessage};
 
 /// A message of F1AP, E1AP or XnAP, one with the core, or a token of RRC. Containers are octets.
 #[derive(Drop)]

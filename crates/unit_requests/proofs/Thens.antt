@@ -5,11 +5,11 @@ use Rattle.std.specs.Prelude.{Result, Ok, Err}
 use Rattle.gnb_types.specs.declared.outputs.Output.{Output}
 use Rattle.unit_defs.specs.Ways.{◌then◌, nothing}
 use Rattle.unit_defs.specs.Transactions.{Asked}
-use Rattle.unit_steps.specs.unit_octet_defs.Units.{OctetAnswer}
-use Rattle.unit_steps.specs.declared.StepError.{StepError}
-use Rattle.unit_steps.specs.declared.StepError.TheVariants as errors
-use Rattle.unit_steps.specs.Steps.{Step, stepped, step_after, IsStep}
-use Rattle.unit_steps.proofs.StepLaws.{step_then, step_stops}
+use Rattle.unit_defs.specs.octet_defs.Units.{OctetAnswer}
+use Rattle.unit_messages.specs.declared.steps.StepError.{StepError}
+use Rattle.unit_messages.specs.declared.steps.StepError.TheVariants as errors
+use Rattle.unit_messages.specs.steps.Steps.{Step, stepped, step_after, IsStep}
+use Rattle.unit_messages.proofs.steps.StepLaws.{step_then, step_stops}
 use Rattle.unit_requests.specs.Requests.{Kept, AskGives}
 
 pub step_nothing : {R : Type 0} (before : List Output) (r : R) → step_after before (nothing r) ≡ stepped before r

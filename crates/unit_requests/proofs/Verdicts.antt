@@ -2,7 +2,7 @@
 use Rattle.std.proofs.Common.{◌≡◌, ℕ, refl}
 use Rattle.std.specs.Prelude.{Ok}
 use Rattle.gnb_types.specs.declared.keys.Channel.{Channel}
-use Rattle.unit_defs.specs.transaction_defs.Callees.{Verdict, new, again, stale, verdict, accepted, accepted_as}
+use Rattle.transaction_defs.specs.Callees.{Verdict, new, again, stale, verdict, accepted, accepted_as}
 use Rattle.transactions.specs.Answers.{verdict_as}
 use Rattle.unit_requests.specs.Requests.{Kept, AcceptGives}
 

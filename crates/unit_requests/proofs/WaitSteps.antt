@@ -5,8 +5,8 @@ use Rattle.gnb_types.specs.declared.keys.Channel.{Channel}
 use Rattle.gnb_types.specs.Orders.{channel_cmp}
 use Rattle.gnb_types.proofs.OrderLemmas.{channel_total}
 use Rattle.tables.specs.Tables.{find, put, without, at}
-use Rattle.unit_defs.specs.transaction_defs.Callers.{Caller}
-use Rattle.unit_defs.specs.transaction_defs.Callees.{Callee}
+use Rattle.transaction_defs.specs.Callers.{Caller}
+use Rattle.transaction_defs.specs.Callees.{Callee}
 use Rattle.unit_defs.specs.Transactions.{Waiting, waits_at, waiting_then, with_waiting}
 use Rattle.unit_requests.specs.Requests.{Kept, TakesWaiting}
 use Rattle.unit_requests.proofs.Waits.{length_empty, waiting_then-append, waiting_then-put, without-put}

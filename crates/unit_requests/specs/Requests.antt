@@ -4,16 +4,16 @@ use Rattle.gnb_types.specs.declared.keys.Channel.{Channel}
 use Rattle.gnb_types.specs.declared.items.Memory.{Memory}
 use Rattle.gnb_types.specs.declared.outputs.Output.{Output}
 use Rattle.gnb_types.specs.declared.outputs.Output.TheVariants.{Control}
-use Rattle.unit_defs.specs.transaction_defs.Callers.{Caller, Begin, begun, running, spent}
-use Rattle.unit_defs.specs.transaction_defs.Callees.{taken, verdict}
-use Rattle.unit_defs.specs.transaction_defs.Callees as callees
+use Rattle.transaction_defs.specs.Callers.{Caller, Begin, begun, running, spent}
+use Rattle.transaction_defs.specs.Callees.{taken, verdict}
+use Rattle.transaction_defs.specs.Callees as callees
 use Rattle.transactions.specs.declared.callee.Verdict.{Verdict}
 use Rattle.transactions.specs.declared.callee.Verdict.TheVariants.{New, Again, Stale}
 use Rattle.unit_defs.specs.Ways.{instances_spent}
 use Rattle.unit_defs.specs.Transactions.{Transactions, Waiting, Asked, waits_at, with_waiting}
-use Rattle.unit_steps.specs.declared.StepError.{StepError}
-use Rattle.unit_steps.specs.declared.StepError.TheVariants as errors
-use Rattle.unit_steps.specs.Steps.{Step, stepped, stopped}
+use Rattle.unit_messages.specs.declared.steps.StepError.{StepError}
+use Rattle.unit_messages.specs.declared.steps.StepError.TheVariants as errors
+use Rattle.unit_messages.specs.steps.Steps.{Step, stepped, stopped}
 
 -- what is kept of requests and replies, with their octets
 abbrev pub Kept : Type 0

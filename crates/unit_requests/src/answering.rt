@@ -1,12 +1,12 @@
 //! Requests of other nodes, and the replies to them.
 
 ghost use Rattle.std.specs.Prelude.{◌≡◌, ◌++◌, OnOk, IfErr};
-ghost use Rattle.unit_defs.specs.transaction_defs.Callees.{kept_reply};
-ghost use Rattle.unit_steps.specs.unit_octet_defs.Codec.{octet_way};
+ghost use Rattle.transaction_defs.specs.Callees.{kept_reply};
+ghost use Rattle.unit_defs.specs.octet_defs.Codec.{octet_way};
 ghost use Rattle.unit_messages.specs.Messages.{message_as};
 ghost use Rattle.unit_defs.specs.Transactions.{replied, replied_late};
-ghost use Rattle.unit_steps.specs.Steps.{step_after, IsStep};
-ghost use Rattle.unit_steps.specs.declared.StepError.TheVariants.{Memory as NoMemory};
+ghost use Rattle.unit_messages.specs.steps.Steps.{step_after, IsStep};
+ghost use Rattle.unit_messages.specs.declared.steps.StepError.TheVariants.{Memory as NoMemory};
 ghost use Rattle.unit_requests.specs.Requests.{AcceptGives, outputs_again};
 
 use crate::putting::put_message;
@@ -17,8 +17,8 @@ use gnb_types::octets::Octets;
 use gnb_types::outputs::{Output, Outputs};
 use std::alloc::Global;
 use transactions::callee::Verdict;
+use unit_messages::steps::StepError;
 use unit_messages::{Message, MessageCodec};
-use unit_steps::StepError;
 
 impl Requests {
     /// Takes a request of another node: where it is new its instance is the newest one of its channel from here on.

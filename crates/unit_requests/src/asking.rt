@@ -1,10 +1,10 @@
 //! Requests: each is put at once, or waits for the one that is open.
 
 ghost use Rattle.std.specs.Prelude.{◌≡◌, [], ◌∷◌, ◌++◌, IfOk, OnOk, IfNone};
-ghost use Rattle.unit_defs.specs.transaction_defs.Callers.{begin, keep_request};
-ghost use Rattle.unit_steps.specs.unit_octet_defs.Codec.{octet_way};
+ghost use Rattle.transaction_defs.specs.Callers.{begin, keep_request};
+ghost use Rattle.unit_defs.specs.octet_defs.Codec.{octet_way};
 ghost use Rattle.unit_defs.specs.Transactions.{with_instance, begin_request, ask, advance, ask_at_once};
-ghost use Rattle.unit_steps.specs.Steps.{step_after};
+ghost use Rattle.unit_messages.specs.steps.Steps.{step_after};
 ghost use Rattle.unit_requests.specs.Requests.{AskGives, OpenGives};
 
 use crate::putting::put_message;
@@ -13,11 +13,11 @@ use crate::waiting::Waiting;
 use gnb_types::items::Memory;
 use gnb_types::keys::Channel;
 use gnb_types::outputs::{Output, Outputs};
-use results::beside;
+use gnb_types::results::beside;
 use std::alloc::Global;
 use transactions::caller::{BeginError, Caller};
 use unit_messages::MessageCodec;
-use unit_steps::StepError;
+use unit_messages::steps::StepError;
 
 /// The number of the counter of instances.
 const INSTANCES: u8 = 3;

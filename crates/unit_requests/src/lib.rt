@@ -8,25 +8,10 @@ mod asking;
 mod putting;
 mod queues;
 mod requests;
+pub mod setup_requests;
 mod waiting;
+pub mod waiting_requests;
 
 pub use putting::put;
 pub use requests::Requests;
 pub use waiting::Waiting;
-
-/// Of `transactions`, for crates above.
-pub mod from_transactions {
-    pub mod callee {
-        pub use transactions::callee::Verdict;
-    }
-}
-
-/// Of `unit_steps`, for crates above.
-pub mod from_unit_steps {
-    pub use unit_steps::StepError;
-}
-
-/// Of `unit_messages`, for crates above.
-pub mod from_unit_messages {
-    pub use unit_messages::{Kind, Message, MessageCodec, spelled};
-}

@@ -1,7 +1,7 @@
 //! Messages that are put.
 
 ghost use Rattle.std.specs.Prelude.{◌≡◌, [], ◌∷◌, ◌++◌, IfOk, OnOk, IfErr};
-ghost use Rattle.unit_steps.specs.declared.StepError.TheVariants.{Memory as NoMemory};
+ghost use Rattle.unit_messages.specs.declared.steps.StepError.TheVariants.{Memory as NoMemory};
 ghost use Rattle.unit_messages.specs.Messages.{message_as};
 
 use gnb_types::items::Memory;
@@ -9,8 +9,8 @@ use gnb_types::keys::Channel;
 use gnb_types::octets::Octets;
 use gnb_types::outputs::{Output, Outputs};
 use std::alloc::Global;
+use unit_messages::steps::StepError;
 use unit_messages::{Message, MessageCodec};
-use unit_steps::StepError;
 
 /// Puts an output after the others.
 pub fn put(outputs: &mut Outputs, output: Output) -> Result<(), StepError>

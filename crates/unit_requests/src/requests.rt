@@ -2,7 +2,7 @@
 
 ghost use Rattle.std.specs.Prelude.{◌≡◌, ◌==◌, map, IfOk, OnOk, OnErr};
 ghost use Rattle.std.specs.List.{list_any};
-ghost use Rattle.unit_defs.specs.transaction_defs.Callers.{is_awaited, close, due, after_tick};
+ghost use Rattle.transaction_defs.specs.Callers.{is_awaited, close, due, after_tick};
 ghost use Rattle.transactions.specs.Answers.{due_as};
 ghost use Rattle.unit_defs.specs.Transactions.{no_transactions, terminal_rests};
 

@@ -4,23 +4,23 @@ use Rattle.std.specs.Prelude.{IfOk, reverse}
 use Rattle.std.proofs.lemmas.List.{reverse-reverse}
 use Rattle.serde_json.specs.Data.{Data}
 use Rattle.serde_json.specs.declared.value.Value.{Value as Json}
-use Rattle.asn1_module.specs.asn1_assignments.declared.assignment.Syntax.{Syntax}
-use Rattle.asn1_module.specs.asn1_defs.Modules.{IsModule}
+use Rattle.asn1_syntax.specs.declared.assignments.assignment.Syntax.{Syntax}
+use Rattle.asn1_defs.specs.Modules.{IsModule}
 use Rattle.aper.specs.PathText.{path_text}
 use Rattle.aper_defs.specs.Fields.{Path}
-use Rattle.aper.specs.aper_frames.Paths.{path_view, step_view}
-use Rattle.aper.specs.aper_frames.declared.path.Step.{Step}
+use Rattle.aper_frames.specs.Paths.{path_view, step_view}
+use Rattle.aper_frames.specs.declared.path.Step.{Step}
 use Rattle.aper_values.specs.declared.value.Value.{Value}
 use Rattle.aper_values.specs.Views.{view}
 use Rattle.json_defs.specs.Named.{Named}
 use Rattle.json_defs.specs.Readings.{value_of}
 use Rattle.json_defs.specs.declared.fault.JsonFault.{JsonFault}
 use Rattle.json_defs.specs.Demands.{Demand, demands}
-use Rattle.json_printing.specs.json_type_defs.Types.{named}
-use Rattle.json_reading.proofs.json_proof_modules.Members.{read_json}
-use Rattle.json_reading.specs.json_simple.declared.refusal.Refusal.{Refusal}
-use Rattle.json_reading.specs.json_simple.declared.refusal.Refusal.TheVariants.{Fault}
-use Rattle.json_reading.specs.json_simple.Answers.{Tells}
+use Rattle.json_defs.specs.type_defs.Types.{named}
+use Rattle.proof_json.proofs.modules.Members.{read_json}
+use Rattle.json_fields.specs.declared.simple.refusal.Refusal.{Refusal}
+use Rattle.json_fields.specs.declared.simple.refusal.Refusal.TheVariants.{Fault}
+use Rattle.json_fields.specs.simple.Answers.{Tells}
 use Rattle.values_json.specs.declared.error.JsonError.{JsonError}
 use Rattle.values_json.specs.declared.error.JsonError.TheVariants.{NotJson, Shape, Range, Memory}
 use Rattle.values_json.specs.Texts.{IsJson, IsNoJson, IsTextOf, HasFault, OnNotJson, OnFault}

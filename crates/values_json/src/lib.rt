@@ -5,13 +5,18 @@ ghost use Rattle.std.specs.Prelude.{◌≡◌, ◌<◌, length, IfOk, IfSome};
 ghost use Rattle.serde_json.specs.Written.{compact_text};
 ghost use Rattle.aper_values.specs.Views.{view};
 ghost use Rattle.json_defs.specs.Members.{same_text};
-ghost use Rattle.json_shown_defs.specs.Printed.{shown_as};
-ghost use Rattle.json_printing.specs.json_type_defs.Types.{named};
+ghost use Rattle.json_defs.specs.shown_defs.Printed.{shown_as};
+ghost use Rattle.json_defs.specs.type_defs.Types.{named};
 ghost use Rattle.values_json.specs.Texts.{IsNoJson, IsReadAgain, IsTextOf, HasFault, OnNotJson, OnFault};
 
 mod error;
+pub mod order;
+pub mod pieces;
+pub mod printing;
 mod reading;
+pub mod tokens;
 
+use crate::printing::write_value;
 use crate::reading::{answered, tree_of};
 use aper::is_value;
 use aper_values::value::Value;
@@ -19,15 +24,9 @@ use asn1_module::{Module, TypeId};
 pub use error::JsonError;
 use gnb_types::octets::{Memory, Octets};
 use json::Writer;
-use json_guess::likely_value;
-use json_printing::write_value;
-use json_reading::value_in;
+use json_read::guess::likely_value;
+use json_read::json_reading::value_in;
 use std::alloc::Global;
-
-/// Of `aper`, for crates above.
-pub mod from_aper {
-    pub use aper::{DecodeError, Reason, Value, decode, encode, is_value, spelled_length};
-}
 
 fn is_same(text: &[u8], other: &[u8]) -> bool
     ensures { result ≡ same_text text.now other.now }

@@ -4,15 +4,15 @@ ghost use Rattle.std.specs.Prelude.{List};
 ghost use Rattle.aper_defs.specs.Fields.{Path};
 ghost use Rattle.aper_defs.specs.Values.{Value as SeenValue};
 ghost use Rattle.json_defs.specs.Demands.{Demand};
-ghost use Rattle.json_reading.specs.json_simple.Answers.{Tells};
-ghost use Rattle.json_reading.specs.json_wholes.Reads.{ReadsAs};
+ghost use Rattle.json_fields.specs.simple.Answers.{Tells};
+ghost use Rattle.json_read.specs.wholes.Reads.{ReadsAs};
 ghost use Rattle.values_json.specs.inside.Answered.{IsTreeOf, IsRefusedAs, IsAnswered};
 
 use crate::error::JsonError;
 use aper::path_text;
 use aper_values::value::Value;
 use json_defs::JsonFault;
-use json_reading::from_json_simple::refusal::Refusal;
+use json_fields::simple::refusal::Refusal;
 use serde_json::Value as Json;
 use std::alloc::Global;
 

@@ -1,2 +1,4 @@
 pub mod Worlds
-pub use Rattle.world_injects.specs.world_steps as world_steps
+pub mod turns
+pub mod radios
+pub mod settling

@@ -6,9 +6,9 @@ use Rattle.run_defs.specs.States.{new_state}
 use Rattle.run_defs.specs.Runs.{happens}
 use Rattle.run_links.specs.Grounds.{OctetState, OctetWorld, OctetOutcome}
 use Rattle.run_links.specs.Told.{EndsAt}
-use Rattle.world_injects.specs.world_steps.declared.cause.Cause.{Cause}
-use Rattle.world_injects.specs.world_steps.declared.cause.Cause.TheVariants as causes
-use Rattle.world_injects.specs.world_steps.Gives.{stop_by, EventStops}
+use Rattle.world_steps.specs.declared.cause.Cause.{Cause}
+use Rattle.world_steps.specs.declared.cause.Cause.TheVariants as causes
+use Rattle.world_steps.specs.Gives.{stop_by, EventStops}
 use Rattle.world.specs.declared.stop.Stop.{Stop}
 use Rattle.world.specs.declared.stop.Stop.TheVariants as stops
 

@@ -2,19 +2,8 @@
 #![tactic(auto)]
 
 mod happen;
+pub mod radios;
+pub mod settling;
 pub mod stop;
+pub mod turns;
 pub mod world;
-
-/// Of `lawful_codecs`, for crates above.
-pub mod from_lawful_codecs {
-    pub use world_injects::from_lawful_codecs::LawfulCodec;
-}
-
-/// Of `world_steps`, for crates above.
-pub mod from_world_steps {
-    pub use world_injects::from_world_steps::Units;
-
-    pub mod cause {
-        pub use world_injects::from_world_steps::cause::Cause;
-    }
-}

@@ -5,7 +5,7 @@ ghost use Rattle.world.specs.Worlds.{stopped};
 
 use run_links::lines::Lines;
 use run_links::spans::Outstanding;
-use world_injects::from_world_steps::cause::Cause;
+use world_steps::cause::Cause;
 
 /// Why an event can't be applied whole, with the lines of its steps that were made.
 #[derive(Drop)]

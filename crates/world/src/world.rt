@@ -9,16 +9,16 @@ ghost use Rattle.world.specs.Worlds.{IsUsable, IsNew, Applies};
 
 use crate::happen::happen;
 use crate::stop::Stop;
+use core_node::CoreNode;
 use gnb_types::items::Memory;
 use run_links::ground::Ground;
 use run_links::lines::Lines;
 use scenario_text::event::Event;
 use std::alloc::Global;
-use world_injects::from_core_node::CoreNode;
-use world_injects::from_lawful_codecs::LawfulCodec;
-use world_injects::from_world_steps::Units;
-use world_injects::from_world_steps::cause::Cause;
-use world_injects::from_world_steps::parts::Parts;
+use unit_messages::lawful_codecs::LawfulCodec;
+use world_steps::Units;
+use world_steps::cause::Cause;
+use world_steps::parts::Parts;
 
 /// A run of the whole base station over these units, whose control messages are octets by this codec. Contracts see the state of the run,
 /// as the run of units of any meaning has it, and why it stopped, if it did.

@@ -4,10 +4,10 @@ use Rattle.std.specs.Prelude.{Result, Ok, Err}
 use Rattle.std.proofs.lemmas.List.{append-nil}
 use Rattle.gnb_types.specs.declared.names.NodeId.{NodeId}
 use Rattle.scenario_text.specs.declared.line.OutLine.{OutLine}
-use Rattle.run_links.specs.run_defs.Lines.{RunLine}
-use Rattle.run_links.specs.run_defs.States.{Stop, goes, stops, told_before, ◌next◌, as_step}
-use Rattle.run_links.specs.run_defs.Steps.{reconnect_node, put_out_all, check_spans, carried_out}
-use Rattle.run_links.specs.run_defs.UnitRuns.{Records, OctetPut}
+use Rattle.run_defs.specs.Lines.{RunLine}
+use Rattle.run_defs.specs.States.{Stop, goes, stops, told_before, ◌next◌, as_step}
+use Rattle.run_defs.specs.Steps.{reconnect_node, put_out_all, check_spans, carried_out}
+use Rattle.run_defs.specs.UnitRuns.{Records, OctetPut}
 use Rattle.run_links.specs.Grounds.{Octets, OctetState, OctetWorld, OctetWithin}
 use Rattle.run_links.specs.Told.{printed, GoesTo}
 use Rattle.run_links.proofs.Goes.{told_more}

@@ -8,12 +8,12 @@ use Rattle.gnb_types.specs.declared.outputs.Output.{Output}
 use Rattle.gnb_types.specs.declared.reasons.HeldReason.{HeldReason}
 use Rattle.gnb_types.specs.declared.reasons.RefuseReason.{RefuseReason}
 use Rattle.scenario_text.specs.declared.line.OutLine.{OutLine}
-use Rattle.core_node.specs.unit_steps.declared.StepError.{StepError}
-use Rattle.core_node.specs.unit_steps.declared.StepError.TheVariants as errors
-use Rattle.core_node.specs.unit_octet_defs.Codec.{Codec}
-use Rattle.run_links.specs.run_defs.States.{Stop, spent_counter, as_step}
-use Rattle.run_links.specs.run_defs.Steps.{is_done, does, carried_out, too_many_letters}
-use Rattle.run_links.specs.run_defs.UnitRuns.{Records, Meaning, UnitAnswer, unit_gives, OctetGiven, input_of, put_of, stepped_by, unit_world}
+use Rattle.unit_messages.specs.declared.steps.StepError.{StepError}
+use Rattle.unit_messages.specs.declared.steps.StepError.TheVariants as errors
+use Rattle.unit_defs.specs.octet_defs.Codec.{Codec}
+use Rattle.run_defs.specs.States.{Stop, spent_counter, as_step}
+use Rattle.run_defs.specs.Steps.{is_done, does, carried_out, too_many_letters}
+use Rattle.run_defs.specs.UnitRuns.{Records, Meaning, UnitAnswer, unit_gives, OctetGiven, input_of, put_of, stepped_by, unit_world}
 use Rattle.run_units.specs.Steps.{StepGives, IsAsked, LeavesAll}
 use Rattle.run_links.specs.Grounds.{OctetState, OctetWorld, OctetWithin, OctetOutcome}
 use Rattle.run_links.specs.Told.{GoesTo}

@@ -7,8 +7,8 @@ use Rattle.std.proofs.lemmas.List.{append-nil}
 use Rattle.std.proofs.lemmas.Grind.{flat_map-append}
 use Rattle.scenario_text.specs.declared.line.OutLine.{OutLine}
 use Rattle.std.specs.List.{flat_map}
-use Rattle.run_links.specs.run_defs.Lines.{RunLine}
-use Rattle.run_links.specs.run_defs.States.{RunStep, Stop, goes, stops, told_before, ◌next◌, goes_on}
+use Rattle.run_defs.specs.Lines.{RunLine}
+use Rattle.run_defs.specs.States.{RunStep, Stop, goes, stops, told_before, ◌next◌, goes_on}
 use Rattle.run_links.specs.Grounds.{Octets, OctetState, OctetOutcome}
 use Rattle.run_links.specs.Told.{printed, EndsAt}
 use Rattle.run_links.proofs.Goes.{told_more}

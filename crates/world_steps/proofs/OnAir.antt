@@ -4,9 +4,9 @@ use Rattle.gnb_types.specs.declared.names.UeId.{UeId}
 use Rattle.gnb_types.specs.declared.plans.Plan.{Plan}
 use Rattle.gnb_types.specs.Orders.{ue_cmp}
 use Rattle.tables.specs.Tables.{find}
-use Rattle.core_node.specs.unit_defs.Ue.{UeNode}
-use Rattle.run_links.specs.run_defs.Units.{ue_of}
-use Rattle.run_links.specs.run_defs.Steps.{is_on_air, epoch_on_air, epoch_now}
+use Rattle.unit_defs.specs.Ue.{UeNode}
+use Rattle.run_defs.specs.Units.{ue_of}
+use Rattle.run_defs.specs.Steps.{is_on_air, epoch_on_air, epoch_now}
 use Rattle.run_links.specs.Grounds.{OctetWorld, OctetState}
 
 pub epoch_is : (world : OctetWorld) (s : OctetState) (ue : UeId) (plan : Plan) (u : UeNode) (on_air : Bool) → Some plan ≡ find ue_cmp s.plans ue

@@ -8,9 +8,9 @@ use Rattle.gnb_types.specs.declared.reasons.RefuseReason.{RefuseReason}
 use Rattle.scenario_text.specs.declared.line.Link.{Link}
 use Rattle.scenario_text.specs.declared.line.OutLine.{OutLine}
 use Rattle.scenario_text.specs.declared.line.OutLine.TheVariants as outs
-use Rattle.run_links.specs.run_defs.Lines.{held_at}
-use Rattle.run_links.specs.run_defs.States.{Stop, goes, as_step, refused}
-use Rattle.run_links.specs.run_defs.Steps.{is_done, is_held, is_refused, ordered_by}
+use Rattle.run_defs.specs.Lines.{held_at}
+use Rattle.run_defs.specs.States.{Stop, goes, as_step, refused}
+use Rattle.run_defs.specs.Steps.{is_done, is_held, is_refused, ordered_by}
 use Rattle.run_links.specs.Grounds.{OctetState, OctetWorld, OctetOutcome}
 use Rattle.world_steps.specs.declared.asked.Moved.{Moved}
 use Rattle.world_steps.specs.declared.asked.Moved.TheVariants as moves

@@ -7,9 +7,9 @@ use Rattle.gnb_types.specs.declared.reasons.RefuseReason.{RefuseReason}
 use Rattle.gnb_types.specs.declared.outputs.Output.{Output}
 use Rattle.gnb_types.specs.declared.outputs.Output.TheVariants as outs
 use Rattle.transport_defs.specs.Links.{most_letters}
-use Rattle.run_links.specs.run_defs.States.{stepped, spent_counter, stops, as_step}
-use Rattle.run_links.specs.run_defs.Steps.{Done, is_done, is_held, is_refused, done_with, carried_out, too_many_letters, letters_spent}
-use Rattle.run_links.specs.run_defs.UnitRuns.{Records, put_of}
+use Rattle.run_defs.specs.States.{stepped, spent_counter, stops, as_step}
+use Rattle.run_defs.specs.Steps.{Done, is_done, is_held, is_refused, done_with, carried_out, too_many_letters, letters_spent}
+use Rattle.run_defs.specs.UnitRuns.{Records, put_of}
 use Rattle.run_links.specs.Grounds.{Octets, OctetState, OctetWorld, OctetWithin}
 use Rattle.run_links.proofs.Counting.{letters_put}
 use Rattle.world_steps.specs.declared.cause.Cause.{Cause}

@@ -4,9 +4,9 @@ use Rattle.gnb_types.specs.declared.outputs.Output.{Output}
 use Rattle.gnb_types.specs.declared.outputs.Output.TheVariants as outs
 use Rattle.gnb_types.specs.declared.names.NodeId.{NodeId}
 use Rattle.transport_defs.specs.Links.{most_letters}
-use Rattle.run_links.specs.run_defs.States.{spent_counter, stops, as_step}
-use Rattle.run_links.specs.run_defs.Steps.{is_done, is_held, is_refused, done_with, carried_out}
-use Rattle.run_links.specs.run_defs.UnitRuns.{Records, OctetStepped, put_of}
+use Rattle.run_defs.specs.States.{spent_counter, stops, as_step}
+use Rattle.run_defs.specs.Steps.{is_done, is_held, is_refused, done_with, carried_out}
+use Rattle.run_defs.specs.UnitRuns.{Records, OctetStepped, put_of}
 use Rattle.run_links.specs.Grounds.{OctetState, OctetWorld, OctetWithin, letters_in}
 use Rattle.world_steps.specs.declared.cause.Cause.{Cause}
 use Rattle.world_steps.specs.declared.cause.Cause.TheVariants as causes

@@ -3,11 +3,11 @@ use Rattle.std.specs.Prelude.{◌≡◌, ℕ, List, ◌++◌, Option, Some, None
 use Rattle.std.specs.List.{flat_map}
 use Rattle.gnb_types.specs.declared.names.NodeId.{NodeId}
 use Rattle.scenario_text.specs.declared.line.OutLine.{OutLine}
-use Rattle.run_links.specs.run_defs.States.{RunStep, Stop, outstanding, spent_counter, goes, stops, ◌next◌}
-use Rattle.run_links.specs.run_defs.Steps.{reconnect_node, put_out_all, check_spans}
-use Rattle.run_links.specs.run_defs.UnitRuns.{OctetPut}
-use Rattle.core_node.specs.unit_steps.declared.StepError.{StepError}
-use Rattle.core_node.specs.unit_steps.declared.StepError.TheVariants as errors
+use Rattle.run_defs.specs.States.{RunStep, Stop, outstanding, spent_counter, goes, stops, ◌next◌}
+use Rattle.run_defs.specs.Steps.{reconnect_node, put_out_all, check_spans}
+use Rattle.run_defs.specs.UnitRuns.{OctetPut}
+use Rattle.unit_messages.specs.declared.steps.StepError.{StepError}
+use Rattle.unit_messages.specs.declared.steps.StepError.TheVariants as errors
 use Rattle.run_links.specs.Grounds.{Octets, OctetState, OctetWorld, OctetWithin, OctetOutcome}
 use Rattle.run_links.specs.Told.{printed, GoesTo, EndsAt}
 use Rattle.world_steps.specs.declared.cause.Cause.{Cause}

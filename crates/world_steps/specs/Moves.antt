@@ -3,8 +3,8 @@ use Rattle.std.specs.Prelude.{◌≡◌, List, [], ◌∷◌, Option, Some, None
 use Rattle.scenario_text.specs.declared.line.Link.{Link}
 use Rattle.scenario_text.specs.declared.line.OutLine.{OutLine}
 use Rattle.scenario_text.specs.declared.line.OutLine.TheVariants as outs
-use Rattle.run_links.specs.run_defs.States.{Stop}
-use Rattle.run_links.specs.run_defs.Steps.{Done, is_done, is_held, is_refused}
+use Rattle.run_defs.specs.States.{Stop}
+use Rattle.run_defs.specs.Steps.{Done, is_done, is_held, is_refused}
 use Rattle.run_links.specs.Grounds.{Octets, OctetState}
 use Rattle.world_steps.specs.declared.cause.Cause.{Cause}
 use Rattle.world_steps.specs.declared.asked.Moved.{Moved}

@@ -3,9 +3,9 @@
 ghost use Rattle.std.specs.Prelude.{◌≡◌};
 ghost use Rattle.world_steps.specs.Gives.{cause_of};
 
-use core_node::from_unit_steps::StepError;
 use gnb_types::items::Memory as NoMemory;
 use run_links::spans::Outstanding;
+use unit_messages::steps::StepError;
 
 /// Why a run can't go on.
 #[derive(Clone, Copy, Debug, PartialEq, Eq)]

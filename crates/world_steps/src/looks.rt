@@ -1,19 +1,19 @@
 //! What events look at in units.
 
 ghost use Rattle.std.specs.Prelude.{◌≡◌};
-ghost use Rattle.core_node.specs.unit_defs.Ue.{is_connected};
-ghost use Rattle.core_node.specs.unit_defs.Accessors.{is_unconfirmed};
-ghost use Rattle.run_links.specs.run_defs.Units.{cp_of, up_of, epoch_at};
-ghost use Rattle.run_links.specs.run_defs.Steps.{epoch_now, is_on_air};
-ghost use Rattle.run_links.specs.run_defs.Conditions.{later, same_epoch, ready_home, serving_gnb, serving_place};
-ghost use Rattle.run_links.specs.run_defs.UnitRuns.{unit_world};
+ghost use Rattle.unit_defs.specs.Ue.{is_connected};
+ghost use Rattle.unit_defs.specs.Accessors.{is_unconfirmed};
+ghost use Rattle.run_defs.specs.Units.{cp_of, up_of, epoch_at};
+ghost use Rattle.run_defs.specs.Steps.{epoch_now, is_on_air};
+ghost use Rattle.run_defs.specs.Conditions.{later, same_epoch, ready_home, serving_gnb, serving_place};
+ghost use Rattle.run_defs.specs.UnitRuns.{unit_world};
 ghost use Rattle.run_links.specs.Grounds.{OctetWorld, state_of};
 
 use crate::parts::Parts;
-use core_node::from_unit_defs::UeState;
-use core_node::from_unit_messages::MessageCodec;
 use gnb_types::names::{BearerId, Gnb, NodeId, UeId};
 use run_units::units::Units;
+use unit_defs::UeState;
+use unit_messages::MessageCodec;
 
 fn is_connected(state: UeState) -> bool
     ensures { result ≡ is_connected state }

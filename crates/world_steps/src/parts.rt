@@ -1,10 +1,10 @@
 //! What a run consists of.
 
 use core_node::CoreNode;
-use core_node::from_unit_messages::MessageCodec;
 use run_links::ground::Ground;
 use run_units::units::Units;
 use std::alloc::Global;
+use unit_messages::MessageCodec;
 
 /// The units of a run, its core, and what it keeps beside them.
 #[derive(Drop)]

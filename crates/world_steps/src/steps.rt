@@ -2,12 +2,12 @@
 
 ghost use Rattle.std.specs.Prelude.{◌≡◌, false, nat_lt, ◌+◌, List, length, map, None, OnOk};
 ghost use Rattle.transport_defs.specs.Links.{most_letters};
-ghost use Rattle.run_units.specs.plain_defs.Plain.{IsGiven};
+ghost use Rattle.run_defs.specs.plain_defs.Plain.{IsGiven};
 ghost use Rattle.run_units.specs.Steps.{IsAsked};
-ghost use Rattle.run_links.specs.run_defs.States.{goes_on};
-ghost use Rattle.run_links.specs.run_defs.Steps.{reconnect_node, check_spans, does, step};
+ghost use Rattle.run_defs.specs.States.{goes_on};
+ghost use Rattle.run_defs.specs.Steps.{reconnect_node, check_spans, does, step};
 ghost use Rattle.scenario_text.specs.declared.line.OutLine.{OutLine as ShownLine};
-ghost use Rattle.run_links.specs.run_defs.UnitRuns.{OctetGiven, unit_world, input_of, stepped_by, put_of};
+ghost use Rattle.run_defs.specs.UnitRuns.{OctetGiven, unit_world, input_of, stepped_by, put_of};
 ghost use Rattle.run_links.specs.Grounds.{state_of, letters_in};
 ghost use Rattle.run_links.specs.Told.{GoesTo};
 ghost use Rattle.world_steps.specs.Gives.{Gives, EventGives, finished};
@@ -17,13 +17,13 @@ ghost use Rattle.world_steps.specs.Asks.{ComesOf, SortsTo};
 use crate::asked::{Alone, Asked, Moved, alone_in, moved_by};
 use crate::cause::{Cause, cause_of};
 use crate::parts::Parts;
-use core_node::from_unit_messages::MessageCodec;
 use gnb_types::inputs::Input;
 use gnb_types::items::Memory;
 use gnb_types::names::{NodeId, UeId};
 use gnb_types::outputs::Outputs;
 use run_links::lines::Lines;
 use run_units::units::Units;
+use unit_messages::MessageCodec;
 
 /// What comes of these outputs, where there is room for their control messages.
 fn sorted(outputs: Outputs, room: bool) -> Result<Asked, Cause>

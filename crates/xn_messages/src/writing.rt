@@ -17,6 +17,7 @@ use gnb_types::items::Memory;
 use gnb_types::names::{SnBits, UeId};
 use gnb_types::octets::Octets;
 use gnb_types::plans::{Peer, StatusList, TunnelList};
+use gnb_types::results::beside;
 use message_types::XnMessage;
 use message_values::elements::ElementName;
 use message_values::fields::{
@@ -25,7 +26,6 @@ use message_values::fields::{
 use message_values::places::{
     INITIATING, Place, SUCCESSFUL, UNSUCCESSFUL, extended_message, message_of,
 };
-use results::beside;
 use std::alloc::Global;
 
 /// The value of a message: its information elements in the order of the profile's table, each with criticality reject.

@@ -1,8 +1,8 @@
 -- Internal: an error with its way as text.
 use Rattle.std.specs.Prelude.{◌≡◌}
-use Rattle.aper_reading.specs.aper_frames.Paths.{path_view}
-use Rattle.aper_reading.specs.declared.error.DecodeError as reading
-use Rattle.aper_reading.specs.declared.error.DecodeError.TheVariants as undecoded
+use Rattle.aper_frames.specs.Paths.{path_view}
+use Rattle.aper_decode.specs.declared.error.DecodeError as reading
+use Rattle.aper_decode.specs.declared.error.DecodeError.TheVariants as undecoded
 use Rattle.aper.specs.declared.error.DecodeError.{DecodeError}
 use Rattle.aper.specs.declared.error.DecodeError.TheVariants.{Refused, Memory}
 use Rattle.aper.specs.PathText.{path_text}

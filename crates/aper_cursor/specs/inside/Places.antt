@@ -1,8 +1,8 @@
 -- Internal: a cursor's fields, and what its steps do.
 use Rattle.std.specs.Prelude.{◌≡◌, ℕ, ◌+◌, ◌*◌, ◌-◌, ◌^◌, ◌<◌, ◌≤◌, List, [], ◌∷◌, length, take as first, map, reverse, min, None, Some, Result, Ok, Err}
-use Rattle.aper_proof_values.specs.bits_core.Bits.{number_of}
-use Rattle.aper_proof_values.specs.aper_defs.declared.reason.Reason.{Reason}
-use Rattle.aper_proof_values.specs.aper_defs.Reading.{Cursor, Opened, outer, passes, bits_at, bit_limit}
+use Rattle.bits_core.specs.Bits.{number_of}
+use Rattle.aper_defs.specs.declared.reason.Reason.{Reason}
+use Rattle.aper_defs.specs.Reading.{Cursor, Opened, outer, passes, bits_at, bit_limit}
 use Rattle.aper_cursor.specs.declared.cursor.OpenType.{OpenType}
 use Rattle.aper_cursor.specs.declared.cursor.Cursor.TheInside.{Inside}
 

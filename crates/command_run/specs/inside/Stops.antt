@@ -1,17 +1,17 @@
 -- Internal: what a run did before its last line is written, and the writing of that line.
 use Rattle.std.specs.Prelude.{◌≡◌, ℕ, List, [], ◌∷◌}
 use Rattle.gnb_base.specs.Outside.{SourceAt, SinkAt}
-use Rattle.input_defs.specs.Faults.{NoReadFailed, LastReadFailed}
-use Rattle.input_defs.specs.Split.{InputSplit, rest_of, TakesInput}
+use Rattle.command_defs.specs.input_defs.Faults.{NoReadFailed, LastReadFailed}
+use Rattle.command_defs.specs.input_defs.Split.{InputSplit, rest_of, TakesInput}
 use Rattle.scenario_text.specs.declared.event.Event.{Event}
 use Rattle.scenario_text.specs.declared.line.OutLine.{OutLine}
 use Rattle.command_defs.specs.declared.CommonEnd.TheVariants.{ReadFault, WriteFault, Memory}
-use Rattle.input_module.specs.declared.stop.ModuleStop.{ModuleStop}
-use Rattle.input_module.specs.declared.stop.ModuleStop.TheVariants as stops
+use Rattle.commands.specs.declared.input_module.stop.ModuleStop.{ModuleStop}
+use Rattle.commands.specs.declared.input_module.stop.ModuleStop.TheVariants as stops
 use Rattle.command_defs.specs.Ends.{end_of_input}
 use Rattle.command_defs.specs.Outside.{OutsideAt, NoWriteFailed, LastWriteFailed}
 use Rattle.command_defs.specs.Output.{Prints, PrintsFront}
-use Rattle.command_output.specs.Writes.{WritesAll, WritesFront}
+use Rattle.commands.specs.command_output.Writes.{WritesAll, WritesFront}
 use Rattle.command_run.specs.declared.end.RunEnd.{RunEnd}
 use Rattle.command_run.specs.declared.end.RunEnd.TheVariants.{NoModule, Script, Common}
 use Rattle.command_run.specs.Ends.{run_last_lines, end_text}

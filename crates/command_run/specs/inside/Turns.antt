@@ -3,16 +3,16 @@ use Rattle.std.specs.Prelude.{◌≡◌, ℕ, true, false, List, [], ◌∷◌, 
 use Rattle.gnb_base.specs.declared.lines.Line.{Line}
 use Rattle.gnb_base.specs.Outside.{SourceAt, SinkAt}
 use Rattle.gnb_base.specs.Reading.{Reading, NextMeets}
-use Rattle.input_defs.specs.declared.InputEnd.{InputEnd}
-use Rattle.input_lines.specs.ReadsLine.{StopsReading}
-use Rattle.asn1_assignments.specs.declared.assignment.Syntax.{Syntax}
+use Rattle.command_defs.specs.declared.input_defs.InputEnd.{InputEnd}
+use Rattle.commands.specs.input_lines.ReadsLine.{StopsReading}
+use Rattle.asn1_syntax.specs.declared.assignments.assignment.Syntax.{Syntax}
 use Rattle.profile.specs.declared.version.Version.TheVariants.{One}
-use Rattle.profile_defs.specs.Profile.{profile_types}
-use Rattle.profile_defs.specs.Agreement.{differs}
-use Rattle.input_module.specs.declared.module.GivenModule.{GivenModule}
-use Rattle.input_module.specs.declared.module.GivenModule.TheVariants as given
-use Rattle.input_module.specs.declared.stop.ModuleStop.{ModuleStop}
-use Rattle.input_module.specs.Taking.{StopsTaking, HasModule}
+use Rattle.message_defs.specs.profile_defs.Profile.{profile_types}
+use Rattle.message_defs.specs.profile_defs.Agreement.{differs}
+use Rattle.commands.specs.declared.input_module.module.GivenModule.{GivenModule}
+use Rattle.commands.specs.declared.input_module.module.GivenModule.TheVariants as given
+use Rattle.commands.specs.declared.input_module.stop.ModuleStop.{ModuleStop}
+use Rattle.commands.specs.input_module.Taking.{StopsTaking, HasModule}
 use Rattle.scenario_text.specs.declared.event.Event.{Event}
 use Rattle.scenario_text.specs.declared.line.OutLine.{OutLine}
 use Rattle.scenario_text.specs.declared.line.OutLine.TheVariants as lines
@@ -21,7 +21,7 @@ use Rattle.scenario_text.specs.Texts.{InRange}
 use Rattle.scenario_text.specs.Print.{print}
 use Rattle.command_defs.specs.declared.CommonEnd.TheVariants.{WriteFault, Memory}
 use Rattle.command_defs.specs.Ends.{end_of_input}
-use Rattle.command_output.specs.Writes.{WritesAll, WritesFront}
+use Rattle.commands.specs.command_output.Writes.{WritesAll, WritesFront}
 use Rattle.command_run.specs.declared.end.RunEnd.{RunEnd}
 use Rattle.command_run.specs.declared.end.RunEnd.TheVariants.{Differs, Script, Common}
 use Rattle.run_defs.specs.States.{RunStep, Stop, goes, stops}
@@ -30,8 +30,8 @@ use Rattle.run_defs.specs.UnitRuns.{Records, unit_world}
 use Rattle.run_links.specs.declared.ground.Ground.{Ground}
 use Rattle.run_links.specs.Grounds.{OctetOutcome, OctetCore, state_of}
 use Rattle.run_links.specs.Told.{EndsAt}
-use Rattle.world.specs.world_steps.declared.cause.Cause.{Cause}
-use Rattle.world.specs.world_steps.Gives.{printed_steps, stop_by, EventStops}
+use Rattle.world_steps.specs.declared.cause.Cause.{Cause}
+use Rattle.world_steps.specs.Gives.{printed_steps, stop_by, EventStops}
 use Rattle.world.specs.Worlds.{WorldAt}
 use Rattle.command_run.specs.declared.script.Happening.{Happening}
 use Rattle.command_run.specs.Ends.{end_at}

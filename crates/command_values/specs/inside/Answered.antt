@@ -1,11 +1,11 @@
 -- Internal: what the functions that answer a line give each other.
 use Rattle.std.specs.Prelude.{◌≡◌, ℕ, List, Result, Ok, Err}
-use Rattle.asn1_module.specs.asn1_assignments.declared.assignment.Syntax.{Syntax}
+use Rattle.asn1_syntax.specs.declared.assignments.assignment.Syntax.{Syntax}
 use Rattle.aper_defs.specs.Values.{Value}
-use Rattle.values_json.specs.aper_types.Types.{tree}
+use Rattle.aper_values.specs.types.Types.{tree}
 use Rattle.json_defs.specs.declared.fault.JsonFault.TheVariants as faults
-use Rattle.json_shown_defs.specs.Printed.{shown_as}
-use Rattle.values_json.specs.json_type_defs.Types.{named}
+use Rattle.json_defs.specs.shown_defs.Printed.{shown_as}
+use Rattle.json_defs.specs.type_defs.Types.{named}
 use Rattle.serde_json.specs.Written.{compact_text}
 use Rattle.aper_defs.specs.Spelling.{Spells}
 use Rattle.values_json.specs.Texts.{IsReadAgain}

@@ -1,16 +1,16 @@
 -- Internal: what was done before the last line is written, and the writing of that line.
 use Rattle.std.specs.Prelude.{◌≡◌, ◌⊎◌, List, [], ◌∷◌, ℕ}
 use Rattle.gnb_base.specs.Outside.{SourceAt, SinkAt}
-use Rattle.input_defs.specs.Faults.{NoReadFailed, LastReadFailed}
-use Rattle.input_defs.specs.Split.{InputSplit, rest_of, joined, TakesInput}
-use Rattle.input_module.specs.declared.stop.ModuleStop.{ModuleStop}
-use Rattle.input_module.specs.declared.stop.ModuleStop.TheVariants as stops
+use Rattle.command_defs.specs.input_defs.Faults.{NoReadFailed, LastReadFailed}
+use Rattle.command_defs.specs.input_defs.Split.{InputSplit, rest_of, joined, TakesInput}
+use Rattle.commands.specs.declared.input_module.stop.ModuleStop.{ModuleStop}
+use Rattle.commands.specs.declared.input_module.stop.ModuleStop.TheVariants as stops
 use Rattle.scenario_text.specs.declared.line.OutLine.{OutLine}
 use Rattle.command_defs.specs.declared.CommonEnd.TheVariants.{ReadFault, WriteFault, Memory}
 use Rattle.command_defs.specs.Ends.{end_of_input}
 use Rattle.command_defs.specs.Outside.{OutsideAt, NoWriteFailed, LastWriteFailed}
 use Rattle.command_defs.specs.Output.{Prints, PrintsFront}
-use Rattle.command_output.specs.Writes.{WritesAll, WritesFront}
+use Rattle.commands.specs.command_output.Writes.{WritesAll, WritesFront}
 use Rattle.command_values.specs.declared.end.Stop.TheVariants.{NoModule, Script}
 use Rattle.command_values.specs.declared.end.ValuesEnd.{ValuesEnd}
 use Rattle.command_values.specs.declared.end.ValuesEnd.TheVariants.{Stopped, Common}

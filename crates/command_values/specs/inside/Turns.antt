@@ -4,18 +4,18 @@ use Rattle.gnb_base.specs.declared.lines.Line.{Line}
 use Rattle.gnb_base.specs.Lines.{line_feed, HasNoLf}
 use Rattle.gnb_base.specs.Outside.{SourceAt, SinkAt}
 use Rattle.gnb_base.specs.Reading.{Reading, NextMeets}
-use Rattle.input_defs.specs.declared.InputEnd.{InputEnd}
-use Rattle.input_lines.specs.ReadsLine.{StopsReading}
-use Rattle.asn1_module.specs.asn1_assignments.declared.assignment.Syntax.{Syntax}
-use Rattle.asn1_module.specs.asn1_defs.Targets.{find_type}
+use Rattle.command_defs.specs.declared.input_defs.InputEnd.{InputEnd}
+use Rattle.commands.specs.input_lines.ReadsLine.{StopsReading}
+use Rattle.asn1_syntax.specs.declared.assignments.assignment.Syntax.{Syntax}
+use Rattle.asn1_defs.specs.Targets.{find_type}
 use Rattle.profile.specs.declared.version.Version.TheVariants.{Two}
-use Rattle.input_module.specs.declared.module.GivenModule.{GivenModule}
-use Rattle.input_module.specs.Taking.{HasModule}
-use Rattle.command_check.specs.Check.{IsModuleOf}
+use Rattle.commands.specs.declared.input_module.module.GivenModule.{GivenModule}
+use Rattle.commands.specs.input_module.Taking.{HasModule}
+use Rattle.commands.specs.command_check.Check.{IsModuleOf}
 use Rattle.command_defs.specs.declared.CommonEnd.TheVariants.{WriteFault, Memory}
 use Rattle.command_defs.specs.Ends.{end_of_input}
 use Rattle.command_defs.specs.Outside.{OutsideAt, outside}
-use Rattle.command_output.specs.Writes.{WritesAll, WritesFront}
+use Rattle.commands.specs.command_output.Writes.{WritesAll, WritesFront}
 use Rattle.command_values.specs.declared.answer.Wrong.{Wrong}
 use Rattle.command_values.specs.declared.end.Stop.TheVariants.{Value}
 use Rattle.command_values.specs.declared.end.ValuesEnd.{ValuesEnd}

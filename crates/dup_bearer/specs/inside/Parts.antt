@@ -1,11 +1,11 @@
 -- Internal: parts of an event, with lines after earlier ones.
 use Rattle.std.specs.Prelude.{◌≡◌, List, map, Result, Ok, Err}
-use Rattle.dup_types.specs.declared.error.DupError.{DupError}
-use Rattle.dup_types.specs.declared.error.DupError.TheVariants as errors
-use Rattle.dup_types.specs.declared.line.DupLine.{DupLine}
-use Rattle.dup_types.specs.declared.put.Put.{Put}
-use Rattle.dup_run_defs.specs.Run.{DupOutcome, goes_on, lines_first, put_line, with_puts}
-use Rattle.dup_pdcp.specs.Entity.{puts_of_code}
+use Rattle.dup_defs.specs.declared.types.error.DupError.{DupError}
+use Rattle.dup_defs.specs.declared.types.error.DupError.TheVariants as errors
+use Rattle.dup_defs.specs.declared.types.line.DupLine.{DupLine}
+use Rattle.dup_defs.specs.declared.types.put.Put.{Put}
+use Rattle.dup_defs.specs.dup_run_defs.Run.{DupOutcome, goes_on, lines_first, put_line, with_puts}
+use Rattle.dup_bearer.specs.dup_pdcp.Entity.{puts_of_code}
 use Rattle.dup_bearer.specs.Bearers.{BearerState, with_run}
 use Rattle.dup_bearer.specs.declared.fault.DupFault.{DupFault}
 use Rattle.dup_bearer.specs.declared.fault.DupFault.TheVariants as faults

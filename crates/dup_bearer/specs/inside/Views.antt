@@ -2,10 +2,10 @@
 use Rattle.std.specs.Prelude.{◌≡◌, ℕ, ◌+◌, ◌≤◌, List, None}
 use Rattle.gnb_types.specs.declared.names.SnBits.{SnBits}
 use Rattle.pdcp.specs.Near.{last_count}
-use Rattle.um_pdcp.specs.Stored.{AreGiven}
-use Rattle.dup_pdcp.specs.Entity.{DupTxState}
-use Rattle.dup_legs.specs.Legs.{LegsState}
-use Rattle.dup_run_defs.specs.Run.{DupRun}
+use Rattle.um.specs.um_pdcp.Stored.{AreGiven}
+use Rattle.dup_bearer.specs.dup_pdcp.Entity.{DupTxState}
+use Rattle.dup_bearer.specs.legs.Legs.{LegsState}
+use Rattle.dup_defs.specs.dup_run_defs.Run.{DupRun}
 use Rattle.dup_bearer.specs.Bearers.{BearerState}
 
 abbrev pub run_state : DupTxState → LegsState → ℕ → List (ℕ × List ℕ) → DupRun

@@ -1,4 +1,4 @@
-use Rattle.aper_proof_octets.proofs.Spelled.{some_spelling, one_spelling}
+use Rattle.proof_aper.proofs.octets.Spelled.{some_spelling, one_spelling}
 use Rattle.law_aper.proofs.a_value_has_one_spelling.Goals as goal
 
 pub returns-clause-some : goal.returns-clause-some

@@ -1,4 +1,4 @@
-use Rattle.aper_proof_octets.proofs.Spelled.{spelled_is, nothing_is_unspelled}
+use Rattle.proof_aper.proofs.octets.Spelled.{spelled_is, nothing_is_unspelled}
 use Rattle.law_aper.proofs.the_octets_of_a_value.Goals as goal
 
 pub returns-clause-spelling : goal.returns-clause-spelling

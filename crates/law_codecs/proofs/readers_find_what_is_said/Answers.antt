@@ -1,4 +1,4 @@
-use Rattle.link_proof_reading.proofs.Lawful.{item_found, item_decodes, pdu_found, pdu_carried}
+use Rattle.proof_message_codec.proofs.link_reading.Lawful.{item_found, item_decodes, pdu_found, pdu_carried}
 use Rattle.law_codecs.proofs.readers_find_what_is_said.Goals as goal
 
 pub returns : goal.returns

@@ -1,6 +1,6 @@
 use Rattle.std.proofs.Common.{refl}
-use Rattle.link_read_defs.specs.Pdus.{pdu_on}
-use Rattle.link_read_defs.specs.Items.{item_on}
+use Rattle.link_defs.specs.read_defs.Pdus.{pdu_on}
+use Rattle.link_defs.specs.read_defs.Items.{item_on}
 use Rattle.law_codecs.proofs.worked_octets.Goals as goal
 
 pub returns : goal.returns

@@ -1,4 +1,4 @@
-use Rattle.json_proof_lawful.proofs.Law.{value_or_fault, not_both}
+use Rattle.proof_json.proofs.lawful.Law.{value_or_fault, not_both}
 use Rattle.law_json.proofs.json_is_a_value_or_has_a_fault.Goals as goal
 
 pub returns-clause-always : goal.returns-clause-always

@@ -1,4 +1,4 @@
-use Rattle.json_proof_lawful.proofs.Law.{exact}
+use Rattle.proof_json.proofs.lawful.Law.{exact}
 use Rattle.law_json.proofs.json_is_a_value_where_no_demand_fails.Goals as goal
 
 pub returns : goal.returns

@@ -1,9 +1,9 @@
 use Rattle.run_defs.specs.UnitRuns.{tables}
-use Rattle.plain_defs.specs.Plain.{ArePlanned}
-use Rattle.law_plain_units.proofs.Keeping.{tables_keep, tables_plain}
+use Rattle.run_defs.specs.plain_defs.Plain.{ArePlanned}
+use Rattle.law_octets_say_the_same.proofs.plain_units.Keeping.{tables_keep, tables_plain}
 use Rattle.command_run.specs.Run.{setting_of}
-use Rattle.message_proof_codec.specs.message_codec_defs.Codecs.{profile_codec}
-use Rattle.message_proof_codec.proofs.Lawful.{items_are_read, pdus_are_read}
+use Rattle.message_codec_defs.specs.Codecs.{profile_codec}
+use Rattle.proof_message_codec.proofs.codec.Lawful.{items_are_read, pdus_are_read}
 use Rattle.law_promise.proofs.Promise.{done_writes}
 use Rattle.law_promise.proofs.what_the_product_writes_keeps_the_promise.Goals as goal
 

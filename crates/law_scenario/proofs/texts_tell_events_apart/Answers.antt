@@ -1,7 +1,7 @@
 use Rattle.std.proofs.Common.{◌≡◌, ◌∙◌, ap, Result, Ok}
 use Rattle.scenario_text.specs.Grammar.{event_of}
 use Rattle.scenario_text.specs.declared.event.Event.{Event}
-use Rattle.script_words.specs.declared.reason.TextReason.{TextReason}
+use Rattle.scenario_text.specs.declared.script_words.reason.TextReason.{TextReason}
 use Rattle.scenario_text.proofs.EventLaws.{event_of-event_text}
 use Rattle.law_scenario.proofs.texts_tell_events_apart.Goals as goal
 

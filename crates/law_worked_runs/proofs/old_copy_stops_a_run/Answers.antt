@@ -18,8 +18,8 @@ use Rattle.unit_defs.specs.Ue.{new_ue, placed, number_each, number_waiting, conn
 use Rattle.unit_defs.specs.UpBearers.{made, framed, sent, sent_again, number_each as number_each_2, number_waiting as number_waiting_2, deliver_stored, forwarded_down, forwarded_up, with_uplink, begin_downlink, switched, frozen_to, with_status, resumed}
 use Rattle.unit_defs.specs.UpItems.{held_reason, took_fresh, took_numbered, took_uplink, took_report, took_delivery_status, uplink_ended, up_ended, took}
 use Rattle.unit_defs.specs.UpRecords.{reserved}
-use Rattle.unit_octet_defs.specs.Reading.{read_at_cu_cp, read_at_cu_up, read_at_du, read_at_ue}
-use Rattle.unit_octet_defs.specs.Units.{cu_cp_steps, cu_up_steps, du_steps, ue_steps, core_steps}
+use Rattle.unit_defs.specs.octet_defs.Reading.{read_at_cu_cp, read_at_cu_up, read_at_du, read_at_ue}
+use Rattle.unit_defs.specs.octet_defs.Units.{cu_cp_steps, cu_up_steps, du_steps, ue_steps, core_steps}
 use Rattle.transport_defs.specs.Links.{put_letter, letter, landed, in_flight_of}
 use Rattle.run_defs.specs.Conditions.{rests as rests_2}
 use Rattle.run_defs.specs.Events.{static, start as start_3, attach as attach_2, offer as offer_3, get, air, ack, give, lose_message, lose_item, pump, tick as tick_4, poll as poll_2, fail as fail_2, arrive as arrive_2, come_back as come_back_2, handover as handover_2, cancel as cancel_2, release as release_4, ask as ask_2, inject_message, inject_item}

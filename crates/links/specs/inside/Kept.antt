@@ -4,10 +4,10 @@ use Rattle.gnb_types.specs.declared.keys.TunnelEnd.{TunnelEnd}
 use Rattle.gnb_types.specs.declared.keys.EntityKey.{EntityKey}
 use Rattle.gnb_types.specs.Orders.{tunnel_cmp, entity_cmp}
 use Rattle.tables.specs.Tables.{IsSorted, map_values}
-use Rattle.links_bag.specs.transport_defs.declared.Item.{Item}
-use Rattle.links_bag.specs.transport_defs.Links.{Radio}
-use Rattle.links_bag.specs.link_tallies.Tallies.{Tallies}
-use Rattle.links_bag.specs.link_tallies.Tied.{AreTallies}
+use Rattle.transport_defs.specs.declared.Item.{Item}
+use Rattle.transport_defs.specs.Links.{Radio}
+use Rattle.links.specs.link_tallies.Tallies.{Tallies}
+use Rattle.links.specs.link_tallies.Tied.{AreTallies}
 
 -- the keys of a table, in order
 abbrev pub keys : {K X : Type 0} → List (K × X) → List (K × Unit {0})

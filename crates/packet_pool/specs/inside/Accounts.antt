@@ -4,7 +4,7 @@ use Rattle.std.specs.List.{AllByRecursion, sum}
 use Rattle.std.specs.Map.{values_of}
 use Rattle.gnb_types.specs.declared.keys.EntityKey.{EntityKey}
 use Rattle.gnb_types.specs.Orders.{entity_cmp}
-use Rattle.pool_defs.specs.tables.Tables.{map_values, IsSorted}
+use Rattle.tables.specs.Tables.{map_values, IsSorted}
 use Rattle.packet_pool.specs.declared.accounts.Account.{Account}
 
 pub record AccountsState : Type 0 where

@@ -1,6 +1,6 @@
 -- Internal: what each block has, and the packet and the place that follow from it.
 use Rattle.std.specs.Prelude.{ℕ, Bool, if◌then◌else◌, List, take, slice_get, Option, Some, None}
-use Rattle.pool_defs.specs.Pools.{Stored}
+use Rattle.pdcp_defs.specs.pool_defs.Pools.{Stored}
 use Rattle.packet_pool.specs.declared.contents.Content.{Content}
 use Rattle.packet_pool.specs.declared.region.Block.{Block}
 use Rattle.packet_pool.specs.inside.Regions.{octets_at}

@@ -4,8 +4,8 @@ use Rattle.std.specs.List.{count_by}
 use Rattle.std.specs.Map.{values_of}
 use Rattle.gnb_types.specs.declared.keys.EntityKey.{EntityKey}
 use Rattle.gnb_types.specs.Orders.{entity_cmp}
-use Rattle.pool_defs.specs.tables.Tables.{at, IsSorted}
-use Rattle.pool_defs.specs.Pools.{Stored, PoolState, is_of}
+use Rattle.tables.specs.Tables.{at, IsSorted}
+use Rattle.pdcp_defs.specs.pool_defs.Pools.{Stored, PoolState, is_of}
 use Rattle.packet_pool.specs.declared.contents.Content.{Content}
 use Rattle.packet_pool.specs.inside.Contents.{content_at, stored_in, place_in}
 use Rattle.packet_pool.specs.declared.region.Block.{Block}

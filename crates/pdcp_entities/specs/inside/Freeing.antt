@@ -1,6 +1,6 @@
 -- Internal: packets that are given up one after another.
 use Rattle.std.specs.Prelude.{◌≡◌, ℕ, List, [], ◌∷◌, Option, Some, None}
-use Rattle.packet_pool.specs.pool_defs.Pools.{PoolState, packet_at}
+use Rattle.pdcp_defs.specs.pool_defs.Pools.{PoolState, packet_at}
 use Rattle.pdcp_entities.specs.Packets.{HasNone, OthersStay, freed, all_freed}
 
 abbrev pub freed_if : PoolState → Option ℕ → PoolState

@@ -7,11 +7,11 @@ use Rattle.serde_json.specs.Read.{read}
 use Rattle.serde_json.specs.Written.{compact_text}
 use Rattle.serde_json.proofs.Texts.{print-outline}
 use Rattle.aper_values.specs.Views.{view}
-use Rattle.json_shown_defs.specs.Printed.{shown_as}
-use Rattle.json_printing.specs.json_type_defs.Types.{named}
-use Rattle.json_tokens.specs.Written.{tokens_of, WritesWhole}
-use Rattle.json_tokens.proofs.Texts.{reads_again}
-use Rattle.json_proof_order.proofs.Ordered.{printed_ordered}
+use Rattle.json_defs.specs.shown_defs.Printed.{shown_as}
+use Rattle.json_defs.specs.type_defs.Types.{named}
+use Rattle.values_json.specs.tokens.Written.{tokens_of, WritesWhole}
+use Rattle.values_json.proofs.tokens.Texts.{reads_again}
+use Rattle.proof_json.proofs.order.Ordered.{printed_ordered}
 use Rattle.values_json.proofs.json_of_value.Goals as goal
 
 -- what a fresh writer holds when a tree is written to it

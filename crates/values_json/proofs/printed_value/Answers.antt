@@ -1,8 +1,8 @@
 use Rattle.std.proofs.Common.{ℕ, List, sym, subst, ◌∙◌}
 use Rattle.aper_values.specs.Views.{view}
-use Rattle.json_proof_values.proofs.Words.{texts_same}
-use Rattle.json_shown_defs.specs.Printed.{shown_as}
-use Rattle.json_printing.specs.json_type_defs.Types.{named}
+use Rattle.proof_json.proofs.values.Words.{texts_same}
+use Rattle.json_defs.specs.shown_defs.Printed.{shown_as}
+use Rattle.json_defs.specs.type_defs.Types.{named}
 use Rattle.values_json.specs.Texts.{IsReadAgain}
 use Rattle.values_json.proofs.Again.{text_again}
 use Rattle.values_json.proofs.printed_value.Goals as goal

@@ -1,7 +1,7 @@
 use Rattle.serde_json.specs.View.{view as json}
 use Rattle.json_defs.specs.Readings.{value_of}
 use Rattle.json_defs.specs.Demands.{demands}
-use Rattle.json_printing.specs.json_type_defs.Types.{named}
+use Rattle.json_defs.specs.type_defs.Types.{named}
 use Rattle.std.proofs.lemmas.Result.{err_from_is_err_and}
 use Rattle.values_json.proofs.Answered.{text_value, text_json, text_fault, no_tree_json, no_tree_fault}
 use Rattle.values_json.proofs.value_from_json.Goals as goal

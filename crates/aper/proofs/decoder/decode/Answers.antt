@@ -1,7 +1,7 @@
-use Rattle.aper_value_checks.specs.aper_types.Types.{tree}
-use Rattle.aper_value_checks.proofs.aper_types.Bounded.{tree_bounded}
+use Rattle.aper_values.specs.types.Types.{tree}
+use Rattle.aper_values.proofs.types.Bounded.{tree_bounded}
 use Rattle.aper_values.specs.Views.{view}
-use Rattle.aper_reading.proofs.aper_proof_values.FoundWhole.{decoded_spells}
+use Rattle.proof_aper.proofs.values.FoundWhole.{decoded_spells}
 use Rattle.aper.proofs.Sets.{tree_sets}
 use Rattle.aper.proofs.Answered.{refused_so}
 use Rattle.aper.proofs.decoder.decode.Goals as goal

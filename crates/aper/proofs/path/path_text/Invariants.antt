@@ -1,5 +1,5 @@
 use Rattle.std.proofs.Common.{◌≡◌, drop, map}
-use Rattle.aper_reading.specs.aper_frames.Paths.{step_view}
+use Rattle.aper_frames.specs.Paths.{step_view}
 use Rattle.aper.specs.PathText.{steps_after}
 use Rattle.aper.proofs.path.path_text.Given as goal
 

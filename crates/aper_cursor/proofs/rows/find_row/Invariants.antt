@@ -1,5 +1,5 @@
 use Rattle.std.proofs.Common.{◌≡◌, ◌++◌, take, drop}
-use Rattle.aper_proof_values.specs.aper_defs.Trees.{has_slot, slots_before, slots_after}
+use Rattle.aper_defs.specs.Trees.{has_slot, slots_before, slots_after}
 use Rattle.aper_cursor.specs.Questions.{slots_of}
 use Rattle.aper_cursor.proofs.rows.find_row.Given as goal
 

@@ -1,5 +1,5 @@
 use Rattle.std.proofs.Common.{◌≡◌, ◌+◌, ◌≤◌, drop}
-use Rattle.aper_proof_values.specs.aper_defs.Trees.{mandatory_count}
+use Rattle.aper_defs.specs.Trees.{mandatory_count}
 use Rattle.aper_cursor.specs.Questions.{slots_of}
 use Rattle.aper_cursor.proofs.rows.mandatory_count.Given as goal
 

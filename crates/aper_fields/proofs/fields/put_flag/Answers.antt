@@ -1,5 +1,5 @@
 use Rattle.std.proofs.Common.{refl, sym, ◌∙◌}
-use Rattle.aper_defs.specs.bits_core.Bits.{bits_of, bit_value}
+use Rattle.bits_core.specs.Bits.{bits_of, bit_value}
 use Rattle.aper_defs.specs.Fields.{flag}
 use Rattle.aper_fields.proofs.Followed.{put_ok, answer_put, bit_is}
 use Rattle.aper_fields.proofs.fields.put_flag.Goals as goal

@@ -1,5 +1,5 @@
 use Rattle.std.proofs.Common.{refl, sym}
-use Rattle.aper_defs.specs.bits_core.Bits.{bits_of}
+use Rattle.bits_core.specs.Bits.{bits_of}
 use Rattle.aper_defs.specs.Fields.{ie_count}
 use Rattle.aper_fields.proofs.Followed.{put_ok, answer_put}
 use Rattle.aper_fields.proofs.fields.put_ie_count.Goals as goal

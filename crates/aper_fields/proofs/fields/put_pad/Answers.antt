@@ -1,7 +1,7 @@
 use Rattle.std.proofs.Common.{refl, sym, ap, ◌∙◌, ◌++◌, false, length, List, Bool}
-use Rattle.aper_defs.specs.bits_core.Bits.{pad_of, zeros}
-use Rattle.aper_defs.specs.bits_core.Writing.{Written}
-use Rattle.aper_defs.proofs.bits_core.BitLemmas.{bits_of-zero}
+use Rattle.bits_core.specs.Bits.{pad_of, zeros}
+use Rattle.bits_core.specs.Writing.{Written}
+use Rattle.bits_core.proofs.BitLemmas.{bits_of-zero}
 use Rattle.aper_defs.specs.Fields.{pad}
 use Rattle.aper_fields.proofs.Followed.{put_ok, answer_put}
 use Rattle.aper_fields.proofs.fields.put_pad.Goals as goal

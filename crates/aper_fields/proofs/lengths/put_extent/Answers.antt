@@ -1,5 +1,5 @@
 use Rattle.std.proofs.Common.{◌≡◌, ◌+◌, length, refl, sym, ap, ◌∙◌, ℕ}
-use Rattle.aper_defs.specs.bits_core.Bits.{bits_of}
+use Rattle.bits_core.specs.Bits.{bits_of}
 use Rattle.aper_defs.specs.Fields.{extent, opening}
 use Rattle.aper_fields.proofs.Followed.{put_ok, answer_put, grown}
 use Rattle.aper_fields.proofs.lengths.put_extent.Goals as goal

@@ -1,5 +1,5 @@
 use Rattle.std.proofs.Common.{ap, sym, ◌∙◌, ◌++◌, Bool, List, map, arith}
-use Rattle.aper_defs.specs.bits_core.Bits.{bit_value}
+use Rattle.bits_core.specs.Bits.{bit_value}
 use Rattle.aper_defs.specs.Fields.{bit}
 use Rattle.aper_fields.proofs.Followed.{run_put, bits_run, all_taken}
 use Rattle.aper_fields.proofs.runs.put_bit_run.Goals as goal

@@ -1,5 +1,5 @@
 use Rattle.std.proofs.Common.{ap, ◌∙◌, ◌++◌, ℕ, List, arith}
-use Rattle.aper_defs.specs.bits_core.Bits.{octet_bits}
+use Rattle.bits_core.specs.Bits.{octet_bits}
 use Rattle.aper_defs.specs.Fields.{octet}
 use Rattle.aper_fields.proofs.Followed.{run_put, characters_put, all_taken}
 use Rattle.aper_fields.proofs.runs.put_few_octets.Goals as goal

@@ -1,5 +1,5 @@
 use Rattle.std.proofs.Common.{◌≡◌, ◌++◌, false, take}
-use Rattle.aper_defs.specs.bits_core.Bits.{octet_bits}
+use Rattle.bits_core.specs.Bits.{octet_bits}
 use Rattle.aper_fields.proofs.runs.put_few_octets.Given as goal
 
 abbrev pub invariant-loop-octet : goal.invariant-loop-octet

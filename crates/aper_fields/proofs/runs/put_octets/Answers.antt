@@ -1,6 +1,6 @@
 use Rattle.std.proofs.Common.{ap}
-use Rattle.aper_defs.specs.bits_core.Bits.{octet_bits}
-use Rattle.aper_defs.specs.bits_core.Writing.{Written}
+use Rattle.bits_core.specs.Bits.{octet_bits}
+use Rattle.bits_core.specs.Writing.{Written}
 use Rattle.aper_defs.specs.Fields.{octet}
 use Rattle.aper_fields.proofs.Followed.{put_ok, run_put, characters_put}
 use Rattle.aper_fields.proofs.runs.put_octets.Goals as goal

@@ -1,5 +1,5 @@
 use Rattle.std.proofs.Common.{◌≡◌, ℕ, length}
-use Rattle.aper_defs.specs.bits_core.Writing.{Written}
+use Rattle.bits_core.specs.Writing.{Written}
 use Rattle.aper_fields.specs.Strings.{content_of, units_of}
 use Rattle.aper_fields.proofs.PartLemmas.{PartsFollow}
 use Rattle.aper_fields.proofs.strings.put_parts.Given as goal

@@ -2,7 +2,7 @@ use Rattle.std.proofs.Common.{ℕ, List, length, subst, ◌∙◌}
 use Rattle.std.specs.Prelude.{IfOk}
 use Rattle.asn1_defs.specs.declared.graph.Edge.{Edge}
 use Rattle.asn1_defs.specs.Graph.{vertex_count}
-use Rattle.asn1_graph.specs.Walks.{IsDepth}
+use Rattle.asn1_module.specs.graph.Walks.{IsDepth}
 use Rattle.asn1_defs.specs.Judgement.{weights_of}
 use Rattle.asn1_module.proofs.JudgementLemmas.{length-weights_of}
 use Rattle.asn1_module.proofs.judgement.depths_of.Goals as goal

@@ -1,6 +1,6 @@
 use Rattle.std.proofs.Common.{List, ap, get_or}
 use Rattle.std.proofs.lemmas.Option.{slice_get-get_or}
-use Rattle.asn1_defs.specs.asn1_assignments.declared.assignment.Assignment.{Assignment}
+use Rattle.asn1_syntax.specs.declared.assignments.assignment.Assignment.{Assignment}
 use Rattle.asn1_module.proofs.judgement.fault_at.Goals as goal
 
 pub returns : goal.returns

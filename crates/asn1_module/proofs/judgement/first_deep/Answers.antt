@@ -1,6 +1,6 @@
 use Rattle.std.proofs.Common.{arith, length, ap, ◌+◌, List, below_more}
-use Rattle.asn1_defs.specs.asn1_types.declared.definition.Node.{Node}
-use Rattle.asn1_defs.specs.asn1_assignments.declared.assignment.Assignment.{Assignment}
+use Rattle.asn1_syntax.specs.declared.types.definition.Node.{Node}
+use Rattle.asn1_syntax.specs.declared.assignments.assignment.Assignment.{Assignment}
 use Rattle.asn1_module.proofs.JudgementLemmas.{deep_here, deep_absent}
 use Rattle.asn1_module.proofs.judgement.first_deep.Goals as goal
 

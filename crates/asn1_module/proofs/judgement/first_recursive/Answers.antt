@@ -1,5 +1,5 @@
 use Rattle.std.proofs.Common.{List, length, ap}
-use Rattle.asn1_defs.specs.asn1_types.declared.definition.Node.{Node}
+use Rattle.asn1_syntax.specs.declared.types.definition.Node.{Node}
 use Rattle.asn1_module.proofs.JudgementLemmas.{first_told}
 use Rattle.asn1_module.proofs.judgement.first_recursive.Goals as goal
 

@@ -1,10 +1,10 @@
-use Rattle.asn1_defs.specs.asn1_types.declared.fault.ReadError.{ReadError}
-use Rattle.asn1_defs.specs.asn1_types.inside.Reading.{Fails}
-use Rattle.asn1_defs.specs.asn1_assignments.inside.Module.{syntax_of}
+use Rattle.asn1_syntax.specs.declared.types.fault.ReadError.{ReadError}
+use Rattle.asn1_syntax.specs.types.inside.Reading.{Fails}
+use Rattle.asn1_syntax.specs.assignments.inside.Module.{syntax_of}
 use Rattle.std.proofs.Common.{subst, sym, refl, ◌≡◌, Err}
 use Rattle.asn1_defs.specs.Judgement.{Judged}
 use Rattle.asn1_defs.specs.Readings.{HasFault, in_text, in_module}
-use Rattle.asn1_proof_reading.proofs.Readings.{is_text_of, is_first_wrong}
+use Rattle.proof_asn1.proofs.reading.Readings.{is_text_of, is_first_wrong}
 use Rattle.asn1_module.proofs.TypeCount.{types_bounded}
 use Rattle.asn1_module.proofs.RowLinks.{linked}
 use Rattle.asn1_module.proofs.Facts.{sound_of}

@@ -1,8 +1,8 @@
 use Rattle.std.proofs.Common.{sym, ap, ◌∙◌, arith}
 use Rattle.std.specs.Prelude.{None}
-use Rattle.asn1_defs.specs.asn1_types.declared.definition.Node.{Node}
+use Rattle.asn1_syntax.specs.declared.types.definition.Node.{Node}
 use Rattle.asn1_defs.specs.Numbers.{number_in}
-use Rattle.asn1_graph.proofs.NumberLemmas.{target_there, targets_long}
+use Rattle.asn1_module.proofs.graph.NumberLemmas.{target_there, targets_long}
 use Rattle.asn1_module.proofs.names.first_unknown.Goals as goal
 
 pub bounds-targets-number : goal.bounds-targets-number

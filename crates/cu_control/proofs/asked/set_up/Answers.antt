@@ -1,9 +1,9 @@
 use Rattle.std.proofs.Common.{◌≡◌, ℕ, List, sym, ap, ◌∙◌, subst}
 use Rattle.unit_defs.specs.CpRecords.{CuCpRecord}
 use Rattle.unit_defs.specs.CuCp.{set_up}
-use Rattle.unit_octet_defs.specs.Codec.{octet_way}
-use Rattle.control_steps.specs.unit_messages.Messages.{message_as}
-use Rattle.control_steps.specs.unit_steps.Steps.{stepped, step_after}
+use Rattle.unit_defs.specs.octet_defs.Codec.{octet_way}
+use Rattle.unit_messages.specs.Messages.{message_as}
+use Rattle.unit_messages.specs.steps.Steps.{stepped, step_after}
 use Rattle.cu_control.proofs.SetUpSteps.{set_up_step}
 use Rattle.cu_control.proofs.asked.set_up.Goals as goal
 

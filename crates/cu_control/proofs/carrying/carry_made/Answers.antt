@@ -2,11 +2,11 @@ use Rattle.std.proofs.Common.{ℕ, List, refl, sym, subst}
 use Rattle.std.specs.Prelude.{Result}
 use Rattle.unit_defs.specs.CpRecords.{Row}
 use Rattle.unit_defs.specs.CuCp.{by_row}
-use Rattle.unit_octet_defs.specs.Codec.{octet_way}
-use Rattle.control_steps.specs.unit_steps.Steps.{step_after, IsStep}
-use Rattle.control_steps.specs.unit_steps.declared.StepError.{StepError}
-use Rattle.control_steps.specs.control_says.declared.row.Row.{Row as MadeRow}
-use Rattle.control_steps.specs.control_says.Rows.{RowGives}
+use Rattle.unit_defs.specs.octet_defs.Codec.{octet_way}
+use Rattle.unit_messages.specs.steps.Steps.{step_after, IsStep}
+use Rattle.unit_messages.specs.declared.steps.StepError.{StepError}
+use Rattle.cu_cp_records.specs.declared.control_says.row.Row.{Row as MadeRow}
+use Rattle.cu_cp_records.specs.control_says.Rows.{RowGives}
 use Rattle.cu_control.proofs.RowSteps.{row_stops}
 use Rattle.cu_control.proofs.carrying.carry_made.Goals as goal
 

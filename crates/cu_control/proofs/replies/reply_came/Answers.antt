@@ -1,7 +1,7 @@
 use Rattle.std.proofs.lemmas.Result.{err_from_is_err_and}
 use Rattle.unit_defs.specs.CuCp.{answer, reply_came}
-use Rattle.unit_octet_defs.specs.Codec.{octet_way}
-use Rattle.control_steps.specs.unit_messages.Messages.{message_as}
+use Rattle.unit_defs.specs.octet_defs.Codec.{octet_way}
+use Rattle.unit_messages.specs.Messages.{message_as}
 use Rattle.cu_control.proofs.ReplySteps.{answer_stops, answer_is, row_found}
 use Rattle.cu_control.proofs.replies.reply_came.Goals as goal
 

@@ -1,7 +1,7 @@
 use Rattle.std.proofs.Common.{◌≡◌, drop}
 use Rattle.unit_defs.specs.CuCp.{command_each}
-use Rattle.unit_octet_defs.specs.Codec.{octet_way}
-use Rattle.control_steps.specs.unit_steps.Steps.{step_after}
+use Rattle.unit_defs.specs.octet_defs.Codec.{octet_way}
+use Rattle.unit_messages.specs.steps.Steps.{step_after}
 use Rattle.cu_control.proofs.ticks.command_each.Given as goal
 
 abbrev pub invariant-loop-ue : goal.invariant-loop-ue

@@ -1,7 +1,7 @@
 use Rattle.std.proofs.Common.{◌≡◌, map, drop}
 use Rattle.unit_defs.specs.CuCp.{due_each}
-use Rattle.unit_octet_defs.specs.Codec.{octet_way}
-use Rattle.control_steps.specs.unit_steps.Steps.{step_after}
+use Rattle.unit_defs.specs.octet_defs.Codec.{octet_way}
+use Rattle.unit_messages.specs.steps.Steps.{step_after}
 use Rattle.cu_control.specs.inside.Dues.{due_in}
 use Rattle.cu_control.proofs.ticks.due_each.Given as goal
 

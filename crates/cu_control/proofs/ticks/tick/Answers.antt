@@ -2,9 +2,9 @@ use Rattle.std.proofs.Common.{ap, ◌∙◌, subst}
 use Rattle.std.specs.Prelude.{Err}
 use Rattle.std.proofs.lemmas.Result.{err_from_is_err_and}
 use Rattle.unit_defs.specs.CuCp.{tick}
-use Rattle.unit_octet_defs.specs.Codec.{octet_way}
-use Rattle.control_steps.specs.unit_steps.Steps.{step_after, IsStep}
-use Rattle.control_steps.specs.unit_requests.Requests.{Kept as Transactions}
+use Rattle.unit_defs.specs.octet_defs.Codec.{octet_way}
+use Rattle.unit_messages.specs.steps.Steps.{step_after, IsStep}
+use Rattle.unit_requests.specs.Requests.{Kept as Transactions}
 use Rattle.cu_control.proofs.TickSteps.{Kept, tick_goes, tick_stops}
 use Rattle.cu_control.proofs.ticks.tick.Goals as goal
 

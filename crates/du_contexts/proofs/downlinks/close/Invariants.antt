@@ -1,7 +1,7 @@
 use Rattle.std.proofs.Common.{◌≡◌, ◌++◌, map}
 use Rattle.unit_defs.specs.Ways.{closed}
 use Rattle.unit_defs.specs.Teids.{without_each}
-use Rattle.unit_octet_defs.specs.Writing.{outputs_of}
+use Rattle.unit_defs.specs.octet_defs.Writing.{outputs_of}
 use Rattle.du_contexts.proofs.downlinks.close.Given as goal
 
 abbrev pub invariant-loop-bearer : goal.invariant-loop-bearer

@@ -1,7 +1,7 @@
 use Rattle.std.proofs.Common.{◌≡◌, ◌++◌, map}
 use Rattle.unit_defs.specs.Ways.{opened}
 use Rattle.unit_defs.specs.Du.{with_entries}
-use Rattle.unit_octet_defs.specs.Writing.{outputs_of}
+use Rattle.unit_defs.specs.octet_defs.Writing.{outputs_of}
 use Rattle.du_contexts.proofs.downlinks.open.Given as goal
 
 abbrev pub invariant-loop-id : goal.invariant-loop-id

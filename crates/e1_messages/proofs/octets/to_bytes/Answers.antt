@@ -1,11 +1,11 @@
 use Rattle.std.proofs.Common.{◌≡◌, ◌<◌, ◌≤◌, [], length, sym, ap, ◌∙◌, subst}
-use Rattle.asn1_assignments.specs.declared.assignment.Syntax.{Syntax}
+use Rattle.asn1_syntax.specs.declared.assignments.assignment.Syntax.{Syntax}
 use Rattle.aper_defs.specs.Trees.{Tree}
 use Rattle.aper_defs.specs.Values.{Value}
 use Rattle.aper_defs.specs.Bits.{octet_count}
 use Rattle.aper_defs.specs.Membership.{Has}
 use Rattle.aper_defs.specs.Spelling.{Spells, spelling_limit, whole_layout}
-use Rattle.profile_types.specs.aper_types.Types.{tree}
+use Rattle.aper_values.specs.types.Types.{tree}
 use Rattle.aper_values.specs.Views.{view}
 use Rattle.message_defs.specs.profile_defs.Profile.{e1_type}
 use Rattle.message_defs.specs.E1.{written_e1}

@@ -1,4 +1,4 @@
-use Rattle.link_defs.specs.nr_user_plane.declared.frames.Frame.TheVariants.{Status}
+use Rattle.nr_user_plane.specs.declared.frames.Frame.TheVariants.{Status}
 use Rattle.link_packets.proofs.layers.status_of.Goals as goal
 
 pub returns-in-None-clause-none : goal.returns-in-None-clause-none

@@ -1,5 +1,5 @@
 use Rattle.std.proofs.Common.{◌≡◌, ◌∙◌, ap, arith, length}
-use Rattle.link_defs.specs.nr_user_plane.Frames.{nru_octets}
+use Rattle.nr_user_plane.specs.Frames.{nru_octets}
 use Rattle.link_packets.proofs.Written.{frame_is_header, length-frame}
 use Rattle.link_packets.proofs.writing.with_frame.Goals as goal
 

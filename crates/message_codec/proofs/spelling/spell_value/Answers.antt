@@ -1,9 +1,9 @@
 use Rattle.std.proofs.Common.{◌≡◌, ℕ, ◌<◌, ◌-◌, ◌^◌, [], min, Bool, true, false, List, sym, ◌∙◌, arith, subst}
 use Rattle.std.specs.Prelude.{All}
-use Rattle.message_proof_codec.specs.message_codec_defs.aper_octet_defs.aper_defs.Bits.{octet_count}
-use Rattle.message_proof_codec.specs.message_codec_defs.aper_octet_defs.aper_defs.Membership.{Has}
-use Rattle.message_proof_codec.specs.message_codec_defs.aper_octet_defs.aper_defs.Spelling.{spelling_limit, whole_layout}
-use Rattle.aper_types.specs.Types.{tree}
+use Rattle.aper_defs.specs.Bits.{octet_count}
+use Rattle.aper_defs.specs.Membership.{Has}
+use Rattle.aper_defs.specs.Spelling.{spelling_limit, whole_layout}
+use Rattle.aper_values.specs.types.Types.{tree}
 use Rattle.aper_values.specs.Views.{view}
 use Rattle.message_codec.proofs.Spelled.{octets_are, none_of_no_value, none_too_long}
 use Rattle.message_codec.proofs.spelling.spell_value.Goals as goal

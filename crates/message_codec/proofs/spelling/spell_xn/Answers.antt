@@ -1,11 +1,11 @@
 use Rattle.std.proofs.Common.{ℕ, List, ap, ◌∙◌}
 use Rattle.profile.specs.Versions.{number_of}
-use Rattle.message_proof_codec.specs.message_codec_defs.message_defs.profile_defs.Profile.{xn_type}
-use Rattle.message_proof_codec.specs.message_codec_defs.message_defs.Xn.{written_xn}
-use Rattle.message_proof_codec.specs.message_codec_defs.aper_octet_defs.aper_defs.Trees.{Tree}
-use Rattle.message_proof_codec.specs.message_codec_defs.aper_octet_defs.Octets.{spelled_as}
-use Rattle.message_proof_codec.proofs.Spelled.{spelled_alike}
-use Rattle.aper_types.specs.Types.{tree}
+use Rattle.message_defs.specs.profile_defs.Profile.{xn_type}
+use Rattle.message_defs.specs.Xn.{written_xn}
+use Rattle.aper_defs.specs.Trees.{Tree}
+use Rattle.aper_defs.specs.octet_defs.Octets.{spelled_as}
+use Rattle.proof_message_codec.proofs.codec.Spelled.{spelled_alike}
+use Rattle.aper_values.specs.types.Types.{tree}
 use Rattle.aper_values.specs.Views.{view}
 use Rattle.message_codec.proofs.Results.{of_equal}
 use Rattle.message_codec.proofs.spelling.spell_xn.Goals as goal

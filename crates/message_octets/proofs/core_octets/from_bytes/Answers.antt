@@ -1,6 +1,6 @@
-use Rattle.message_proof_refusals.specs.profile_defs.Profile.{core_type}
+use Rattle.message_defs.specs.profile_defs.Profile.{core_type}
 use Rattle.message_types.specs.declared.xn.CoreMessage.{CoreMessage}
-use Rattle.xn_messages.specs.message_defs.Core.{heard_core}
+use Rattle.message_defs.specs.Core.{heard_core}
 use Rattle.message_octets.proofs.Read.{bounded, reading}
 use Rattle.message_octets.proofs.core_octets.from_bytes.Goals as goal
 

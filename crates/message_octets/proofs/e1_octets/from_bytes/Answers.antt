@@ -1,6 +1,6 @@
-use Rattle.message_proof_refusals.specs.profile_defs.Profile.{e1_type}
+use Rattle.message_defs.specs.profile_defs.Profile.{e1_type}
 use Rattle.message_types.specs.declared.e1.E1Message.{E1Message}
-use Rattle.xn_messages.specs.message_defs.E1.{heard_e1}
+use Rattle.message_defs.specs.E1.{heard_e1}
 use Rattle.message_octets.proofs.Read.{bounded, reading}
 use Rattle.message_octets.proofs.e1_octets.from_bytes.Goals as goal
 

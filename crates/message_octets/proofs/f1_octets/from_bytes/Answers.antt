@@ -1,5 +1,5 @@
-use Rattle.message_proof_refusals.specs.profile_defs.Profile.{f1_type}
-use Rattle.xn_messages.specs.message_defs.F1.{F1Message, heard_f1}
+use Rattle.message_defs.specs.profile_defs.Profile.{f1_type}
+use Rattle.message_defs.specs.F1.{F1Message, heard_f1}
 use Rattle.message_octets.proofs.Read.{bounded, reading}
 use Rattle.message_octets.proofs.f1_octets.from_bytes.Goals as goal
 

@@ -1,6 +1,6 @@
-use Rattle.message_proof_refusals.specs.profile_defs.Profile.{token_type}
+use Rattle.message_defs.specs.profile_defs.Profile.{token_type}
 use Rattle.message_types.specs.declared.rrc.Token.{Token}
-use Rattle.xn_messages.specs.message_defs.Tokens.{heard_token}
+use Rattle.message_defs.specs.Tokens.{heard_token}
 use Rattle.message_octets.proofs.Read.{bounded, reading}
 use Rattle.message_octets.proofs.token_octets.from_bytes.Goals as goal
 

@@ -2,12 +2,12 @@ use Rattle.std.proofs.Common.{Result, refl, subst}
 use Rattle.aper_defs.specs.Trees.{Tree}
 use Rattle.aper_defs.specs.Values.{Value}
 use Rattle.aper_defs.specs.Reading.{Fault}
-use Rattle.profile_xn.specs.aper_types.Types.{tree}
+use Rattle.aper_values.specs.types.Types.{tree}
 use Rattle.message_types.specs.declared.xn.XnMessage.{XnMessage}
 use Rattle.profile.specs.Versions.{number_of}
-use Rattle.message_proof_refusals.specs.profile_defs.Profile.{xn_type}
-use Rattle.profile_xn.proofs.Spellings.{same_decoded}
-use Rattle.xn_messages.specs.message_defs.Xn.{heard_xn}
+use Rattle.message_defs.specs.profile_defs.Profile.{xn_type}
+use Rattle.profile.proofs.xn.Spellings.{same_decoded}
+use Rattle.message_defs.specs.Xn.{heard_xn}
 use Rattle.message_octets.specs.Reading.{read_value, IsReading}
 use Rattle.message_octets.proofs.Read.{bounded, reading}
 use Rattle.message_octets.proofs.XnAnswers.{xn_wrong, answered}

@@ -1,7 +1,7 @@
 use Rattle.std.proofs.Common.{[], subst}
-use Rattle.asn1_assignments.specs.declared.assignment.Syntax.{Syntax}
+use Rattle.asn1_syntax.specs.declared.assignments.assignment.Syntax.{Syntax}
 use Rattle.aper_defs.specs.Membership.{Has}
-use Rattle.profile_xn.specs.aper_types.Types.{tree}
+use Rattle.aper_values.specs.types.Types.{tree}
 use Rattle.aper_values.specs.Views.{view}
 use Rattle.profile.specs.Versions.{number_of}
 use Rattle.message_octets.proofs.xn_octets.heard_in.Goals as goal

@@ -1,16 +1,16 @@
 use Rattle.std.proofs.Common.{◌≡◌, ◌<◌, ◌≤◌, [], length, sym, ap, subst}
-use Rattle.asn1_assignments.specs.declared.assignment.Syntax.{Syntax}
+use Rattle.asn1_syntax.specs.declared.assignments.assignment.Syntax.{Syntax}
 use Rattle.aper_defs.specs.Trees.{Tree}
 use Rattle.aper_defs.specs.Values.{Value}
 use Rattle.aper_defs.specs.Bits.{octet_count}
 use Rattle.aper_defs.specs.Membership.{Has}
 use Rattle.aper_defs.specs.Spelling.{Spells, spelling_limit, whole_layout}
-use Rattle.profile_xn.specs.aper_types.Types.{tree}
+use Rattle.aper_values.specs.types.Types.{tree}
 use Rattle.aper_values.specs.Views.{view}
 use Rattle.profile.specs.Versions.{number_of}
-use Rattle.message_proof_refusals.specs.profile_defs.Profile.{xn_type}
-use Rattle.profile_xn.proofs.Spellings.{spells, is_short}
-use Rattle.xn_messages.specs.message_defs.Xn.{written_xn}
+use Rattle.message_defs.specs.profile_defs.Profile.{xn_type}
+use Rattle.profile.proofs.xn.Spellings.{spells, is_short}
+use Rattle.message_defs.specs.Xn.{written_xn}
 use Rattle.message_octets.proofs.xn_octets.to_bytes.Goals as goal
 
 pub encode-octets-requires : goal.encode-octets-requires

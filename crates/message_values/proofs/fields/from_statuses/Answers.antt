@@ -1,9 +1,9 @@
 use Rattle.std.proofs.Common.{◌≡◌, List, sym, ap, ◌∙◌, arith}
 use Rattle.std.specs.Prelude.{map}
 use Rattle.std.proofs.lemmas.List.{take_all}
-use Rattle.aper_values.specs.aper_defs.Values as seen
+use Rattle.aper_defs.specs.Values as seen
 use Rattle.aper_values.specs.Views.{values_of}
-use Rattle.message_proof_elements.specs.message_defs.Fields.{from_status}
+use Rattle.message_defs.specs.Fields.{from_status}
 use Rattle.message_values.proofs.Shapes.{each_written}
 use Rattle.message_values.proofs.fields.from_statuses.Goals as goal
 

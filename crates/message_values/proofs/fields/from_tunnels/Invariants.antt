@@ -1,7 +1,7 @@
 use Rattle.std.proofs.Common.{◌≡◌, take}
 use Rattle.std.specs.Prelude.{map}
 use Rattle.aper_values.specs.Views.{view}
-use Rattle.message_proof_elements.specs.message_defs.Fields.{from_tunnel}
+use Rattle.message_defs.specs.Fields.{from_tunnel}
 use Rattle.message_values.proofs.fields.from_tunnels.Given as goal
 
 abbrev pub invariant-loop-tunnel : goal.invariant-loop-tunnel

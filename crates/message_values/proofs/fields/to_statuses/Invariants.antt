@@ -1,9 +1,8 @@
 use Rattle.std.proofs.Common.{◌≡◌, ◌++◌, drop}
 use Rattle.std.specs.List.{All}
-use Rattle.aper_values.specs.Views.{values_view}
-use Rattle.message_proof_elements.specs.message_defs.Fields.{to_each, to_status}
+use Rattle.aper_values.specs.Views.{values_view, view}
+use Rattle.message_defs.specs.Fields.{to_each, to_status}
 use Rattle.message_values.specs.Parts.{members_in}
-use Rattle.aper_values.specs.Views.{view}
 use Rattle.message_values.specs.Fitting.{IsStatus}
 use Rattle.message_values.proofs.fields.to_statuses.Given as goal
 

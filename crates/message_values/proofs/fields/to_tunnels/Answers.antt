@@ -1,10 +1,10 @@
 use Rattle.std.proofs.Common.{◌≡◌, ◌+◌, ◌++◌, List, drop, subst, arith}
 use Rattle.std.specs.List.{All}
 use Rattle.std.proofs.lemmas.List.Elements.{All-head, All-tail}
-use Rattle.aper_values.specs.aper_defs.Values as seen
+use Rattle.aper_defs.specs.Values as seen
 use Rattle.aper_values.specs.declared.value.Value.{Value}
 use Rattle.aper_values.specs.Views.{view, values_view}
-use Rattle.message_proof_elements.specs.message_defs.Fields.{to_each, to_tunnel}
+use Rattle.message_defs.specs.Fields.{to_each, to_tunnel}
 use Rattle.message_values.specs.Parts.{members_in}
 use Rattle.message_values.specs.Fitting.{IsTunnel}
 use Rattle.message_values.proofs.Shapes.{member_next, read_next}

@@ -1,6 +1,6 @@
 use Rattle.std.proofs.Common.{◌≡◌, drop}
 use Rattle.aper_values.specs.Views.{ies_view}
-use Rattle.message_proof_elements.specs.message_defs.Places.{element_of}
+use Rattle.message_defs.specs.Places.{element_of}
 use Rattle.message_values.specs.Elements.{element_named}
 use Rattle.message_values.specs.Fitting.{AreFitting}
 use Rattle.message_values.proofs.found.element_of.Given as goal

@@ -1,8 +1,8 @@
 use Rattle.std.proofs.Common.{◌∙◌, sym, subst}
 use Rattle.std.specs.Prelude.{IsSome}
 use Rattle.packet_pool.specs.declared.region.TheConstants.{BLOCK}
-use Rattle.packet_pool.proofs.pool_defs.PoolLaws.{packet_of_unpark}
-use Rattle.packet_pool.specs.pool_defs.Pools.{packet_of, Stored, PoolState, without_place}
+use Rattle.pdcp_defs.proofs.pool_defs.PoolLaws.{packet_of_unpark}
+use Rattle.pdcp_defs.specs.pool_defs.Pools.{packet_of, Stored, PoolState, without_place}
 use Rattle.pdcp_entities.proofs.FreeLemmas.{taken_reference}
 use Rattle.pdcp_entities.proofs.freeing.free.Goals as goal
 

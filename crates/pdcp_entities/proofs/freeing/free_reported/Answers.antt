@@ -3,7 +3,7 @@ use Rattle.std.specs.Prelude.{is_some, slice_get, slice_set, unwrap_or, IfSome, 
 use Rattle.std.proofs.lemmas.List.{length-set}
 use Rattle.packet_pool.specs.declared.region.TheConstants.{BLOCK}
 use Rattle.pdcp_defs.specs.Senders.{is_reported}
-use Rattle.packet_pool.specs.pool_defs.Pools.{PoolState, IsPool, packet_at}
+use Rattle.pdcp_defs.specs.pool_defs.Pools.{PoolState, IsPool, packet_at}
 use Rattle.pdcp_entities.specs.Bits.{bits_of}
 use Rattle.pdcp_entities.specs.Packets.{AreParked, Frees}
 use Rattle.pdcp_entities.specs.declared.ring.Ring.{Ring}

@@ -1,6 +1,6 @@
 use Rattle.std.proofs.Common.{◌≡◌, ℕ, ◌+◌, ◌<◌, ◌≤◌, ◌^◌, Bool, true, false, not, nat_lt, List, [], ◌∷◌, Option, length, filter, sym, ap, ◌∙◌, subst, refl, arith, true≢false}
 use Rattle.packet_pool.specs.declared.region.TheConstants.{BLOCK}
-use Rattle.packet_pool.specs.pool_defs.Pools.{PoolState}
+use Rattle.pdcp_defs.specs.pool_defs.Pools.{PoolState}
 use Rattle.pdcp_entities.specs.Packets.{AreParked, Frees}
 use Rattle.pdcp_entities.specs.inside.Freeing.{AreLeft, freed_if}
 use Rattle.pdcp_entities.specs.inside.Rings.{held, held_from, with_slot, IsLastFull}

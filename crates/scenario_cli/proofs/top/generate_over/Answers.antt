@@ -1,5 +1,5 @@
 use Rattle.std.proofs.Common.{refl}
-use Rattle.command_generate.proofs.Wrote.{no_memory}
+use Rattle.command_run.proofs.generate.Wrote.{no_memory}
 use Rattle.scenario_cli.proofs.top.generate_over.Goals as goal
 
 pub returns-in-Err : goal.returns-in-Err

@@ -1,4 +1,4 @@
-use Rattle.message_codec.specs.message_codec_defs.Codecs.{profile_codec}
+use Rattle.message_codec_defs.specs.Codecs.{profile_codec}
 use Rattle.command_run.specs.Run.{setting_of}
 use Rattle.scenario_cli.proofs.Joined.{runs, generates_at, few, generate_is_none, checks_at, prints_at, runs_bearer, timed, runs_legs, fitting, reports, converts, named, not_values, run_is_none, check_is_none, profile_is_none, um_is_none, dup_is_none, other_is_none}
 use Rattle.scenario_cli.proofs.top.gnb.Goals as goal

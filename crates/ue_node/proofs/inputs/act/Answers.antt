@@ -2,10 +2,10 @@ use Rattle.std.proofs.Common.{ℕ, List, sym, ap, ◌∙◌}
 use Rattle.gnb_types.specs.declared.inputs.Input.{Input}
 use Rattle.gnb_types.specs.declared.inputs.Input.TheVariants as ins
 use Rattle.unit_defs.specs.Ue.{UeNode, ue_acts}
-use Rattle.unit_octet_defs.specs.Codec.{Codec}
-use Rattle.unit_octet_defs.specs.Reading.{read_at_ue}
-use Rattle.unit_octet_defs.specs.Units.{ue_steps}
-use Rattle.ue_rows.specs.Records.{record_of}
+use Rattle.unit_defs.specs.octet_defs.Codec.{Codec}
+use Rattle.unit_defs.specs.octet_defs.Reading.{read_at_ue}
+use Rattle.unit_defs.specs.octet_defs.Units.{ue_steps}
+use Rattle.ue_node.specs.rows.Records.{record_of}
 use Rattle.ue_node.proofs.Reading.{goes_to}
 use Rattle.ue_node.proofs.inputs.act.Goals as goal
 

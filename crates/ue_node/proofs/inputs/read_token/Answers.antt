@@ -1,6 +1,6 @@
 use Rattle.std.proofs.Common.{sym, ap, ◌∙◌}
-use Rattle.ue_rows.specs.unit_messages.Messages.{answer_as}
-use Rattle.ue_rows.specs.Records.{record_of}
+use Rattle.unit_messages.specs.Messages.{answer_as}
+use Rattle.ue_node.specs.rows.Records.{record_of}
 use Rattle.ue_node.proofs.Reading.{token_heard, other_heard, nothing_heard}
 use Rattle.ue_node.proofs.inputs.read_token.Goals as goal
 

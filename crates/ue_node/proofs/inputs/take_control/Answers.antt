@@ -2,7 +2,7 @@ use Rattle.std.proofs.Common.{subst}
 use Rattle.std.specs.Prelude.{Result}
 use Rattle.gnb_types.specs.declared.reasons.DropReason.{DropReason}
 use Rattle.message_types.specs.declared.rrc.Token.{Token}
-use Rattle.ue_rows.specs.Records.{record_of}
+use Rattle.ue_node.specs.rows.Records.{record_of}
 use Rattle.ue_node.specs.Nodes.{IsHeard}
 use Rattle.ue_node.proofs.Reading.{goes_to}
 use Rattle.ue_node.proofs.inputs.take_control.Goals as goal

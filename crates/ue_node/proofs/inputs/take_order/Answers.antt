@@ -1,8 +1,8 @@
 use Rattle.std.proofs.Common.{ap}
 use Rattle.gnb_types.specs.declared.inputs.Order.{Order}
 use Rattle.unit_defs.specs.Ue.{ordered}
-use Rattle.unit_octet_defs.specs.Codec.{octet_way}
-use Rattle.ue_rows.specs.Records.{record_of}
+use Rattle.unit_defs.specs.octet_defs.Codec.{octet_way}
+use Rattle.ue_node.specs.rows.Records.{record_of}
 use Rattle.ue_node.proofs.Reading.{goes_to}
 use Rattle.ue_node.proofs.inputs.take_order.Goals as goal
 

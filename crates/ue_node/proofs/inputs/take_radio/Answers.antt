@@ -2,8 +2,8 @@ use Rattle.std.proofs.Common.{ap, ◌∙◌}
 use Rattle.gnb_types.specs.declared.inputs.Input.TheVariants as ins
 use Rattle.gnb_types.specs.declared.names.Dir.{Dir}
 use Rattle.pdcp.specs.Pdus.{content_of}
-use Rattle.unit_octet_defs.specs.Units.{ue_steps}
-use Rattle.ue_rows.specs.Records.{record_of}
+use Rattle.unit_defs.specs.octet_defs.Units.{ue_steps}
+use Rattle.ue_node.specs.rows.Records.{record_of}
 use Rattle.ue_node.proofs.Reading.{goes_to, drops_to, radio_read, radio_not_read}
 use Rattle.ue_node.proofs.inputs.take_radio.Goals as goal
 

@@ -1,7 +1,7 @@
 use Rattle.std.proofs.Common.{Result, subst}
 use Rattle.aper_values.specs.declared.value.Value.{Value}
-use Rattle.json_reading.specs.json_simple.declared.refusal.Refusal.{Refusal}
-use Rattle.json_reading.specs.json_wholes.Reads.{ReadsAs}
+use Rattle.json_fields.specs.declared.simple.refusal.Refusal.{Refusal}
+use Rattle.json_read.specs.wholes.Reads.{ReadsAs}
 use Rattle.values_json.proofs.reading.answered.Goals as goal
 
 pub returns-in-Err : goal.returns-in-Err

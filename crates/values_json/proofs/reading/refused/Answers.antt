@@ -1,6 +1,6 @@
 use Rattle.std.proofs.Common.{List, ap, ◌∙◌}
-use Rattle.aper.specs.aper_frames.declared.path.Step.{Step}
-use Rattle.aper.specs.aper_frames.Paths.{path_view}
+use Rattle.aper_frames.specs.declared.path.Step.{Step}
+use Rattle.aper_frames.specs.Paths.{path_view}
 use Rattle.aper.specs.PathText.{path_text}
 use Rattle.values_json.proofs.Answered.{first_told}
 use Rattle.values_json.proofs.reading.refused.Goals as goal

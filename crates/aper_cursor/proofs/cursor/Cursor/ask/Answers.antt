@@ -1,7 +1,7 @@
 use Rattle.std.proofs.Common.{ℕ, ◌≡◌, Ok, Result, refl, sym, ap, ◌∙◌}
 use Rattle.std.proofs.lemmas.Result.{err_from_is_err_and}
-use Rattle.aper_proof_values.specs.aper_defs.declared.reason.Reason.{Reason}
-use Rattle.aper_proof_values.specs.aper_defs.Reading.{read}
+use Rattle.aper_defs.specs.declared.reason.Reason.{Reason}
+use Rattle.aper_defs.specs.Reading.{read}
 use Rattle.aper_cursor.specs.Questions.{question_of}
 use Rattle.aper_cursor.proofs.Judged.{read_passes, read_wrong, read_right, moved}
 use Rattle.aper_cursor.proofs.cursor.Cursor.ask.Goals as goal

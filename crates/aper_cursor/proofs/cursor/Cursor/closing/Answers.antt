@@ -1,10 +1,10 @@
 use Rattle.std.proofs.Common.{ℕ, Bool, true, false, cond, ◌≡◌, ◌==◌, Ok, Result, refl, sym, ap, ◌∙◌}
 use Rattle.std.proofs.lemmas.Result.{err_from_is_err_and}
 use mir.Val.{bool_byte}
-use Rattle.aper_proof_values.specs.aper_defs.declared.reason.Reason.{Reason}
-use Rattle.aper_proof_values.specs.aper_defs.declared.reason.Reason.TheVariants.{Padding}
-use Rattle.aper_proof_values.specs.aper_defs.Fields.{closing}
-use Rattle.aper_proof_values.specs.aper_defs.Reading.{read, start_of}
+use Rattle.aper_defs.specs.declared.reason.Reason.{Reason}
+use Rattle.aper_defs.specs.declared.reason.Reason.TheVariants.{Padding}
+use Rattle.aper_defs.specs.Fields.{closing}
+use Rattle.aper_defs.specs.Reading.{read, start_of}
 use Rattle.aper_cursor.proofs.Judged.{read_passes, read_wrong, read_right, moved_at, pad_wrong, pad_right}
 use Rattle.aper_cursor.proofs.cursor.Cursor.closing.Goals as goal
 

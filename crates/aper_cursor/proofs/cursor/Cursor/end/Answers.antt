@@ -1,8 +1,8 @@
 use Rattle.std.proofs.Common.{Bool, refl, sym, ap, ◌∙◌}
 use Rattle.std.proofs.lemmas.Result.{err_from_is_err_and}
-use Rattle.aper_proof_values.specs.aper_defs.declared.reason.Reason.TheVariants.{Tail}
-use Rattle.aper_proof_values.specs.aper_defs.Fields.{end}
-use Rattle.aper_proof_values.specs.aper_defs.Reading.{unless, outer}
+use Rattle.aper_defs.specs.declared.reason.Reason.TheVariants.{Tail}
+use Rattle.aper_defs.specs.Fields.{end}
+use Rattle.aper_defs.specs.Reading.{unless, outer}
 use Rattle.aper_cursor.proofs.Judged.{read_passes, read_wrong, read_right, place_same}
 use Rattle.aper_cursor.proofs.cursor.Cursor.end.Goals as goal
 

@@ -1,5 +1,5 @@
 use Rattle.std.proofs.Common.{sym, ap, length, arith}
-use Rattle.aper_proof_values.specs.bits_core.Reading.{bits_left}
+use Rattle.bits_core.specs.Reading.{bits_left}
 use Rattle.aper_cursor.proofs.Places.{room_size}
 use Rattle.aper_cursor.proofs.Runs.{taken_ok}
 use Rattle.aper_cursor.proofs.cursor.Cursor.look.Goals as goal

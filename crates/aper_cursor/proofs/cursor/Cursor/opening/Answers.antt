@@ -1,6 +1,6 @@
 use Rattle.std.proofs.Common.{ap, ◌∙◌, arith}
 use Rattle.std.proofs.lemmas.Result.{err_from_is_err_and}
-use Rattle.aper_proof_values.proofs.FoundExtents.{opening_read}
+use Rattle.proof_aper.proofs.values.FoundExtents.{opening_read}
 use Rattle.aper_cursor.specs.inside.Places.{entered}
 use Rattle.aper_cursor.proofs.Judged.{opening_as}
 use Rattle.aper_cursor.proofs.cursor.Cursor.opening.Goals as goal

@@ -1,6 +1,6 @@
 use Rattle.std.proofs.Common.{◌≡◌, ◌+◌, ◌*◌, ◌%◌, ◌≤◌, ◌++◌, length, replicate, sym, ap, subst, ◌∙◌, arith}
-use Rattle.aper_proof_values.specs.bits_core.Bits.{numbers_at}
-use Rattle.aper_proof_values.specs.aper_defs.Reading.{Cursor, bits_at}
+use Rattle.bits_core.specs.Bits.{numbers_at}
+use Rattle.aper_defs.specs.Reading.{Cursor, bits_at}
 use Rattle.aper_cursor.proofs.Places.{room_octets}
 use Rattle.aper_cursor.proofs.Runs.{aligned_run}
 use Rattle.aper_cursor.proofs.cursor.Cursor.put_octets.Goals as goal

@@ -1,5 +1,5 @@
 use Rattle.std.proofs.Common.{subst}
-use Rattle.aper_proof_values.specs.bits_core.Reading.{TakesBits}
+use Rattle.bits_core.specs.Reading.{TakesBits}
 use Rattle.aper_cursor.proofs.Runs.{taken_ok, room_in_run, run_moves, run_puts}
 use Rattle.aper_cursor.proofs.cursor.Cursor.put_run.Goals as goal
 

@@ -1,6 +1,6 @@
 use Rattle.std.proofs.Common.{◌≡◌, ◌+◌, ◌*◌, ◌++◌, replicate}
-use Rattle.aper_proof_values.specs.bits_core.Bits.{numbers_at}
-use Rattle.aper_proof_values.specs.aper_defs.Reading.{bits_at}
+use Rattle.bits_core.specs.Bits.{numbers_at}
+use Rattle.aper_defs.specs.Reading.{bits_at}
 use Rattle.aper_cursor.proofs.cursor.Cursor.put_run.Given as goal
 
 abbrev pub invariant-loop-done : goal.invariant-loop-done

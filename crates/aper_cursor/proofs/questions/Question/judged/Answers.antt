@@ -1,5 +1,5 @@
 use Rattle.std.proofs.Common.{sym, ap, ◌∙◌}
-use Rattle.aper_proof_values.specs.aper_defs.Reading.{judged}
+use Rattle.aper_defs.specs.Reading.{judged}
 use Rattle.aper_cursor.specs.declared.questions.Question.{Question}
 use Rattle.aper_cursor.specs.Questions.{question_of}
 use Rattle.aper_cursor.proofs.questions.Question.judged.Goals as goal

@@ -1,8 +1,8 @@
 use Rattle.std.proofs.Common.{◌≡◌, ℕ, ◌≤◌, length}
-use Rattle.aper_values.specs.aper_defs.Trees.{Tree}
-use Rattle.aper_values.specs.aper_defs.Values as seen
-use Rattle.aper_values.specs.aper_defs.Fields.{Path}
-use Rattle.aper_values.specs.aper_defs.Questions.{Prog}
+use Rattle.aper_defs.specs.Trees.{Tree}
+use Rattle.aper_defs.specs.Values as seen
+use Rattle.aper_defs.specs.Fields.{Path}
+use Rattle.aper_defs.specs.Questions.{Prog}
 use Rattle.aper_frames.specs.Frames.{components_left}
 use Rattle.aper_frames.specs.Weights.{components_weight}
 use Rattle.aper_frames.proofs.frame.Components.next.Given as goal

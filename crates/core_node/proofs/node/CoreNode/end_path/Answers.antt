@@ -1,7 +1,7 @@
 use Rattle.std.proofs.Common.{◌≡◌, ◌++◌, OnOk, Option, subst}
 use Rattle.unit_defs.specs.Core.{CorePath, old_ends}
-use Rattle.unit_octet_defs.specs.Codec.{octet_way}
-use Rattle.unit_octet_defs.specs.Writing.{outputs_of}
+use Rattle.unit_defs.specs.octet_defs.Codec.{octet_way}
+use Rattle.unit_defs.specs.octet_defs.Writing.{outputs_of}
 use Rattle.core_node.proofs.node.CoreNode.end_path.Goals as goal
 
 pub returns-in-Some : goal.returns-in-Some

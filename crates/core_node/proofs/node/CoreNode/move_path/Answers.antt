@@ -1,5 +1,5 @@
 use Rattle.std.proofs.Common.{sym}
-use Rattle.unit_requests.specs.unit_steps.Steps.{stepped}
+use Rattle.unit_messages.specs.steps.Steps.{stepped}
 use Rattle.core_node.proofs.node.CoreNode.move_path.Goals as goal
 
 pub returns : goal.returns

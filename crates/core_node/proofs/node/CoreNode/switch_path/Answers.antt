@@ -1,8 +1,8 @@
 use Rattle.std.proofs.Common.{◌≡◌, List, ◌∙◌, subst}
 use Rattle.gnb_types.specs.declared.plans.Tunnel.{Tunnel}
 use Rattle.unit_defs.specs.Core.{switch_path}
-use Rattle.unit_octet_defs.specs.Codec.{octet_way}
-use Rattle.unit_requests.specs.unit_steps.Steps.{IsStep, step_after}
+use Rattle.unit_defs.specs.octet_defs.Codec.{octet_way}
+use Rattle.unit_messages.specs.steps.Steps.{IsStep, step_after}
 use Rattle.core_node.specs.Cores.{OctetCore}
 use Rattle.core_node.proofs.Steps.{switch_step}
 use Rattle.core_node.proofs.node.CoreNode.switch_path.Goals as goal

@@ -1,8 +1,8 @@
 use Rattle.std.proofs.Common.{◌≡◌, ◌++◌, map, Option, OnOk, ap, ◌∙◌, subst}
 use Rattle.unit_defs.specs.Ways.{closed}
 use Rattle.unit_defs.specs.Du.{DuContext, old_downlinks}
-use Rattle.unit_octet_defs.specs.Codec.{octet_way}
-use Rattle.unit_octet_defs.specs.Writing.{outputs_of}
+use Rattle.unit_defs.specs.octet_defs.Codec.{octet_way}
+use Rattle.unit_defs.specs.octet_defs.Writing.{outputs_of}
 use Rattle.gnb_types.specs.Orders.{ue_cmp}
 use Rattle.tables.specs.Tables.{find}
 use Rattle.du_contexts.specs.Tables.{DuTables}

@@ -1,6 +1,6 @@
 use Rattle.std.proofs.Common.{arith}
 use Rattle.pdcp.specs.Pdus.{content_of}
-use Rattle.link_packets.specs.link_defs.Decoding.{framed, poll}
+use Rattle.link_defs.specs.Decoding.{framed, poll}
 use Rattle.du_contexts.proofs.Bounds.{frame_number_small, poll_number_small}
 use Rattle.du_contexts.proofs.Reading.{item_taken, nothing_read}
 use Rattle.du_contexts.proofs.contexts.DuContexts.read_frame.Goals as goal

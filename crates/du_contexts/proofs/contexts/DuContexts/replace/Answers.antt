@@ -4,8 +4,8 @@ use Rattle.tables.specs.Tables.{find}
 use Rattle.unit_defs.specs.Ways.{closed}
 use Rattle.unit_defs.specs.Teids.{without_each}
 use Rattle.unit_defs.specs.Du.{old_downlinks}
-use Rattle.unit_octet_defs.specs.Codec.{octet_way}
-use Rattle.unit_octet_defs.specs.Writing.{outputs_of}
+use Rattle.unit_defs.specs.octet_defs.Codec.{octet_way}
+use Rattle.unit_defs.specs.octet_defs.Writing.{outputs_of}
 use Rattle.du_contexts.specs.Tables.{DuTables}
 use Rattle.du_contexts.proofs.TunnelSteps.{replaced_step}
 use Rattle.du_contexts.proofs.contexts.DuContexts.replace.Goals as goal

@@ -4,7 +4,7 @@ use Rattle.gnb_types.specs.declared.names.NodeId.TheVariants.{CuUp}
 use Rattle.gnb_types.specs.Orders.{ue_cmp}
 use Rattle.tables.specs.Tables.{find}
 use Rattle.unit_defs.specs.Du.{DuBearer, bearers_made, replaces}
-use Rattle.unit_octet_defs.specs.Codec.{octet_way}
+use Rattle.unit_defs.specs.octet_defs.Codec.{octet_way}
 use Rattle.du_contexts.specs.Tables.{with_tables}
 use Rattle.du_contexts.proofs.BearersMade.{sorted_from, no_teids_left}
 use Rattle.du_contexts.proofs.Steps.{step_as}

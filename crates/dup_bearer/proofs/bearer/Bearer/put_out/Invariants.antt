@@ -1,8 +1,8 @@
 use Rattle.std.proofs.Common.{◌≡◌, ◌++◌, map}
 use Rattle.std.specs.List.{AllByRecursion}
 use Rattle.std.specs.Vec.Iter.{into_iter_items}
-use Rattle.dup_run_defs.specs.Run.{goes_on, put_line, with_puts}
-use Rattle.dup_pdcp.specs.Entity.{IsPut, puts_of_code}
+use Rattle.dup_defs.specs.dup_run_defs.Run.{goes_on, put_line, with_puts}
+use Rattle.dup_bearer.specs.dup_pdcp.Entity.{IsPut, puts_of_code}
 use Rattle.dup_bearer.specs.Bearers.{with_run}
 use Rattle.dup_bearer.proofs.bearer.Bearer.put_out.Given as goal
 

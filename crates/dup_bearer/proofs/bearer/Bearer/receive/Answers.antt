@@ -2,7 +2,7 @@ use Rattle.std.proofs.Common.{ℕ, Option, None, sym, ap, ◌∙◌, subst}
 use Rattle.std.specs.Prelude.{OnOk}
 use Rattle.pdcp_defs.specs.Counts.{near_count}
 use Rattle.pdcp_entities.proofs.NearLemmas.{near_is, near_agrees}
-use Rattle.dup_run_defs.specs.Run.{DupOutcome, received}
+use Rattle.dup_defs.specs.dup_run_defs.Run.{DupOutcome, received}
 use Rattle.dup_bearer.specs.Bearers.{BearerState}
 use Rattle.dup_bearer.specs.inside.Parts.{IsPart}
 use Rattle.dup_bearer.proofs.BearerLemmas.{is_dropped, is_stored, drops}

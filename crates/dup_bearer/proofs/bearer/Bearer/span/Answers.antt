@@ -1,5 +1,5 @@
 use Rattle.std.proofs.Common.{◌≡◌, ◌++◌, ◌-◌, min, fold, ap, ◌∙◌, subst}
-use Rattle.dup_run_defs.specs.Run.{counts_on, span}
+use Rattle.dup_defs.specs.dup_run_defs.Run.{counts_on, span}
 use Rattle.dup_bearer.specs.Bearers.{BearerState}
 use Rattle.dup_bearer.specs.inside.Views.{run_state}
 use Rattle.dup_bearer.proofs.BearerLemmas.{span_is}

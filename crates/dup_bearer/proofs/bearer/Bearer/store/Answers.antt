@@ -1,9 +1,9 @@
 use Rattle.std.proofs.Common.{◌++◌, ap, ◌∙◌, sym, subst}
 use Rattle.pdcp_defs.specs.Receivers.{stored, deliver, deliver_from}
 use Rattle.um_defs.specs.Receivers.{entries}
-use Rattle.dup_run_defs.specs.Run.{handed_up}
-use Rattle.um_pdcp.specs.Stored.{AreGiven}
-use Rattle.um_pdcp.proofs.StoredLemmas.{given_put}
+use Rattle.dup_defs.specs.dup_run_defs.Run.{handed_up}
+use Rattle.um.specs.um_pdcp.Stored.{AreGiven}
+use Rattle.um.proofs.um_pdcp.StoredLemmas.{given_put}
 use Rattle.dup_bearer.specs.Bearers.{BearerState}
 use Rattle.dup_bearer.specs.inside.Views.{bearer_state}
 use Rattle.dup_bearer.specs.inside.Parts.{IsPart}

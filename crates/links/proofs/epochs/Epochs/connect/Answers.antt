@@ -1,7 +1,7 @@
 use Rattle.std.proofs.Common.{◌≡◌, ◌<◌, ◌∙◌, sym, ap, ℕ, List, arith, length}
 use Rattle.std.proofs.Math.ListN.{set}
 use Rattle.gnb_types.specs.declared.names.UeId.{UeId}
-use Rattle.links_bag.specs.transport_defs.Links.{connect}
+use Rattle.transport_defs.specs.Links.{connect}
 use Rattle.links.specs.inside.Epochs.{entries}
 use Rattle.links.proofs.EpochLemmas.{connected_entries}
 use Rattle.links.proofs.epochs.Epochs.connect.Goals as goal

@@ -1,7 +1,7 @@
 use Rattle.std.proofs.Common.{sym, ap, ◌∙◌, ℕ, List}
-use Rattle.links_bag.specs.transport_defs.Links.{Radio}
+use Rattle.transport_defs.specs.Links.{Radio}
 use Rattle.links.specs.Radios.{uncarried}
-use Rattle.links_bag.proofs.Entries.{nth_is_get}
+use Rattle.links.proofs.links_bag.Entries.{nth_is_get}
 use Rattle.links.proofs.radio.RadioQueue.head.Goals as goal
 
 pub returns : goal.returns

@@ -1,6 +1,6 @@
 use Rattle.std.proofs.Common.{◌∙◌, ap, length, ℕ, List}
-use Rattle.links_bag.specs.transport_defs.Links.{Radio, radio_items, radio_counts, least_of}
-use Rattle.links_bag.proofs.link_tallies.Standing.{number_is, least_is_of}
+use Rattle.transport_defs.specs.Links.{Radio, radio_items, radio_counts, least_of}
+use Rattle.links.proofs.link_tallies.Standing.{number_is, least_is_of}
 use Rattle.links.specs.Radios.{RadioLinks}
 use Rattle.links.specs.Tunnels.{entity}
 use Rattle.links.proofs.radios.Radios.standing.Goals as goal

@@ -2,7 +2,7 @@ use Rattle.std.proofs.Common.{◌≡◌, ◌∙◌, sym, ap, List, Bool, ℕ}
 use Rattle.gnb_types.specs.declared.keys.TunnelEnd.{TunnelEnd}
 use Rattle.gnb_types.specs.Orders.{tunnel_cmp}
 use Rattle.tables.specs.Tables.{without}
-use Rattle.links_bag.specs.transport_defs.declared.Item.{Item}
+use Rattle.transport_defs.specs.declared.Item.{Item}
 use Rattle.links.specs.Tunnels.{OpenTunnels, tunnel_end}
 use Rattle.links.proofs.KeptLemmas.{kept-made-again, kept-begun, kept-same, flag-undone}
 use Rattle.links.proofs.tunnels.Tunnels.make.Goals as goal

@@ -1,7 +1,7 @@
 use Rattle.std.proofs.Common.{◌∙◌, ap, length, ℕ, List}
-use Rattle.links_bag.specs.transport_defs.Links.{tunnel_items, tunnel_counts, least_of}
-use Rattle.links_bag.specs.transport_defs.declared.Item.{Item}
-use Rattle.links_bag.proofs.link_tallies.Standing.{number_is, least_is_of}
+use Rattle.transport_defs.specs.Links.{tunnel_items, tunnel_counts, least_of}
+use Rattle.transport_defs.specs.declared.Item.{Item}
+use Rattle.links.proofs.link_tallies.Standing.{number_is, least_is_of}
 use Rattle.links.specs.Tunnels.{OpenTunnels, entity}
 use Rattle.links.proofs.tunnels.Tunnels.standing.Goals as goal
 

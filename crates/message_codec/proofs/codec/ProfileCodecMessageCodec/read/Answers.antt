@@ -1,7 +1,7 @@
 use Rattle.std.proofs.Common.{sym}
-use Rattle.message_proof_codec.specs.message_codec_defs.Codecs.{read_between}
-use Rattle.message_proof_codec.specs.message_codec_defs.Ranges.{within_ranges}
-use Rattle.message_proof_codec.proofs.Kept.{stays}
+use Rattle.message_codec_defs.specs.Codecs.{read_between}
+use Rattle.message_codec_defs.specs.Ranges.{within_ranges}
+use Rattle.proof_message_codec.proofs.codec.Kept.{stays}
 use Rattle.unit_messages.specs.Messages.{answer_as}
 use Rattle.message_codec.proofs.Results.{of_equal}
 use Rattle.message_codec.proofs.codec.ProfileCodecMessageCodec.read.Goals as goal

@@ -1,7 +1,7 @@
 use Rattle.std.proofs.Common.{◌≡◌, ◌+◌, ◌<◌, ◌≤◌, ◌^◌, ℕ, refl, sym, ap, ◌∙◌, subst, arith}
 use Rattle.gnb_types.specs.Orders.{entity_cmp}
-use Rattle.pool_defs.specs.tables.Tables.{put, at}
-use Rattle.pool_defs.proofs.tables.TableLaws.{put-mapped}
+use Rattle.tables.specs.Tables.{put, at}
+use Rattle.tables.proofs.TableLaws.{put-mapped}
 use Rattle.packet_pool.specs.declared.accounts.Account.{Account}
 use Rattle.packet_pool.specs.inside.Accounts.{AccountsState, total, used_of}
 use Rattle.packet_pool.proofs.AccountLemmas.{at_found, at_none, all_found, quota_small, put_alike, used_below, accounts_replaced, used_replaced}

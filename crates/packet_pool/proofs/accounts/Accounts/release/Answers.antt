@@ -2,8 +2,8 @@ use Rattle.std.proofs.Common.{◌≡◌, ◌≤◌, ◌+◌, ◌-◌, List, sym,
 use Rattle.gnb_types.specs.declared.keys.EntityKey.{EntityKey}
 use Rattle.gnb_types.specs.Orders.{entity_cmp}
 use Rattle.gnb_types.proofs.OrderLemmas.{entity_total}
-use Rattle.pool_defs.specs.tables.Tables.{without, at, IsSorted}
-use Rattle.pool_defs.proofs.tables.TableLaws.{without-mapped, sorted-without}
+use Rattle.tables.specs.Tables.{without, at, IsSorted}
+use Rattle.tables.proofs.TableLaws.{without-mapped, sorted-without}
 use Rattle.packet_pool.specs.declared.accounts.Account.{Account}
 use Rattle.packet_pool.specs.inside.Accounts.{AccountsState, AreAccounts, total, used_of, quotas_of}
 use Rattle.packet_pool.proofs.AccountLemmas.{accounts_closed, quota_reserved, released_total, quotas_sorted}

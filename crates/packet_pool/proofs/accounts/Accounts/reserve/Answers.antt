@@ -1,8 +1,8 @@
 use Rattle.std.proofs.Common.{◌≡◌, ◌+◌, List, None, sym, ap, ◌∙◌, subst, add-zero, arith}
 use Rattle.gnb_types.specs.declared.keys.EntityKey.{EntityKey}
 use Rattle.gnb_types.specs.Orders.{entity_cmp}
-use Rattle.pool_defs.specs.tables.Tables.{find, put}
-use Rattle.pool_defs.proofs.tables.TableLaws.{put-mapped}
+use Rattle.tables.specs.Tables.{find, put}
+use Rattle.tables.proofs.TableLaws.{put-mapped}
 use Rattle.packet_pool.specs.declared.accounts.Account.{Account}
 use Rattle.packet_pool.specs.inside.Accounts.{AccountsState, AreAccounts, total, used_of, quotas_of}
 use Rattle.packet_pool.proofs.AccountLemmas.{none_mapped, accounts_opened, opened_total, quotas_sorted}

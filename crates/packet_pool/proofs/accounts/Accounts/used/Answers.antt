@@ -1,6 +1,6 @@
 use Rattle.std.proofs.Common.{sym, ap, ◌∙◌}
 use Rattle.gnb_types.specs.Orders.{entity_cmp}
-use Rattle.pool_defs.specs.tables.Tables.{at}
+use Rattle.tables.specs.Tables.{at}
 use Rattle.packet_pool.specs.inside.Accounts.{AccountsState}
 use Rattle.packet_pool.proofs.AccountLemmas.{at_found, at_none}
 use Rattle.packet_pool.proofs.accounts.Accounts.used.Goals as goal

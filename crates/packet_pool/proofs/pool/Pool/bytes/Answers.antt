@@ -1,8 +1,8 @@
 use Rattle.std.proofs.Common.{ℕ, ◌<◌, Option, sym, ap, ◌∙◌, subst, refl}
 use Rattle.std.specs.Prelude.{IsSome}
 use Rattle.std.specs.Option.{option_map}
-use Rattle.pool_defs.specs.Pools.{Stored, PoolState, packet_of, IsPool}
-use Rattle.pool_defs.proofs.PoolLaws.{held_apart}
+use Rattle.pdcp_defs.specs.pool_defs.Pools.{Stored, PoolState, packet_of, IsPool}
+use Rattle.pdcp_defs.proofs.pool_defs.PoolLaws.{held_apart}
 use Rattle.packet_pool.specs.inside.Pools.{state}
 use Rattle.packet_pool.proofs.PoolLemmas.{pool_sound, held_block, content_within, packet_found}
 use Rattle.packet_pool.proofs.pool.Pool.bytes.Goals as goal

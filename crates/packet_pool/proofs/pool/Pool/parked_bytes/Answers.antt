@@ -1,7 +1,7 @@
 use Rattle.std.proofs.Common.{ℕ, ◌<◌, Option, sym, ap, ◌∙◌, subst, refl}
 use Rattle.std.specs.Prelude.{IsSome}
 use Rattle.std.specs.Option.{option_map}
-use Rattle.pool_defs.specs.Pools.{Stored, PoolState, packet_at, IsPool}
+use Rattle.pdcp_defs.specs.pool_defs.Pools.{Stored, PoolState, packet_at, IsPool}
 use Rattle.packet_pool.proofs.PoolLemmas.{pool_sound, parked_block, content_within, packet_found_at}
 use Rattle.packet_pool.proofs.pool.Pool.parked_bytes.Goals as goal
 

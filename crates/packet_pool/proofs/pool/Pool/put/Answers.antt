@@ -1,8 +1,8 @@
 use Rattle.std.proofs.Common.{◌≡◌, ◌<◌, ◌∷◌, ℕ, List, length, sym, ap, ◌∙◌, subst, refl}
 use Rattle.std.specs.Ordering.{nat_cmp}
 use Rattle.gnb_types.specs.Orders.{entity_cmp}
-use Rattle.pool_defs.specs.tables.Tables.{find, at}
-use Rattle.pool_defs.specs.Pools.{PoolState, with_packet, used, quota, IsPool}
+use Rattle.tables.specs.Tables.{find, at}
+use Rattle.pdcp_defs.specs.pool_defs.Pools.{PoolState, with_packet, used, quota, IsPool}
 use Rattle.packet_pool.specs.declared.region.Block.{Block}
 use Rattle.packet_pool.specs.inside.Regions.{octets_at}
 use Rattle.packet_pool.specs.inside.Contents.{joined}

@@ -1,5 +1,5 @@
 use Rattle.std.proofs.Common.{ap, ◌∙◌, subst}
-use Rattle.pool_defs.specs.Pools.{PoolState, quota, IsPool}
+use Rattle.pdcp_defs.specs.pool_defs.Pools.{PoolState, quota, IsPool}
 use Rattle.packet_pool.proofs.PoolLemmas.{pool_sound}
 use Rattle.packet_pool.proofs.pool.Pool.quota.Goals as goal
 

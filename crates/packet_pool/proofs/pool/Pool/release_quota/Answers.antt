@@ -1,5 +1,5 @@
 use Rattle.std.proofs.Common.{ap, ◌∙◌}
-use Rattle.pool_defs.specs.Pools.{PoolState, used}
+use Rattle.pdcp_defs.specs.pool_defs.Pools.{PoolState, used}
 use Rattle.packet_pool.proofs.PoolChanges.{tied_released}
 use Rattle.packet_pool.proofs.pool.Pool.release_quota.Goals as goal
 

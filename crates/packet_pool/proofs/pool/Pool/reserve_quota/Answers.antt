@@ -1,8 +1,8 @@
 use Rattle.std.proofs.Common.{◌≡◌, ◌+◌, ◌≤◌, ◌<◌, ℕ, None, length, sym, subst, arith}
 use Rattle.std.specs.Prelude.{OnOk}
 use Rattle.gnb_types.specs.Orders.{entity_cmp}
-use Rattle.pool_defs.specs.tables.Tables.{find}
-use Rattle.pool_defs.specs.Pools.{PoolState, reserved}
+use Rattle.tables.specs.Tables.{find}
+use Rattle.pdcp_defs.specs.pool_defs.Pools.{PoolState, reserved}
 use Rattle.packet_pool.specs.inside.Accounts.{total}
 use Rattle.packet_pool.proofs.PoolChanges.{tied_after}
 use Rattle.packet_pool.proofs.pool.Pool.reserve_quota.Goals as goal

@@ -1,6 +1,6 @@
 use Rattle.std.proofs.Common.{◌≡◌, ◌<◌, ℕ, length, Option, Some, set, sym, ap, ◌∙◌, subst, refl, true≢false, arith}
 use Rattle.std.specs.Prelude.{IsSome, is_some}
-use Rattle.pool_defs.specs.Pools.{PoolState, packet_of, without_packet, IsPool}
+use Rattle.pdcp_defs.specs.pool_defs.Pools.{PoolState, packet_of, without_packet, IsPool}
 use Rattle.packet_pool.specs.declared.contents.Content.{Content}
 use Rattle.packet_pool.specs.inside.Contents.{content_at}
 use Rattle.packet_pool.specs.inside.Pools.{state, IsTied}

@@ -1,8 +1,8 @@
 use Rattle.std.proofs.Common.{◌<◌, List, length, Option, false, set, sym, ap, ◌∙◌, subst, refl}
 use Rattle.std.specs.Prelude.{IsSome}
 use Rattle.std.specs.Ordering.{nat_cmp}
-use Rattle.pool_defs.specs.tables.Tables.{find}
-use Rattle.pool_defs.specs.Pools.{PoolState, packet_at, without_place, IsPool}
+use Rattle.tables.specs.Tables.{find}
+use Rattle.pdcp_defs.specs.pool_defs.Pools.{PoolState, packet_at, without_place, IsPool}
 use Rattle.packet_pool.specs.declared.contents.Content.{Content}
 use Rattle.packet_pool.specs.inside.Contents.{marked}
 use Rattle.packet_pool.specs.inside.Pools.{state, places_of, IsTied}

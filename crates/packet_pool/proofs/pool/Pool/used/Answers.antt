@@ -1,5 +1,5 @@
 use Rattle.std.proofs.Common.{ap, ◌∙◌, subst}
-use Rattle.pool_defs.specs.Pools.{PoolState, used, IsPool}
+use Rattle.pdcp_defs.specs.pool_defs.Pools.{PoolState, used, IsPool}
 use Rattle.packet_pool.proofs.PoolLemmas.{pool_sound}
 use Rattle.packet_pool.proofs.pool.Pool.used.Goals as goal
 

@@ -1,6 +1,6 @@
 use Rattle.std.proofs.Common.{◌≡◌, ℕ, ◌+◌, ◌-◌, ◌<◌, ◌≤◌, length, arith, sym, ap, ◌∙◌}
 use Rattle.std.specs.Ordering.{nat_cmp}
-use Rattle.pdcp_defs.specs.tables.Tables.{put}
+use Rattle.tables.specs.Tables.{put}
 use Rattle.pdcp_entities.specs.declared.ring.Ring.{Ring}
 use Rattle.pdcp_entities.specs.inside.Rings.{held, held_from, padded, IsLastFull}
 use Rattle.pdcp_entities.proofs.SlotLemmas.{put_slot, put_after, length-slot, length-after, last-slot, last-after}

@@ -2,7 +2,7 @@ use Rattle.std.proofs.Common.{◌≡◌, ℕ, ◌+◌, Bool, List, [], ◌∷◌
 use Rattle.std.specs.Prelude.{IsSome}
 use Rattle.packet_pool.specs.declared.region.TheConstants.{BLOCK}
 use Rattle.pdcp_defs.specs.Receivers.{deliver, with_packet}
-use Rattle.packet_pool.specs.pool_defs.Pools.{Stored, PoolState, packet_of, without_place}
+use Rattle.pdcp_defs.specs.pool_defs.Pools.{Stored, PoolState, packet_of, without_place}
 use Rattle.pdcp_entities.specs.Packets.{AreParked, Unparks, bytes_of, octets_in}
 use Rattle.pdcp_entities.specs.Entities.{RxState, receiver_in, handed_up, first_at, advanced}
 use Rattle.pdcp_entities.specs.inside.Rings.{held, held_from}

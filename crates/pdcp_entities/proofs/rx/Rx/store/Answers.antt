@@ -2,10 +2,10 @@ use Rattle.std.proofs.Common.{◌≡◌, ℕ, ◌+◌, ◌<◌, ◌≤◌, List,
 use Rattle.std.specs.Prelude.{IsSome, slice_get, unwrap_or}
 use Rattle.std.specs.Ordering.{nat_cmp}
 use Rattle.packet_pool.specs.declared.region.TheConstants.{BLOCK}
-use Rattle.pdcp_defs.specs.tables.Tables.{find, put}
+use Rattle.tables.specs.Tables.{find, put}
 use Rattle.pdcp_defs.specs.Receivers.{is_duplicate, is_ahead, stored}
-use Rattle.packet_pool.specs.pool_defs.Pools.{Stored, PoolState, packet_of, used, with_packet, with_place}
-use Rattle.packet_pool.proofs.pool_defs.PoolLaws.{packet_of_put}
+use Rattle.pdcp_defs.specs.pool_defs.Pools.{Stored, PoolState, packet_of, used, with_packet, with_place}
+use Rattle.pdcp_defs.proofs.pool_defs.PoolLaws.{packet_of_put}
 use Rattle.pdcp_entities.specs.Packets.{AreParked, Puts, octets_in}
 use Rattle.pdcp_entities.specs.Entities.{RxState, receiver_in}
 use Rattle.pdcp_entities.specs.inside.Rings.{held}

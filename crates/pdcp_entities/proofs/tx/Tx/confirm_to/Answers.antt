@@ -1,6 +1,6 @@
 use Rattle.std.proofs.Common.{◌≡◌, ℕ, Bool, not, nat_lt, List, [], Option, Some, None, length, filter, sym, ap, ◌∙◌, subst, refl}
 use Rattle.pdcp_defs.specs.Senders.{Sender, confirmed_to}
-use Rattle.packet_pool.specs.pool_defs.Pools.{PoolState}
+use Rattle.pdcp_defs.specs.pool_defs.Pools.{PoolState}
 use Rattle.pdcp_entities.specs.Packets.{Frees, octets_in}
 use Rattle.pdcp_entities.specs.Entities.{TxState, sender_in, confirmed_if, confirmed_number, up_to, named_by_number}
 use Rattle.pdcp_entities.specs.inside.Rings.{held}

@@ -1,6 +1,6 @@
 use Rattle.std.proofs.Common.{◌≡◌, ℕ, ◌+◌, ◌<◌, ◌≤◌, List, [], ◌∷◌, ◌++◌, length, arith, sym, ap, ◌∙◌, subst, refl, true}
 use Rattle.pdcp_defs.specs.Senders.{Sender, window, numbered, has_room}
-use Rattle.packet_pool.specs.pool_defs.Pools.{PoolState, packet_of, with_place}
+use Rattle.pdcp_defs.specs.pool_defs.Pools.{PoolState, packet_of, with_place}
 use Rattle.pdcp_entities.specs.Packets.{AreParked, Parks, bytes_of, octets_in}
 use Rattle.pdcp_entities.specs.Entities.{TxState, sender_in}
 use Rattle.pdcp_entities.specs.inside.Rings.{held}

@@ -1,5 +1,5 @@
 use Rattle.std.proofs.Common.{◌∙◌, ℕ, Option, sym, ap}
-use Rattle.run_defs.specs.transport_defs.Links.{least, tunnel_counts, radio_counts}
+use Rattle.transport_defs.specs.Links.{least, tunnel_counts, radio_counts}
 use Rattle.run_links.specs.Spans.{lowered}
 use Rattle.run_links.proofs.Least.{least-append, lowered_least}
 use Rattle.run_links.proofs.ground.Ground.least_standing.Goals as goal

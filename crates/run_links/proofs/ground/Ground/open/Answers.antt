@@ -1,7 +1,7 @@
 use Rattle.std.proofs.Common.{◌∙◌, List, sym, ap}
 use Rattle.std.proofs.lemmas.List.{append-nil}
 use Rattle.gnb_types.specs.declared.keys.TunnelEnd.{TunnelEnd}
-use Rattle.run_defs.specs.transport_defs.declared.Item.{Item}
+use Rattle.transport_defs.specs.declared.Item.{Item}
 use Rattle.run_defs.specs.Steps.{opens}
 use Rattle.run_links.specs.declared.ground.Ground.{Ground}
 use Rattle.run_links.specs.Grounds.{Octets, state_of}

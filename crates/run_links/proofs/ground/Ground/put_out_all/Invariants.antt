@@ -1,7 +1,7 @@
 use Rattle.std.proofs.Common.{◌≤◌, ◌+◌, List, length, map}
 use Rattle.std.specs.Vec.Iter.{into_iter_items}
 use Rattle.scenario_text.specs.declared.line.OutLine.{OutLine}
-use Rattle.run_defs.specs.transport_defs.Links.{most_letters}
+use Rattle.transport_defs.specs.Links.{most_letters}
 use Rattle.run_defs.specs.Steps.{put_out_all}
 use Rattle.run_defs.specs.UnitRuns.{put_of}
 use Rattle.run_links.specs.declared.ground.Ground.{Ground}

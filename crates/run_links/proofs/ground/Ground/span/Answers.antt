@@ -1,5 +1,5 @@
 use Rattle.std.proofs.Common.{◌≤◌, ◌++◌, ℕ, sym, subst, arith}
-use Rattle.run_defs.specs.transport_defs.Links.{tunnel_counts, radio_counts}
+use Rattle.transport_defs.specs.Links.{tunnel_counts, radio_counts}
 use Rattle.run_links.proofs.Least.{least-le}
 use Rattle.run_links.proofs.ground.Ground.span.Goals as goal
 

@@ -1,5 +1,5 @@
 use Rattle.std.proofs.Common.{◌∙◌, ◌+◌, ℕ, not, nat_lt, length, sym, ap}
-use Rattle.run_defs.specs.transport_defs.Links.{most_letters}
+use Rattle.transport_defs.specs.Links.{most_letters}
 use Rattle.run_links.proofs.Counting.{letters_put, not_not}
 use Rattle.run_links.proofs.ground.Ground.too_many_letters.Goals as goal
 

@@ -1,6 +1,6 @@
 use Rattle.std.proofs.Common.{take}
 use Rattle.std.specs.Fmt.{HasWritten, IsPlainFormatter}
-use Rattle.script_words.specs.gnb_types.Hex.{hex_of}
+use Rattle.gnb_types.specs.Hex.{hex_of}
 use Rattle.scenario_text.proofs.print.HexDisplay.fmt.Given as goal
 
 -- what is written are the digits of the bytes so far

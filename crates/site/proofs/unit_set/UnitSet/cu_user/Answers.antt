@@ -1,5 +1,5 @@
 use Rattle.gnb_types.specs.Orders.{node_cmp}
-use Rattle.site_tables.specs.cu_user.Users.{User}
+use Rattle.cu_user.specs.Users.{User}
 use Rattle.site.proofs.Each.{looked_up}
 use Rattle.site.proofs.unit_set.UnitSet.cu_user.Goals as goal
 

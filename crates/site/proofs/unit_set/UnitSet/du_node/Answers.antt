@@ -1,5 +1,5 @@
 use Rattle.gnb_types.specs.Orders.{node_cmp}
-use Rattle.site_tables.specs.du_node.Nodes.{Node}
+use Rattle.du_node.specs.Nodes.{Node}
 use Rattle.site.proofs.Each.{looked_up}
 use Rattle.site.proofs.unit_set.UnitSet.du_node.Goals as goal
 

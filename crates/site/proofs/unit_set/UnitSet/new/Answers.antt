@@ -1,7 +1,7 @@
 use Rattle.std.proofs.Common.{◌≡◌, None, ◌∙◌}
 use Rattle.gnb_types.specs.declared.names.Gnb.TheVariants.{B}
-use Rattle.run_defs.specs.unit_defs.CpRecords.{new_cu_cp}
-use Rattle.site_proof_leaves.specs.cu_control.Units.{ControlUnit}
+use Rattle.unit_defs.specs.CpRecords.{new_cu_cp}
+use Rattle.cu_control.specs.Units.{ControlUnit}
 use Rattle.site.proofs.Marks.{of_ok, first_records, first_work}
 use Rattle.site.proofs.unit_set.UnitSet.new.Goals as goal
 

@@ -1,6 +1,6 @@
 use Rattle.std.proofs.Common.{refl, subst, sym}
 use Rattle.std.specs.Prelude.{Err}
-use Rattle.run_links.specs.run_defs.UnitRuns.{stepped_by, unit_world}
+use Rattle.run_defs.specs.UnitRuns.{stepped_by, unit_world}
 use Rattle.run_links.specs.Grounds.{state_of}
 use Rattle.world_steps.specs.declared.cause.Cause.{Cause}
 use Rattle.world_steps.specs.Asks.{ComesOf}

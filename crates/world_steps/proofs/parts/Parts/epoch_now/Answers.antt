@@ -1,7 +1,7 @@
 use Rattle.std.proofs.Common.{◌∙◌, ℕ, Bool, if◌then◌else◌, Some, None, sym, ap}
-use Rattle.core_node.specs.unit_defs.declared.UeState.{UeState}
-use Rattle.run_links.specs.run_defs.Steps.{is_on_air}
-use Rattle.run_links.specs.run_defs.UnitRuns.{unit_world}
+use Rattle.unit_defs.specs.declared.UeState.{UeState}
+use Rattle.run_defs.specs.Steps.{is_on_air}
+use Rattle.run_defs.specs.UnitRuns.{unit_world}
 use Rattle.run_links.specs.Grounds.{state_of}
 use Rattle.world_steps.proofs.OnAir.{epoch_is}
 use Rattle.world_steps.proofs.parts.Parts.epoch_now.Goals as goal

@@ -1,7 +1,7 @@
 use Rattle.std.proofs.Common.{◌≡◌, map, subst}
-use Rattle.run_links.specs.run_defs.Steps.{reconnect_node, put_out_all, check_spans}
-use Rattle.run_links.specs.run_defs.States.{◌next◌}
-use Rattle.run_links.specs.run_defs.UnitRuns.{unit_world, put_of}
+use Rattle.run_defs.specs.Steps.{reconnect_node, put_out_all, check_spans}
+use Rattle.run_defs.specs.States.{◌next◌}
+use Rattle.run_defs.specs.UnitRuns.{unit_world, put_of}
 use Rattle.run_links.specs.Grounds.{OctetState, state_of}
 use Rattle.run_links.specs.Told.{GoesTo}
 use Rattle.run_links.proofs.Goes.{then_goes}

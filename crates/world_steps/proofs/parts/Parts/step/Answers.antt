@@ -1,7 +1,7 @@
 use Rattle.std.proofs.Common.{None}
-use Rattle.run_links.specs.run_defs.States.{goes_on}
-use Rattle.run_links.specs.run_defs.Steps.{does, step}
-use Rattle.run_links.specs.run_defs.UnitRuns.{unit_world}
+use Rattle.run_defs.specs.States.{goes_on}
+use Rattle.run_defs.specs.Steps.{does, step}
+use Rattle.run_defs.specs.UnitRuns.{unit_world}
 use Rattle.run_links.specs.Grounds.{state_of}
 use Rattle.world_steps.specs.Gives.{stop_by}
 use Rattle.world_steps.proofs.Shown.{shows_refused, refused_stops}

@@ -2,9 +2,9 @@ use Rattle.std.proofs.Common.{◌≡◌, None, sym, subst}
 use Rattle.std.specs.Prelude.{Result, Ok, Err}
 use Rattle.std.proofs.lemmas.List.{append-nil}
 use Rattle.gnb_types.specs.declared.inputs.Input.{Input}
-use Rattle.run_links.specs.run_defs.States.{goes_on}
-use Rattle.run_links.specs.run_defs.Steps.{does}
-use Rattle.run_links.specs.run_defs.UnitRuns.{input_of, stepped_by, unit_world}
+use Rattle.run_defs.specs.States.{goes_on}
+use Rattle.run_defs.specs.Steps.{does}
+use Rattle.run_defs.specs.UnitRuns.{input_of, stepped_by, unit_world}
 use Rattle.run_links.specs.Grounds.{OctetState, state_of}
 use Rattle.world_steps.specs.declared.cause.Cause.{Cause}
 use Rattle.world_steps.specs.declared.asked.Asked.{Asked}

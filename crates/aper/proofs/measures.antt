@@ -1,0 +1,5 @@
+pub mod Turns
+pub mod Bodies
+pub mod Elements
+pub mod Parts
+pub mod Wholes

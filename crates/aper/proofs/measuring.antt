@@ -1,0 +1,3 @@
+pub mod OctetLemmas
+pub mod OrderLemmas
+pub mod HeadLemmas

@@ -1,0 +1,9 @@
+pub mod ListLemmas
+pub mod SequenceSteps
+pub mod ContainerSteps
+pub mod FormBounds
+pub mod HeavyLemmas
+pub mod Turns
+pub mod InPlace
+pub mod PutLemmas
+pub mod Front

@@ -1,8 +1,0 @@
-//! A decoder of aligned PER (ITU-T X.691) whose octets come in pieces.
-#![tactic(auto)]
-
-mod decoder;
-mod spot;
-mod turns;
-
-pub use decoder::{Decoder, Step, decode};

@@ -1,1 +1,0 @@
-pub use Rattle.bits_core.proofs as bits_core

@@ -1,0 +1,4 @@
+pub mod ChoiceLemmas
+pub mod ContainerLemmas
+pub mod MessageLemmas
+pub mod Weighing

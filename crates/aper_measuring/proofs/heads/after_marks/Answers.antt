@@ -1,8 +1,0 @@
-use Rattle.std.proofs.Common.{◌≡◌, ◌==◌, length, false, sym, ◌∙◌}
-use Rattle.aper_measuring.proofs.HeadLemmas.{marks_end}
-use Rattle.aper_measuring.proofs.heads.after_marks.Goals as goal
-
-pub returns : goal.returns
-returns c =
-    let some : (length c.args.additions.now == 0) ≡ false = sym c.is_empty.ensures ∙ c.if-is_empty.false in
-    marks_end c.args.additions.now c.args.place c.passed.result some c.passed.ensures

@@ -1,6 +1,0 @@
-use Rattle.std.proofs.Common.{◌≡◌, drop}
-use Rattle.aper_members.specs.Rows.{row_type}
-use Rattle.aper_members.proofs.rows.row_type.Given as goal
-
-abbrev pub invariant-loop-row : goal.invariant-loop-row
-invariant-loop-row l = row_type l.id (drop l.row-index l.rows) ≡ row_type l.id l.rows

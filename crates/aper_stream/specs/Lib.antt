@@ -1,0 +1,5 @@
+pub mod string_turns
+pub mod resuming
+pub mod aper_resuming
+pub mod steps
+pub mod decoder

@@ -1,0 +1,2 @@
+pub mod Steps
+pub use Rattle.aper_stream.specs.resuming as aper_resuming

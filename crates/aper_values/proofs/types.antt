@@ -1,0 +1,4 @@
+pub mod TreeLaws
+pub mod Members
+pub mod Bounded
+pub mod Follow

@@ -1,5 +1,0 @@
-use Rattle.asn1_assignments.proofs.Indexed.{none_numbered}
-use Rattle.asn1_assignments.proofs.index.NameIndex.new.Goals as goal
-
-pub returns : goal.returns
-returns c = none_numbered (record { numbers = c.new.result }) c.new.ensures.empty

@@ -1,6 +1,0 @@
-use Rattle.std.proofs.Common.{◌≡◌, ℕ, List, take}
-use Rattle.asn1_assignments.specs.Index.{numbered, number_of}
-use Rattle.asn1_assignments.proofs.index.index_of.Given as goal
-
-abbrev pub invariant-loop-number : goal.invariant-loop-number
-invariant-loop-number l = (name : List ℕ) → numbered l.index name ≡ number_of name (take l.number l.assignments)

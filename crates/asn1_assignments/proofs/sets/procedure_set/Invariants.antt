@@ -1,7 +1,0 @@
-use Rattle.std.proofs.Common.{◌≡◌, ◌-◌}
-use Rattle.asn1_types.specs.inside.Reading.{repeat_at}
-use Rattle.asn1_assignments.specs.inside.Sets.{rows_with, procedure_turn_at}
-use Rattle.asn1_assignments.proofs.sets.procedure_set.Given as goal
-
-abbrev pub invariant-loop : goal.invariant-loop
-invariant-loop l = repeat_at (procedure_turn_at l.turns) (l.turns - l.counter) (rows_with l.rows l.nodes) l.reader ≡ repeat_at (procedure_turn_at l.turns) l.turns (rows_with l.initial.rows l.initial.nodes) l.initial.reader

@@ -1,6 +1,0 @@
-use Rattle.std.proofs.Common.{◌≡◌, drop, false}
-use Rattle.asn1_graph.specs.Walks.{round_of, mark_step}
-use Rattle.asn1_graph.proofs.paths.mark_round.Given as goal
-
-abbrev pub invariant-loop-edge : goal.invariant-loop-edge
-invariant-loop-edge l = round_of (mark_step l.start) l.changed l.table (drop l.edge-index l.edges) ≡ round_of (mark_step l.start) false l.fn.table l.edges

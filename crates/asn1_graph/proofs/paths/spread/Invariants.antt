@@ -1,6 +1,0 @@
-use Rattle.std.proofs.Common.{length}
-use Rattle.asn1_graph.specs.Tables.{MarksWell}
-use Rattle.asn1_graph.proofs.paths.spread.Given as goal
-
-abbrev pub invariant-loop : goal.invariant-loop
-invariant-loop l = MarksWell (length l.fn.table) l.steps.edges.now l.start l.table

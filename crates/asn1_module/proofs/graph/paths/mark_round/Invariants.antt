@@ -1,0 +1,6 @@
+use Rattle.std.proofs.Common.{◌≡◌, drop, false}
+use Rattle.asn1_module.specs.graph.Walks.{round_of, mark_step}
+use Rattle.asn1_module.proofs.graph.paths.mark_round.Given as goal
+
+abbrev pub invariant-loop-edge : goal.invariant-loop-edge
+invariant-loop-edge l = round_of (mark_step l.start) l.changed l.table (drop l.edge-index l.edges) ≡ round_of (mark_step l.start) false l.fn.table l.edges

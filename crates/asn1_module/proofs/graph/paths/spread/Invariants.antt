@@ -1,0 +1,6 @@
+use Rattle.std.proofs.Common.{length}
+use Rattle.asn1_module.specs.graph.Tables.{MarksWell}
+use Rattle.asn1_module.proofs.graph.paths.spread.Given as goal
+
+abbrev pub invariant-loop : goal.invariant-loop
+invariant-loop l = MarksWell (length l.fn.table) l.steps.edges.now l.start l.table

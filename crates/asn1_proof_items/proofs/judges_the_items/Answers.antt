@@ -1,8 +1,0 @@
-use Rattle.asn1_proof_items.proofs.Judged.{allowed_to, judged}
-use Rattle.asn1_proof_items.proofs.judges_the_items.Goals as goal
-
-pub returns-clause-module : goal.returns-clause-module
-returns-clause-module c = allowed_to
-
-pub returns-clause-fault : goal.returns-clause-fault
-returns-clause-fault c = judged

@@ -1,6 +1,0 @@
-use Rattle.std.proofs.Common.{sym, ◌∙◌}
-use Rattle.asn1_proof_lexical.proofs.Streams.{all_items, items_scanned}
-use Rattle.asn1_proof_lexical.proofs.items_are_these.Goals as goal
-
-pub returns : goal.returns
-returns c = record { all = all_items; one = λ total text a b x y. items_scanned x ∙ sym (items_scanned y) }

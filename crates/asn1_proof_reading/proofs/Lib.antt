@@ -1,7 +1,0 @@
-pub mod Splits
-pub mod Ordered
-pub mod Alone
-pub mod Texts
-pub mod Once
-pub mod Readings
-pub use Rattle.asn1_proof_values.proofs.asn1_proof_syntax as asn1_proof_syntax

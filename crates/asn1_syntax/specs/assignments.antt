@@ -1,0 +1,4 @@
+pub mod Index
+pub mod Rows
+pub mod Module
+pub mod inside

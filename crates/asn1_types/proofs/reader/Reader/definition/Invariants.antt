@@ -1,6 +1,0 @@
-use Rattle.std.proofs.Common.{◌≡◌, ◌-◌, []}
-use Rattle.asn1_types.specs.inside.Types.{type_within_at}
-use Rattle.asn1_types.proofs.reader.Reader.definition.Given as goal
-
-abbrev pub invariant-loop : goal.invariant-loop
-invariant-loop l = type_within_at l.turns (l.turns - l.counter) l.stack l.nodes l.self ≡ type_within_at l.turns l.turns [] l.fn.nodes l.fn.self

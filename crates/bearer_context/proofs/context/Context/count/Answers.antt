@@ -1,9 +1,0 @@
-use Rattle.std.proofs.Common.{◌≡◌, length, sym, ap, ◌∙◌, arith}
-use Rattle.up_orders.specs.unit_defs.UpRecords.{UpContext}
-use Rattle.bearer_context.proofs.Numbered.{length-numbered}
-use Rattle.bearer_context.proofs.context.Context.count.Goals as goal
-
-pub returns : goal.returns
-returns c =
-    let own : c.len.result ≡ c.self.inside.bearers.len = omega (arith, c.len.ensures) in
-    own ∙ c.self.inside.bearers.ok.0 ∙ sym (length-numbered 1 c.self.inside.bearers.items) ∙ ap (λ (x : UpContext). length x.bearers) c.self.view_is

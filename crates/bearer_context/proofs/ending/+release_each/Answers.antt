@@ -1,9 +1,0 @@
-use Rattle.std.proofs.Common.{List, subst}
-use Rattle.up_orders.specs.up_bearers.declared.bearer.Bearer.{Bearer}
-use Rattle.bearer_context.specs.Bearers.{AreServed}
-use Rattle.bearer_context.proofs.ending.+release_each.Goals as goal
-
-pub returns-clause-served : goal.returns-clause-served
-returns-clause-served t c = λ a all.
-    let both = subst (λ (bs : List Bearer). AreServed a bs) c.in-Some.ensures.cases.0 all in
-    ((c.release.ensures.of a both.0.0, λ unknown. c.release.ensures.empty), c.release_each.ensures.served a both.1)

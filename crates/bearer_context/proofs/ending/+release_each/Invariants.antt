@@ -1,5 +1,0 @@
-use Rattle.std.proofs.Common.{length}
-use Rattle.bearer_context.proofs.ending.+release_each.Given as goal
-
-abbrev pub decreases-release_each : goal.decreases-release_each
-decreases-release_each l = length l.bearers.now

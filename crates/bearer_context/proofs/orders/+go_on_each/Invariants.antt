@@ -1,5 +1,0 @@
-use Rattle.std.proofs.Common.{length}
-use Rattle.bearer_context.proofs.orders.+go_on_each.Given as goal
-
-abbrev pub decreases-go_on_each : goal.decreases-go_on_each
-decreases-go_on_each l = length l.bearers.now

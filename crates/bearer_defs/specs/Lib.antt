@@ -1,0 +1,2 @@
+pub mod chain_defs
+pub mod uplink_defs

@@ -1,0 +1,25 @@
+use Rattle.std.proofs.Common.{refl}
+use Rattle.std.proofs.lemmas.Result.{err_from_is_err_and}
+use Rattle.command_bearers.proofs.command_dup.Applied.{turn_unread, unapplied, unfinished, applied, is_event_at}
+use Rattle.command_bearers.proofs.command_dup.script.apply_line.Goals as goal
+
+pub returns-in_err-line : goal.returns-in_err-line
+returns-in_err-line g c =
+    let p = err_from_is_err_and c.from_residual.result c.from_residual.ensures.1 in
+    turn_unread _ _ _ _ _ c.in_err-line.ensures p.1 p.2 refl
+
+pub returns-in_err-meaning_of : goal.returns-in_err-meaning_of
+returns-in_err-meaning_of g c =
+    let p = err_from_is_err_and c.from_residual-in_err-meaning_of.result c.from_residual-in_err-meaning_of.ensures.1 in
+    unapplied _ _ _ c.in-Some.line _ _ _ c.in-Some.is c.in_ok-line.ensures c.in_err-meaning_of.ensures p.1 p.2 refl
+
+pub returns-in_err-apply_event-in-Event : goal.returns-in_err-apply_event-in-Event
+returns-in_err-apply_event-in-Event g c =
+    let p = err_from_is_err_and c.from_residual-in_err-apply_event-in-Event.result c.from_residual-in_err-apply_event-in-Event.ensures.1 in
+    unfinished _ _ _ c.in-Some.line c.in-Event.event _ _ _ c.in-Some.is c.in_ok-line.ensures
+    (is_event_at c.in-Some.line _ c.in-Event.event c.in-Event.is c.in_ok-meaning_of.ensures) c.in_err-apply_event-in-Event.ensures p.1 p.2
+
+pub returns : goal.returns
+returns g c =
+    applied _ _ _ c.in-Some.line c.in-Event.event c.in-Some.is c.in_ok-line.ensures
+    (is_event_at c.in-Some.line _ c.in-Event.event c.in-Event.is c.in_ok-meaning_of.ensures) c.in_ok-apply_event-in-Event.ensures

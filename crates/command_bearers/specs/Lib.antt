@@ -1,0 +1,2 @@
+pub mod command_um
+pub mod command_dup

@@ -1,0 +1,124 @@
+-- Internal: what reading, understanding and applying one line does.
+use Rattle.std.specs.Prelude.{◌≡◌, ◌++◌, ℕ, true, false, List, Option, Some, None, Result, Ok, Err}
+use Rattle.gnb_base.specs.declared.lines.Line.{Line}
+use Rattle.gnb_base.specs.Outside.{SourceAt, SinkAt}
+use Rattle.gnb_base.specs.Reading.{Reading, NextMeets}
+use Rattle.command_defs.specs.declared.input_defs.InputEnd.{InputEnd}
+use Rattle.commands.specs.input_lines.ReadsLine.{StopsReading}
+use Rattle.scenario_text.specs.Grammar.{is_skipped}
+use Rattle.um_defs.specs.declared.types.event.UmEvent.{UmEvent}
+use Rattle.um_defs.specs.declared.types.line.UmLine.{UmLine}
+use Rattle.um_defs.specs.declared.types.stop.UmEnd.{UmEnd}
+use Rattle.um_defs.specs.um_run_defs.Script.{UmStep, passes, stops, steps, printed_of}
+use Rattle.um.specs.run.Worlds.{UmWorldState}
+use Rattle.um.specs.text.Grammar.{event_of}
+use Rattle.um.specs.text.Texts.{InRange}
+use Rattle.um.specs.text.Print.{print, happens_text}
+use Rattle.command_defs.specs.declared.CommonEnd.TheVariants.{WriteFault, Memory}
+use Rattle.command_defs.specs.Ends.{end_of_input}
+use Rattle.commands.specs.command_output.Writes.{WritesAll, WritesFront}
+use Rattle.command_bearers.specs.declared.command_um.end.ScriptEnd.{ScriptEnd}
+use Rattle.command_bearers.specs.declared.command_um.end.ScriptEnd.TheVariants.{Script, Common}
+use Rattle.command_bearers.specs.declared.command_um.script.Meaning.{Meaning}
+use Rattle.command_bearers.specs.declared.command_um.script.Meaning.TheVariants as meanings
+use Rattle.command_bearers.specs.declared.command_um.script.Happening.{Happening}
+use Rattle.command_bearers.specs.command_um.Ends.{end_at}
+
+-- ---- the parts of a run at one moment
+
+pub record WorkAt : Type 0 where
+  pub world : UmWorldState
+  pub sink : SinkAt
+
+abbrev pub work_at : UmWorldState → SinkAt → WorkAt
+work_at world sink = record { world = world; sink = sink }
+
+pub record RunAt : Type 0 where
+  pub reading : Reading
+  pub source : SourceAt
+  pub work : WorkAt
+
+abbrev pub run_at : Reading → SourceAt → UmWorldState → SinkAt → RunAt
+run_at reading source world sink = record { reading = reading; source = source; work = work_at world sink }
+
+-- ---- a line
+
+-- it is an event
+pub record IsEvent (text : List ℕ) (event : UmEvent) : Type 0 where
+  pub one : is_skipped text ≡ false
+  pub read : event_of text ≡ Ok event
+  pub range : InRange event
+
+-- it is refused, or memory ran out
+pub data LineStops (line : Line) (end : ScriptEnd) : Type 0 where
+  Refused : (reason : _) → is_skipped line.text ≡ false → event_of line.text ≡ Err reason → end ≡ Script line.number reason
+      → LineStops line end
+  NoMemory : end ≡ Common Memory → LineStops line end
+
+abbrev pub Means : Line → Result Meaning ScriptEnd → Type 0
+Means line (Ok meanings.Skipped) = is_skipped line.text ≡ true
+Means line (Ok (meanings.Event event)) = IsEvent line.text event
+Means line (Err end) = LineStops line end
+
+-- ---- an event is applied
+
+abbrev pub step_at : UmWorldState → UmEvent → UmStep
+step_at world event = steps world.sn world.ticks event world.run
+
+-- The run goes on, or ends so.
+abbrev pub Comes : UmEvent → UmWorldState → UmWorldState → List UmLine → Option UmEnd → Type 0
+Comes event old new printed None = (step_at old event ≡ passes printed new.run) × (new ≡ record old { run = new.run })
+Comes event old new printed (Some end) = step_at old event ≡ stops printed end
+
+abbrev pub IsHappening : UmEvent → UmWorldState → UmWorldState → Happening → Type 0
+IsHappening event old new h = Comes event old new h.lines h.end
+
+-- what is written of an event
+abbrev pub text_at : UmWorldState → UmEvent → List ℕ
+text_at world event = happens_text event ++ print (printed_of (step_at world event))
+
+pub record Applies (old new : WorkAt) (event : UmEvent) : Type 0 where
+  pub printed : List UmLine
+  pub passes_on : step_at old.world event ≡ passes printed new.world.run
+  pub same : new.world ≡ record old.world { run = new.world.run }
+  pub writes : WritesAll old.sink new.sink (text_at old.world event)
+
+-- The run ends in the event; or a write failed after a front of its lines, or memory ran out before the first.
+pub data ApplyStops (old new : WorkAt) (place : ℕ) (event : UmEvent) (end : ScriptEnd) : Type 0 where
+  Ended : (printed : List UmLine) (why : UmEnd) → step_at old.world event ≡ stops printed why → end ≡ end_at place why
+      → WritesAll old.sink new.sink (text_at old.world event) → ApplyStops old new place event end
+  Faulty : end ≡ Common WriteFault → WritesFront old.sink new.sink (text_at old.world event) → ApplyStops old new place event end
+  NoRoom : end ≡ Common Memory → new.sink ≡ old.sink → ApplyStops old new place event end
+
+abbrev pub ApplyMeets : WorkAt → WorkAt → ℕ → UmEvent → Result (Unit {0}) ScriptEnd → Type 0
+ApplyMeets old new place event (Ok done) = Applies old new event
+ApplyMeets old new place event (Err end) = ApplyStops old new place event end
+
+-- ---- one turn
+
+-- the line was skipped, or it was an event, which was applied
+pub data LineApplies (old new : WorkAt) (text : List ℕ) (events : ℕ) : Type 0 where
+  Skips : events ≡ 0 → is_skipped text ≡ true → new ≡ old → LineApplies old new text events
+  Happens : events ≡ 1 → (event : UmEvent) → IsEvent text event → Applies old new event → LineApplies old new text events
+
+pub record TakesLine (old new : RunAt) (events : ℕ) : Type 0 where
+  pub line : Line
+  pub meets : NextMeets old.reading new.reading old.source new.source (Ok (Some line))
+  pub applies : LineApplies old.work new.work line.text events
+
+pub record TakesEnd (old new : RunAt) : Type 0 where
+  pub meets : NextMeets old.reading new.reading old.source new.source (Ok None)
+  pub same : new.work ≡ old.work
+
+pub data TurnStops (old new : RunAt) (end : ScriptEnd) : Type 0 where
+  Unread : (why : InputEnd) → StopsReading old.reading new.reading old.source new.source why → end ≡ Common (end_of_input why)
+      → new.work ≡ old.work → TurnStops old new end
+  Unapplied : (line : Line) → NextMeets old.reading new.reading old.source new.source (Ok (Some line)) → LineStops line end
+      → new.work ≡ old.work → TurnStops old new end
+  Unfinished : (line : Line) (event : UmEvent) → NextMeets old.reading new.reading old.source new.source (Ok (Some line))
+      → IsEvent line.text event → ApplyStops old.work new.work line.number event end → TurnStops old new end
+
+abbrev pub TurnMeets : RunAt → RunAt → Result (Option ℕ) ScriptEnd → Type 0
+TurnMeets old new (Ok None) = TakesEnd old new
+TurnMeets old new (Ok (Some events)) = TakesLine old new events
+TurnMeets old new (Err end) = TurnStops old new end

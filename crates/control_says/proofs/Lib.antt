@@ -1,1 +1,0 @@
-pub use Rattle.unit_steps.proofs as unit_steps

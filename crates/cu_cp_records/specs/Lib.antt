@@ -1,0 +1,2 @@
+pub mod control_says
+pub mod control_requests

@@ -1,0 +1,13 @@
+use Rattle.std.proofs.Common.{◌≡◌, ◌++◌, length}
+use Rattle.gnb_types.specs.declared.names.Dir.TheVariants.{Dl}
+use Rattle.pdcp_bearers.specs.ue_bearers.Uplinks.{from_on}
+use Rattle.cu_up_bearer.proofs.bearers.Forwards.{counted_outputs}
+use Rattle.cu_up_bearer.proofs.bearers.forwarding.forward_unconfirmed.Given as goal
+
+-- what was put out, and what goes on from this COUNT on, is all
+abbrev pub invariant-loop-count : goal.invariant-loop-count
+invariant-loop-count l =
+    l.out ++ counted_outputs l.at l.hop Dl (from_on l.from l.sending.sender.unconfirmed) ≡ l.initial.out ++ counted_outputs l.at l.hop Dl (from_on 0 l.sending.sender.unconfirmed)
+
+abbrev pub decreases-loop-count : goal.decreases-loop-count
+decreases-loop-count l = length (from_on l.from l.sending.sender.unconfirmed)

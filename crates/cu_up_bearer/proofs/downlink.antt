@@ -1,0 +1,3 @@
+pub mod Sequels
+pub mod Numberings
+pub mod Resends

@@ -1,0 +1,4 @@
+pub mod tunnels
+pub mod downlink
+pub mod bearers
+pub mod orders

@@ -1,0 +1,10 @@
+//! What one bearer of a CU-UP puts on tunnels: frames to its DU (TS 38.425, 5.4), and what goes on a hop to the target of a handover
+//! (TS 38.300, 9.2.3.2.3).
+
+pub mod at;
+pub mod frames;
+pub mod hop;
+
+pub use at::{At, Flags};
+pub use frames::{Downlink, Frames};
+pub use hop::{Hop, ShownCount};

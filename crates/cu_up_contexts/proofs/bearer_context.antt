@@ -1,0 +1,11 @@
+pub mod Numbered
+pub mod Steps
+pub mod Made
+pub mod Names
+pub mod Kept
+pub mod Polls
+pub mod Polled
+pub mod Served
+pub mod Whole
+pub mod Found
+pub mod Opened

@@ -1,0 +1,2 @@
+pub mod bearer_context
+pub mod contexts

@@ -1,0 +1,5 @@
+pub mod Contexts
+pub mod Bearers
+pub mod Orders
+pub mod Items
+pub mod Answers

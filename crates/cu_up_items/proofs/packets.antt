@@ -1,0 +1,3 @@
+pub mod Passes
+pub mod Takes
+pub mod Confirms

@@ -1,0 +1,3 @@
+pub mod packets
+pub mod uplinks
+pub mod items

@@ -1,6 +1,0 @@
-pub mod Records
-pub use Rattle.unit_defs.specs as unit_defs
-pub use Rattle.unit_octet_defs.specs as unit_octet_defs
-pub use Rattle.unit_requests.specs.unit_steps as unit_steps
-pub use Rattle.du_contexts.specs.codec_defs as codec_defs
-pub use Rattle.du_contexts.specs as du_contexts

@@ -1,0 +1,1 @@
+//! Definitions alone: the run of one bearer with PDCP duplication over two legs.

@@ -1,7 +1,0 @@
-//! The two legs of a bearer with PDCP duplication: what each holds, the oldest first.
-#![tactic(auto)]
-
-mod items;
-pub mod legs;
-
-pub use legs::Legs;

@@ -1,2 +1,0 @@
-//! Definitions alone: the run of one bearer with PDCP duplication over two legs.
-#![tactic(auto)]

@@ -1,1 +1,0 @@
-pub use Rattle.profile_types.specs as profile_types

@@ -1,6 +1,0 @@
-//! What a value of JSON is: a number, octets, bits, a name among names, or an object with members.
-#![tactic(auto)]
-
-pub mod kinds;
-pub mod members;
-pub mod names;

@@ -1,6 +1,0 @@
-use Rattle.std.proofs.Common.{◌≡◌, ◌++◌, drop}
-use Rattle.json_shown_defs.specs.Printed.{bits_text}
-use Rattle.json_pieces.proofs.texts.bits_text.Given as goal
-
-abbrev pub invariant-loop-bit : goal.invariant-loop-bit
-invariant-loop-bit l = l.text ++ bits_text (drop l.bit-index l.bits) ≡ bits_text l.bits

@@ -1,7 +1,0 @@
-//! JSON of values that have none inside, and of what stands round the others.
-#![tactic(auto)]
-
-pub mod error;
-pub mod objects;
-pub mod simple;
-pub mod texts;

@@ -1,6 +1,0 @@
-//! The JSON that values of a module's types are printed as, written to a `json::Writer`.
-#![tactic(auto)]
-
-mod values;
-
-pub use values::write_value;

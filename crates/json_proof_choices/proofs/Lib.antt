@@ -1,4 +1,0 @@
-pub mod Places
-pub mod Choices
-pub mod Bodies
-pub use Rattle.json_proof_values.proofs as json_proof_values

@@ -1,2 +1,0 @@
-pub use Rattle.json_type_defs.specs.aper_types as aper_types
-pub use Rattle.json_type_defs.specs as json_type_defs

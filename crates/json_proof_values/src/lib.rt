@@ -1,2 +1,0 @@
-//! Steps of the laws of values as JSON: texts and numbers, types without types inside, and SEQUENCE.
-#![tactic(auto)]

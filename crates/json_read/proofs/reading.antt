@@ -1,0 +1,10 @@
+pub mod Weights
+pub mod Lists
+pub mod Components
+pub mod Additions
+pub mod Elements
+pub mod Bodies
+pub mod Alternatives
+pub mod Messages
+pub mod Sequences
+pub mod Forms

@@ -1,0 +1,3 @@
+pub mod Demanded
+pub mod Puts
+pub mod Passed

@@ -1,0 +1,2 @@
+pub mod wholes
+pub mod reading

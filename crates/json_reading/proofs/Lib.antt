@@ -1,1 +1,0 @@
-pub use Rattle.json_proof_reading.proofs.json_proof_modules as json_proof_modules

@@ -1,2 +1,0 @@
-//! Definitions alone: the types of a module with the names that JSON shows.
-#![tactic(auto)]

@@ -1,5 +1,0 @@
-use Rattle.law_aper_pieces.proofs.Fronts.{front_cut}
-use Rattle.law_aper_pieces.proofs.a_front_of_a_spelling_is_cut_off.Goals as goal
-
-pub returns : goal.returns
-returns c = front_cut

@@ -1,8 +1,0 @@
-use Rattle.law_aper_pieces.proofs.Fronts.{begun, begun_again}
-use Rattle.law_aper_pieces.proofs.what_is_found_begins_the_octets.Goals as goal
-
-pub returns-clause-spelled : goal.returns-clause-spelled
-returns-clause-spelled c = begun
-
-pub returns-clause-found : goal.returns-clause-found
-returns-clause-found c = begun_again

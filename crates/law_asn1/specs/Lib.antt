@@ -1,0 +1,3 @@
+pub mod text
+pub mod names
+pub mod depth

@@ -1,5 +1,0 @@
-use Rattle.law_asn1_names.proofs.ModuleHeld.{unknown_first}
-use Rattle.law_asn1_names.proofs.unknown_names_are_first.Goals as goal
-
-pub returns : goal.returns
-returns c text m t = unknown_first _ m t.means

@@ -1,6 +1,0 @@
-use Rattle.law_beside_downs.proofs.Quiet.{keeps_it}
-use Rattle.law_beside_downs.proofs.units_without_a_radio_keep_it.Goals as goal
-
-pub returns : goal.returns
-returns c = λ reading ue bearer s t event cause outputs units lines d passed acted no_radio stays goes_on down orders leave.
-    keeps_it reading ue bearer s t event cause outputs units lines d passed acted no_radio stays goes_on down orders leave

@@ -1,6 +1,0 @@
-use Rattle.law_beside_ties.proofs.Beside.{is_beside}
-use Rattle.law_beside_ties.proofs.steps_of_other_units_are_beside.Goals as goal
-
-pub returns : goal.returns
-returns c = λ reading ue bearer s t event cause outputs units lines passed acted quiet goes_on.
-    is_beside reading ue bearer s t event cause outputs units lines passed acted quiet goes_on

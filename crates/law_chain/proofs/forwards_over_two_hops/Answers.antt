@@ -1,5 +1,0 @@
-use Rattle.law_chain.proofs.Relayed.{relay_kept, relay_delivers}
-use Rattle.law_chain.proofs.forwards_over_two_hops.Goals as goal
-
-pub returns : goal.returns
-returns c = record { guards = relay_kept; delivered = relay_delivers }

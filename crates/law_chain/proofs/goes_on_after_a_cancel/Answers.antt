@@ -1,5 +1,0 @@
-use Rattle.law_chain.proofs.Relayed.{cancelled_kept, cancelled_delivers}
-use Rattle.law_chain.proofs.goes_on_after_a_cancel.Goals as goal
-
-pub returns : goal.returns
-returns c = record { guards = cancelled_kept; delivered = cancelled_delivers }

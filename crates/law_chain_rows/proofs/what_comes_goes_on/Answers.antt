@@ -1,9 +1,0 @@
-use Rattle.law_chain_rows.proofs.Rows.{passes_a_fresh_one, passes_a_numbered_one, passes_the_end}
-use Rattle.law_chain_rows.proofs.what_comes_goes_on.Goals as goal
-
-pub returns : goal.returns
-returns c = record {
-  fresh_ones = λ way at. passes_a_fresh_one way at;
-  numbered_ones = λ way at. passes_a_numbered_one way at;
-  end_of_n3 = λ way at. passes_the_end way at;
-}

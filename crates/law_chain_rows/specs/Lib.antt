@@ -1,2 +1,0 @@
-pub mod Shown
-pub use Rattle.law_chain.specs as law_chain

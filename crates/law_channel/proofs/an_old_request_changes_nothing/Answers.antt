@@ -1,8 +1,0 @@
-use Rattle.law_channel.specs.Moves.{new_net, after, answered_by}
-use Rattle.law_channel.proofs.Kept.{good_of}
-use Rattle.law_channel.proofs.Exactly.{in_vain}
-use Rattle.law_channel.proofs.an_old_request_changes_nothing.Goals as goal
-
-pub returns : goal.returns
-returns g c = λ talk orders may n c i x same row put old.
-    in_vain talk (after talk new_net orders) n c ((good_of talk orders may).channels (answered_by n c)) i x same row put old

@@ -1,5 +1,0 @@
-use Rattle.law_channel.proofs.Kept.{good_of}
-use Rattle.law_channel.proofs.every_channel_is_exact.Goals as goal
-
-pub returns : goal.returns
-returns g c = λ talk orders may r. (good_of talk orders may).channels r

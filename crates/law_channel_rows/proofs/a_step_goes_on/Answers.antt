@@ -1,5 +1,0 @@
-use Rattle.law_channel_rows.proofs.Goes.{goes_on}
-use Rattle.law_channel_rows.proofs.a_step_goes_on.Goals as goal
-
-pub returns : goal.returns
-returns g c = λ talk orders may n kept outputs r made. goes_on talk orders may n (kept r) outputs made.0 made.1 made.2

@@ -1,7 +1,0 @@
-use Rattle.std.proofs.Common.{refl}
-use Rattle.law_channel.specs.unit_defs.Transactions.{kind_of}
-use Rattle.law_channel_rows.proofs.messages_read_well.Goals as goal
-
-pub returns : goal.returns
-unfolding kind_of
-returns c = record { kinds = λ m. refl; answers_are = λ a b. refl; passes = λ token. (0, refl); overtakes_is = λ m. refl }

@@ -1,5 +1,0 @@
-use Rattle.law_closing.proofs.Up.{ends_after}
-use Rattle.law_closing.proofs.contexts_end_from_the_oldest_up.Goals as goal
-
-pub returns : goal.returns
-returns c = record { ends = λ first teid orders kept x there ready. ends_after first teid orders kept x there ready }

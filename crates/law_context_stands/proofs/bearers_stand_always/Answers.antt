@@ -1,8 +1,0 @@
-use Rattle.law_context_stands.proofs.Holds.{none_there, stays_standing}
-use Rattle.law_context_stands.proofs.bearers_stand_always.Goals as goal
-
-pub returns : goal.returns
-returns g c = record {
-  at_the_start = λ gnb number ue bearer p there. none_there ue bearer p there;
-  after = λ way r input order all. stays_standing way r input order all;
-}

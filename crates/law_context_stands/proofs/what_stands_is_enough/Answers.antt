@@ -1,9 +1,0 @@
-use Rattle.law_context_stands.proofs.Enough.{has_hop, has_none, serves}
-use Rattle.law_context_stands.proofs.what_stands_is_enough.Goals as goal
-
-pub returns : goal.returns
-returns c = record {
-  down = λ p stands owed. record { hop = has_hop p stands; passes = serves p stands owed };
-  up = λ p stands owed. record { hop = has_hop p stands; passes = serves p stands owed };
-  no_hop = λ p stands f. has_none p stands f;
-}

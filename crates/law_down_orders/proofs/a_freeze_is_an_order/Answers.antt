@@ -1,5 +1,0 @@
-use Rattle.law_down_orders.proofs.Control.{freeze_shows}
-use Rattle.law_down_orders.proofs.a_freeze_is_an_order.Goals as goal
-
-pub returns : goal.returns
-returns g c = λ way s x p is to peer down up apart. freeze_shows way s x p is to peer down up apart

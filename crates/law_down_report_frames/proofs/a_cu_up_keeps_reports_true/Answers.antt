@@ -1,6 +1,0 @@
-use Rattle.law_down_report_frames.proofs.Steps.{cu_up_keeps}
-use Rattle.law_down_report_frames.proofs.a_cu_up_keeps_reports_true.Goals as goal
-
-pub returns : goal.returns
-returns c = λ reading n ue bearer sn quota event s t gnb number cause input outputs v beside d u step before after acted tied steady came owes statuses told.
-    cu_up_keeps reading n ue bearer sn quota event s t gnb number cause input outputs v beside step before after d u tied steady came owes statuses acted told

@@ -1,6 +1,0 @@
-use Rattle.law_down_report_runs.proofs.Runs.{one_step}
-use Rattle.law_down_report_runs.proofs.each_step_keeps_reports_true.Goals as goal
-
-pub returns : goal.returns
-returns c = λ reading n ue bearer sn quota p q positive before after comes all came told step statuses.
-    one_step reading n ue bearer sn quota positive p q before after comes all came told step statuses

@@ -1,0 +1,5 @@
+pub mod Paths
+pub mod Steps
+pub mod Words
+pub mod Lossy
+pub mod Shown

@@ -1,5 +1,0 @@
-use Rattle.law_downlink_path.proofs.Lost.{lossy_kept, lossy_delivers}
-use Rattle.law_downlink_path.proofs.goes_on_after_losses.Goals as goal
-
-pub returns : goal.returns
-returns c = record { guards = lossy_kept; delivered = lossy_delivers }

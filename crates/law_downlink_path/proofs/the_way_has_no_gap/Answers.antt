@@ -1,5 +1,0 @@
-use Rattle.law_downlink_path.proofs.Laws.{way_has_no_gap}
-use Rattle.law_downlink_path.proofs.the_way_has_no_gap.Goals as goal
-
-pub returns : goal.returns
-returns c = record { no_gap = λ first downlink du steps kept. way_has_no_gap first downlink du steps kept }

@@ -1,0 +1,4 @@
+pub mod Airs
+pub mod Acks
+pub mod Offers
+pub mod Gets

@@ -1,0 +1,4 @@
+pub mod Places
+pub mod Statics
+pub mod First
+pub mod Runs

@@ -1,0 +1,5 @@
+pub mod Ups
+pub mod GetUps
+pub mod GetItems
+pub mod Dus
+pub mod Ues

@@ -1,9 +1,0 @@
-use Rattle.law_du_inputs.proofs.Ups.{take_puts, pass_puts, confirm_puts}
-use Rattle.law_du_inputs.proofs.packets_are_put.Goals as goal
-
-pub returns : goal.returns
-returns c = record {
-  frames = λ way r ue bearer. take_puts way r ue bearer;
-  up = λ way r ue bearer. pass_puts way r ue bearer;
-  confirmed = λ way r ue bearer. confirm_puts way r ue bearer;
-}

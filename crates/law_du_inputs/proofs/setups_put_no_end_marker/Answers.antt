@@ -1,9 +1,0 @@
-use Rattle.law_du_inputs.proofs.Control.{setup_quiet, start_keeps, set_up_keeps}
-use Rattle.law_du_inputs.proofs.setups_put_no_end_marker.Goals as goal
-
-pub returns : goal.returns
-returns c = record {
-  setups = λ way. setup_quiet way;
-  starts = λ way. start_keeps way;
-  set_up = λ way. set_up_keeps way;
-}

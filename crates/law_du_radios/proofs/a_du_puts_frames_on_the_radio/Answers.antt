@@ -1,8 +1,0 @@
-use Rattle.law_du_radios.proofs.Puts.{puts_frames, frame_changes}
-use Rattle.law_du_radios.proofs.a_du_puts_frames_on_the_radio.Goals as goal
-
-pub returns : goal.returns
-returns c = record {
-  puts = λ ue bearer r left input outputs lengths at in_order answers. puts_frames ue bearer r left input outputs lengths at in_order answers;
-  frame = λ ue bearer r teid poll restart number pdu found. frame_changes ue bearer r teid poll restart number pdu found;
-}

@@ -1,9 +1,0 @@
-use Rattle.law_du_rows.proofs.Frames.{tells_loss, answers_poll, tells_nothing}
-use Rattle.law_du_rows.proofs.losses_are_told.Goals as goal
-
-pub returns : goal.returns
-returns c = record {
-  missing = λ way ue bearer b. tells_loss way ue bearer b;
-  polls = λ way ue bearer b. answers_poll way ue bearer b;
-  others = λ way ue bearer b. tells_nothing way ue bearer b;
-}

@@ -1,9 +1,0 @@
-use Rattle.law_du_rows.proofs.Contexts.{relay_down_keeps, relay_up_keeps, tick_keeps}
-use Rattle.law_du_rows.proofs.other_rows_change_no_bearer.Goals as goal
-
-pub returns : goal.returns
-returns c = record {
-  down = λ way. relay_down_keeps way;
-  up = λ way. relay_up_keeps way;
-  ticks = λ way. tick_keeps way;
-}

@@ -1,9 +1,0 @@
-use Rattle.law_du_rows.proofs.Frames.{carries_asked, carries_run, passes_is}
-use Rattle.law_du_rows.proofs.packets_go_up.Goals as goal
-
-pub returns : goal.returns
-returns c = record {
-  asked = carries_asked;
-  became = carries_run;
-  does = λ way r ue bearer c b held. passes_is way r ue bearer c b held;
-}

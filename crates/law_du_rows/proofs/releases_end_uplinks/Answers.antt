@@ -1,9 +1,0 @@
-use Rattle.law_du_rows.proofs.Contexts.{marks_asked, marks_run, release_ends}
-use Rattle.law_du_rows.proofs.releases_end_uplinks.Goals as goal
-
-pub returns : goal.returns
-returns c = record {
-  asked = marks_asked;
-  became = marks_run;
-  does = λ way. release_ends way;
-}

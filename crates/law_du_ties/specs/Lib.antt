@@ -1,1 +1,0 @@
-pub use Rattle.law_tied_runs.specs as law_tied_runs

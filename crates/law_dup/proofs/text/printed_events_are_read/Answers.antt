@@ -1,0 +1,5 @@
+use Rattle.dup.proofs.text.EventLaws.{event_of-event_text}
+use Rattle.law_dup.proofs.text.printed_events_are_read.Goals as goal
+
+pub returns : goal.returns
+returns c = event_of-event_text

@@ -1,5 +1,0 @@
-use Rattle.dup_text.proofs.EventLaws.{event_sound, text_is_read}
-use Rattle.law_dup_text.proofs.lines_are_texts.Goals as goal
-
-pub returns : goal.returns
-returns c = λ line event. (event_sound line event, text_is_read line event)

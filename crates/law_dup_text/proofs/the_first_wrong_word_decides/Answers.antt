@@ -1,5 +1,0 @@
-use Rattle.law_dup_text.proofs.Wrong.{refused_wrong, wrong_refused}
-use Rattle.law_dup_text.proofs.the_first_wrong_word_decides.Goals as goal
-
-pub returns : goal.returns
-returns c = λ line reason. (refused_wrong line reason, wrong_refused line reason)

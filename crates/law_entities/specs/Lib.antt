@@ -1,0 +1,2 @@
+pub mod pool
+pub mod law_pdcp

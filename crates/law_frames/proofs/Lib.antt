@@ -1,4 +1,0 @@
-pub mod Frames
-pub mod Bearers
-pub use Rattle.unit_defs.proofs.gnb_types as gnb_types
-pub use Rattle.unit_defs.proofs.tables as tables

@@ -1,0 +1,4 @@
+pub mod Units
+pub mod Links
+pub mod Acts
+pub mod Placed

@@ -1,0 +1,2 @@
+pub mod run_switches
+pub mod tunnel_numbers

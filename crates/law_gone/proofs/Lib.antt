@@ -1,2 +1,0 @@
-pub mod Gone
-pub use Rattle.law_uplink.proofs as law_uplink

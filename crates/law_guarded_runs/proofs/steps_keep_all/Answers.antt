@@ -1,5 +1,0 @@
-use Rattle.law_guarded_runs.proofs.Runs.{all_steps}
-use Rattle.law_guarded_runs.proofs.steps_keep_all.Goals as goal
-
-pub returns : goal.returns
-returns c = λ reading n ue bearer sn quota p q positive carried steps. all_steps reading n ue bearer sn quota positive p q carried steps

@@ -1,0 +1,4 @@
+pub mod Frames
+pub mod Rows
+pub mod Carried
+pub mod Steps

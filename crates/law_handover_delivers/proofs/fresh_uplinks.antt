@@ -1,0 +1,5 @@
+pub mod Orders
+pub mod Puts
+pub mod Runs
+pub mod Hops
+pub mod Begun

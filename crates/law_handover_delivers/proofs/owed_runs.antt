@@ -1,0 +1,4 @@
+pub mod Grows
+pub mod Ups
+pub mod Rest
+pub mod Runs

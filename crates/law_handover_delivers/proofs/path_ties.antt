@@ -1,0 +1,5 @@
+pub mod Cores
+pub mod Orders
+pub mod Leads
+pub mod Runs
+pub mod Worked

@@ -1,0 +1,185 @@
+-- Steps of a run, one after another, keep the core's path of the bearer, and so are steps of `owed_runs`.
+use Rattle.std.proofs.Common.{◌≡◌, ◌==◌, ℕ, Bool, true, false, List, [], ◌∷◌, ◌++◌, refl, sym, ap, subst, ◌∙◌, arith}
+use Rattle.std.specs.Prelude.{if◌then◌else◌}
+use Rattle.gnb_types.specs.declared.names.Gnb.TheVariants.{A}
+use Rattle.gnb_types.specs.declared.names.NodeId.TheVariants.{CuUp}
+use Rattle.gnb_types.specs.declared.names.SnBits.{SnBits}
+use Rattle.gnb_types.specs.declared.names.SnBits.TheVariants.{Len12}
+use Rattle.gnb_types.specs.declared.names.UeId.{UeId}
+use Rattle.gnb_types.specs.declared.names.BearerId.{BearerId}
+use Rattle.tables.specs.Tables.{find, put, at}
+use Rattle.unit_defs.specs.UpRecords.{Downlink}
+use Rattle.unit_defs.specs.Static.{up_placed, du_placed, cp_placed}
+use Rattle.unit_defs.specs.Ue.{new_ue}
+use Rattle.unit_defs.specs.UpBearers.{made}
+use Rattle.run_defs.specs.Conditions.{n3_from}
+use Rattle.run_defs.specs.Runs.{Reading}
+use Rattle.bearer_defs.specs.chain_defs.Parts as down_parts
+use Rattle.bearer_defs.specs.chain_defs.Orders as down
+use Rattle.bearer_defs.specs.chain_defs.Guards as down_guards
+use Rattle.proof_bearer_refinement.specs.run_bearers.Bearers.{Numbering}
+use Rattle.proof_bearer_refinement.specs.tie_facts.Asked.{AreSound}
+use Rattle.proof_bearer_refinement.specs.put_ties.Worked.{terminal, bearer as its_bearer}
+use Rattle.proof_bearer_refinement.specs.tied_runs.Steps as tied
+use Rattle.proof_bearer_refinement.specs.tied_runs.Steps.{Point, IsPassed, IsTied, AreOrders}
+use Rattle.proof_bearer_refinement.proofs.tied_runs.Sound.{passed_sound}
+use Rattle.proof_bearer_refinement.proofs.tied_runs.Runs.{step_then}
+use Rattle.proof_bearer_refinement.specs.first_ties.First as first_run
+use Rattle.proof_bearer_refinement.proofs.first_ties.Start.{starts, tied as tied_there}
+use Rattle.law_handover_delivers.specs.first_runs.First.{AreFirst, DeliverInOrder}
+use Rattle.law_handover_delivers.proofs.first_runs.Runs.{begins}
+use Rattle.law_handover_delivers.specs.fresh_uplinks.Later as later
+use Rattle.law_handover_delivers.specs.fresh_uplinks.Later.{AreFresh, Comes}
+use Rattle.law_handover_delivers.proofs.fresh_uplinks.Runs.{starts_fresh, one_step as fresh_step}
+use Rattle.law_handover_delivers.specs.owed_orders.Steady.{IsOld}
+use Rattle.law_handover_delivers.specs.owed_runs.Owing as owed
+use Rattle.law_handover_delivers.specs.owed_runs.Owing.{NoneIsZero, IsSteadyAt}
+use Rattle.law_handover_delivers.proofs.owed_runs.Runs.{one_step as owed_step, first_steady, delivers as owed_delivers, first_old}
+use Rattle.law_handover_delivers.specs.path_ties.Paths.{CameAbout, LeadsAt, Step, a_cu_up, a_du, an_offer, a_message, all_else, Steps, not_yet, further}
+use Rattle.law_handover_delivers.proofs.path_ties.Leads.{is_one, du_leads, offer_leads, beside_leads, message_leads, cu_up_leads}
+
+number_same : (a : ℕ) → (a == a) ≡ true
+number_same a = grind arith
+
+-- ---- orders after orders
+
+run_more : (d : down_parts.Part) (os more : List down.Order) → down.run d (os ++ more) ≡ down.run (down.run d os) more
+unfolding down.run
+run_more d [] more = refl
+run_more d (o ∷ os) more = run_more (down.after d o) os more
+
+kept_more : (sn : SnBits) (quota : ℕ) (d : down_parts.Part) (os more : List down.Order) → down_guards.AreKept sn quota d os
+    → down_guards.AreKept sn quota (down.run d os) more → down_guards.AreKept sn quota d (os ++ more)
+unfolding down_guards.AreKept down.run
+kept_more sn quota d [] more h k = k
+kept_more sn quota d (o ∷ os) more h k = (h.0, h.1, kept_more sn quota (down.after d o) os more h.2 k)
+
+module _ (reading : Reading) (n : Numbering) (ue : UeId) (bearer : BearerId) (sn : SnBits) (quota : ℕ) (positive : NoneIsZero n) where
+  abbrev Tied : Point → Type 0
+  Tied p = IsTied reading n ue bearer sn quota p
+
+  abbrev Steady : Point → Type 0
+  Steady p = IsSteadyAt reading n ue bearer sn quota p
+
+  abbrev Leads : Point → Type 0
+  Leads p = LeadsAt reading n ue bearer sn quota p
+
+  goes_about : (p q : Point) → CameAbout sn quota p.down → AreOrders reading n ue bearer sn quota p q → CameAbout sn quota q.down
+  goes_about p q came os =
+      let start : down_parts.Part = down_parts.start came.first came.teid in record {
+        first = came.first;
+        teid = came.teid;
+        orders = came.orders ++ os.downs;
+        is = os.down ∙ ap (λ (d : down_parts.Part). down.run d os.downs) came.is ∙ sym (run_more start came.orders os.downs);
+        kept = kept_more sn quota start came.orders os.downs came.kept
+            (subst (λ (d : down_parts.Part). down_guards.AreKept sn quota d os.downs) came.is os.down_kept);
+      }
+
+  -- ---- a step
+
+  -- all that is so of a state on the way
+  pub record IsAlong (p : Point) : Type 0 where
+    pub ties : Tied p
+    pub fresh : AreFresh n p.state p.up
+    pub steady : Steady p
+    pub came : CameAbout sn quota p.down
+    pub leads : Leads p
+
+  module _ (p q : Point) (before : IsPassed reading p.state) (after : IsPassed reading q.state) (comes : Comes reading p.state q.state) (along : IsAlong p) where
+    sound : AreSound p.state q.state
+    sound = passed_sound reading p.state q.state before after
+
+    as_owed : Step reading n ue bearer sn quota p q → owed.Step reading n ue bearer sn quota p q
+    as_owed (a_cu_up a) = owed.a_cu_up a
+    as_owed (a_du a) = owed.a_du a
+    as_owed (an_offer a) = owed.an_offer (record {
+      who = a.who;
+      which = a.which;
+      packet = a.packet;
+      path = a.path;
+      offers = a.offers;
+      leads = λ own. along.leads;
+      down = a.down;
+      up = a.up;
+    })
+    as_owed (a_message a) = owed.a_message (record {
+      number = a.number;
+      letter = a.letter;
+      outputs = a.outputs;
+      core = a.core;
+      takes = a.takes;
+      leads = along.leads;
+      one = is_one n ue bearer p.state.units _ a.names;
+      asks = a.asks;
+      down = a.down;
+      up = a.up;
+    })
+    as_owed (all_else a) = owed.all_else a.stays
+
+    leads_then : Step reading n ue bearer sn quota p q → Tied q → CameAbout sn quota q.down → Leads q
+    leads_then (a_cu_up a) ties came = cu_up_leads reading n ue bearer sn quota p q along.leads a sound along.ties ties along.steady along.came came
+    leads_then (a_du a) ties came = du_leads reading n ue bearer sn quota p q along.leads a
+    leads_then (an_offer a) ties came = offer_leads reading n ue bearer sn quota p q along.leads a
+    leads_then (a_message a) ties came = message_leads reading n ue bearer sn quota p q along.leads a
+    leads_then (all_else a) ties came = beside_leads reading n ue bearer sn quota p q along.leads a
+
+    pub one_step : Step reading n ue bearer sn quota p q → owed.Step reading n ue bearer sn quota p q × IsAlong q
+    one_step step =
+        let its : owed.Step reading n ue bearer sn quota p q = as_owed step in
+        let next : later.Step reading n ue bearer sn quota p q × Steady q
+        = owed_step reading n ue bearer sn quota positive p q before after comes along.ties along.steady its in
+        let last : tied.Step reading n ue bearer sn quota p q × AreFresh n q.state q.up
+        = fresh_step reading n ue bearer sn quota p q before after comes along.ties along.fresh next.0 in
+        let both : Tied q × AreOrders reading n ue bearer sn quota p q = step_then reading n ue bearer sn quota p q sound along.ties last.0 in
+        let came : CameAbout sn quota q.down = goes_about p q along.came both.1 in
+        (its, record { ties = both.0; fresh = last.1; steady = next.1; came = came; leads = leads_then step both.0 came })
+
+  -- ---- steps, one after another
+
+  pub all_steps : (p q : Point) → IsAlong p → Steps reading n ue bearer sn quota p q → owed.Steps reading n ue bearer sn quota p q × IsAlong q
+  all_steps p q along (not_yet x) = (owed.not_yet x, along)
+  all_steps p q along (further x y z earlier before after comes step) =
+      let first = all_steps x y along earlier in
+      let one = one_step y z before after comes first.1 step in
+      (owed.further x y z first.0 before after comes one.0, one.1)
+
+  -- ---- the first parts, after the switch by which the first context has its downlink
+
+  first_about : (p : Point) (first teid : ℕ) (d : Downlink) → AreFirst first teid d p → CameAbout sn quota p.down
+  unfolding down_guards.AreKept down_guards.IsReady down_guards.IsOwed down_parts.start
+  first_about p first teid d are = record {
+    first = first;
+    teid = teid;
+    orders = down.switches first d 0 ∷ [];
+    is = are.down;
+    kept = (
+      ap (λ (t : Bool). (if t then down_parts.new_member false teid else down_parts.no_member).is_there) (number_same first),
+      (refl, omega arith),
+      tt,
+    );
+  }
+
+  pub delivers : (p q : Point) (first teid : ℕ) (d : Downlink) → AreFirst first teid d p → Tied p → IsOld n ue bearer p.state.units first → Leads p
+      → Steps reading n ue bearer sn quota p q → DeliverInOrder reading n ue bearer sn quota p q
+  delivers p q first teid d are ties old leads steps =
+      owed_delivers reading n ue bearer sn quota positive p q first teid d are ties old
+      (all_steps p q (record {
+        ties = ties;
+        fresh = starts_fresh n p.state p.up first teid are.up;
+        steady = first_steady reading n ue bearer sn quota positive first teid d p are ties old;
+        came = first_about p first teid d are;
+        leads = leads;
+      }) steps).0
+
+-- ---- from the first state of a run on
+
+module _ (reading : Reading) (n : Numbering) where
+  pub leads_there : LeadsAt reading n terminal its_bearer Len12 64 (begins reading n)
+  unfolding find put at made up_placed du_placed cp_placed new_ue down.run down.after down_parts.start
+  leads_there = record { path = record { up = CuUp A 1; n3 = n3_from 1 1 1 }; teid = 1; there = refl; one = refl; leads = refl }
+
+  pub delivers_on : NoneIsZero n → (q : Point) → Steps reading n terminal its_bearer Len12 64 (begins reading n) q
+      → DeliverInOrder reading n terminal its_bearer Len12 64 (begins reading n) q
+  delivers_on positive q steps =
+      delivers reading n terminal its_bearer Len12 64 positive (begins reading n) q (first_run.first n) (starts reading n).0 (starts reading n).1
+      (record { down = refl; up = refl }) (tied_there reading n) (first_old reading n positive) leads_there steps

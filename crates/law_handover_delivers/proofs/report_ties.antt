@@ -1,0 +1,3 @@
+pub mod Quiet
+pub mod Dus
+pub mod Cores

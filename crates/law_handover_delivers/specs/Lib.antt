@@ -1,0 +1,16 @@
+pub mod report_links
+pub mod down_reports
+pub mod down_report_ties
+pub mod way_links
+pub mod first_runs
+pub mod fresh_uplinks
+pub mod owed_orders
+pub mod report_orders
+pub mod down_report_frames
+pub mod owed_runs
+pub mod path_ties
+pub mod report_runs
+pub mod whole_runs
+pub mod down_report_runs
+pub mod way_steps
+pub mod guarded_runs

@@ -1,0 +1,61 @@
+-- Steps of a run beside the parts of one bearer, each to a later state of the run: that of an uplink whose TEID wasn't given yet the part
+-- has nothing is asked at the start alone.
+use Rattle.std.specs.Prelude.{◌≡◌, ◌≤◌, ℕ, [], List}
+use Rattle.gnb_types.specs.declared.names.Gnb.{Gnb}
+use Rattle.gnb_types.specs.declared.names.SnBits.{SnBits}
+use Rattle.gnb_types.specs.declared.names.UeId.{UeId}
+use Rattle.gnb_types.specs.declared.names.BearerId.{BearerId}
+use Rattle.message_types.specs.declared.rrc.Token.{Token}
+use Rattle.scenario_text.specs.declared.event.Event.{Event}
+use Rattle.unit_defs.specs.Ways.{Message, Pdu, Input, Output}
+use Rattle.run_defs.specs.Units.{up_of}
+use Rattle.run_defs.specs.Runs.{Reading, plain_world}
+use Rattle.proof_run_steps.specs.teids.Given.{below}
+use Rattle.law_terminals_are_isolated.specs.own_events.Passed.{Passes}
+use Rattle.bearer_defs.specs.uplink_defs.Parts as up_parts
+use Rattle.proof_cu_up_orders.specs.bearer_orders.Happenings.{Beside}
+use Rattle.proof_bearer_refinement.specs.law_run_units.Happenings.{UpRecord}
+use Rattle.proof_bearer_refinement.specs.run_bearers.Bearers.{Place, Numbering, contexts_of}
+use Rattle.proof_bearer_refinement.specs.tie_facts.Ties.{RunState}
+use Rattle.proof_bearer_refinement.specs.tie_facts.Asked.{RunCause, IsUpStep, AllAsk, down_after, up_after, step_asks}
+use Rattle.proof_bearer_refinement.specs.tied_runs.Steps.{Point, IsPassed, DuActs, CoreOffers, CoreTakes, StaysBeside}
+
+-- on an uplink whose TEID its CU-UP has not given yet no context has anything
+abbrev pub AreFresh : Numbering → RunState → up_parts.Part → Type 0
+AreFresh n s u =
+    (place : Place) (teid : ℕ) → below (up_of s.units place.gnb place.number).next_teid ≤ teid → (u.members (n.number_of place)).uplink teid ≡ []
+
+-- the run goes on from this state to that one, within an event
+abbrev pub Comes : Reading → RunState → RunState → Type 0
+Comes reading s t = (event : Event) × Passes (plain_world reading) event s t
+
+module _ (reading : Reading) (n : Numbering) (ue : UeId) (bearer : BearerId) (sn : SnBits) (quota : ℕ) where
+  -- a CU-UP acts, and each of its orders asks what it does: of uplinks nothing is asked
+  pub record CuUpActs (p q : Point) : Type 0 where
+    pub gnb : Gnb
+    pub number : ℕ
+    pub cause : RunCause
+    pub input : Input Token Pdu
+    pub outputs : List (Output (Message Token) Pdu)
+    pub left : UpRecord
+    pub beside : Beside
+    pub acts : IsUpStep reading p.state q.state gnb number cause input outputs left
+    pub asks : AllAsk n ue bearer p.state.units sn quota p.down p.up (contexts_of n ue bearer p.state.units)
+        (step_asks n ue bearer p.state gnb number cause input beside)
+    pub down : q.down ≡ down_after n ue bearer p.state.units sn quota p.down (contexts_of n ue bearer p.state.units)
+        (step_asks n ue bearer p.state gnb number cause input beside)
+    pub up : q.up ≡ up_after n ue bearer p.state.units sn quota p.up (contexts_of n ue bearer p.state.units)
+        (step_asks n ue bearer p.state gnb number cause input beside)
+
+  -- all other steps are those of `proof_bearer_refinement::tied_runs`
+  pub data Step (p q : Point) : Type 0 where
+    a_cu_up : (acts : CuUpActs p q) → Step p q
+    a_du : (acts : DuActs reading n ue bearer sn quota p q) → Step p q
+    an_offer : (offers : CoreOffers reading n ue bearer sn quota p q) → Step p q
+    a_message : (takes : CoreTakes reading n ue bearer sn quota p q) → Step p q
+    all_else : (stays : StaysBeside reading n ue bearer sn quota p q) → Step p q
+
+  -- one after another, each to a state that comes after the one before
+  pub data Steps : Point → Point → Type 0 where
+    not_yet : (p : Point) → Steps p p
+    further : (p q r : Point) → Steps p q → IsPassed reading q.state → IsPassed reading r.state → Comes reading q.state r.state → Step q r → Steps p r

@@ -1,0 +1,91 @@
+//! Laws of runs of which nothing is asked but what control owes: over any steps of them a bearer delivers in order, down and up, whatever is lost
+//! on F1-U. Each function does nothing: its contract is the law.
+//!
+//! Steps are those of `whole_runs`. Of a packet or a status report that the terminal takes nothing is owed: what stands on the tunnels and
+//! on the radio that lead to it is carried over the steps. Owed are, beside what `whole_runs` asks of a CU-UP, of the core and of a DU that
+//! takes what stands next on the radio up: that a DU takes a frame in the epoch of the terminal's radio only from a context that was switched for
+//! this radio (`OwesFrame`), what a switch names (`OwesSwitches`), that the bits of an SN status say what was carried up (`OwesStatuses`); and of
+//! the terminal where an arrival leads (`OwedArrivals`), and that it has room for a packet.
+
+ghost use Rattle.gnb_types.specs.declared.names.BearerId.{BearerId};
+ghost use Rattle.gnb_types.specs.declared.names.SnBits.TheVariants.{Len12};
+ghost use Rattle.gnb_types.specs.declared.names.SnBits.{SnBits};
+ghost use Rattle.gnb_types.specs.declared.names.UeId.{UeId};
+ghost use Rattle.law_handover_delivers.specs.first_runs.First.{AreFirst, DeliverInOrder};
+ghost use Rattle.proof_bearer_refinement.specs.first_ties.First.{first, start};
+ghost use Rattle.law_handover_delivers.specs.fresh_uplinks.Later.{Comes};
+ghost use Rattle.law_handover_delivers.specs.owed_orders.Steady.{IsOld};
+ghost use Rattle.law_handover_delivers.specs.owed_runs.Owing.{NoneIsZero};
+ghost use Rattle.law_handover_delivers.specs.path_ties.Paths.{LeadsAt};
+ghost use Rattle.proof_bearer_refinement.specs.put_ties.Worked.{bearer, terminal};
+ghost use Rattle.proof_bearer_refinement.specs.radio_ties.Radio.{IsAtTerminal};
+ghost use Rattle.law_handover_delivers.specs.report_runs.Steps.{IsKnownAt, ReportsAreTrueAt};
+ghost use Rattle.proof_bearer_refinement.specs.run_bearers.Bearers.{Numbering};
+ghost use Rattle.proof_bearer_refinement.specs.tied_runs.Steps.{IsPassed, IsTied, Point};
+ghost use Rattle.gnb_types.specs.declared.names.Gnb.TheVariants.{A};
+ghost use Rattle.gnb_types.specs.declared.names.NodeId.TheVariants.{Du};
+ghost use Rattle.message_types.specs.declared.rrc.Token.{Token};
+ghost use Rattle.unit_defs.specs.Ways.{Pdu, Input};
+ghost use Rattle.proof_cu_up_orders.specs.context_orders.Orders.{switches};
+ghost use Rattle.law_handover_delivers.specs.guarded_runs.Runs.{IsCarried, Step, Steps};
+ghost use Rattle.law_handover_delivers.specs.down_report_runs.Steps.{ReportsDownAreTrueAt};
+ghost use Rattle.law_handover_delivers.specs.way_steps.Way.{IsOnItsWay, OwesFrame, OwesSwitch};
+ghost use Rattle.law_handover_delivers.specs.whole_runs.Whole as whole;
+ghost use Rattle.law_handover_delivers.specs.whole_runs.Whole.{both};
+ghost use Rattle.run_defs.specs.Runs.{Reading};
+ghost use Rattle.std.specs.Prelude.{ℕ};
+ghost use Rattle.unit_defs.specs.UpRecords.{Downlink};
+
+/// Where all is so that laws of runs carry (`IsCarried`), each step is one of `whole_runs`, and all is so then.
+pub fn each_step_keeps_all()
+    ensures { (reading : Reading) (n : Numbering) (ue : UeId) (bearer : BearerId) (sn : SnBits)
+        (quota : ℕ) (p q : Point) → NoneIsZero n
+        → IsPassed reading p.state → IsPassed reading q.state → Comes reading p.state q.state
+        → IsCarried reading n ue bearer sn quota p → Step reading n ue bearer sn quota p q
+        → whole.Step reading n ue bearer sn quota p q × IsCarried reading n ue bearer sn quota q }
+{}
+
+/// So over any steps of a run, one after another.
+pub fn steps_keep_all()
+    ensures { (reading : Reading) (n : Numbering) (ue : UeId) (bearer : BearerId) (sn : SnBits)
+        (quota : ℕ) (p q : Point) → NoneIsZero n
+        → IsCarried reading n ue bearer sn quota p → Steps reading n ue bearer sn quota p q
+        → whole.Steps reading n ue bearer sn quota p q × IsCarried reading n ue bearer sn quota q }
+{}
+
+/// From a state to which the first parts of a bearer, after the switch by which its context has its downlink, are tied, and in which all
+/// else that is carried is so, with the way down and the reports on it: over any steps of the run what is delivered, down and up, is a prefix
+/// of what was offered meanwhile, each packet once, with COUNTs 0, 1, 2 and so on.
+pub fn runs_deliver_after_the_first_switch()
+    ensures { (reading : Reading) (n : Numbering) (ue : UeId) (bearer : BearerId) (sn : SnBits)
+        (quota : ℕ) (p q : Point) (first teid : ℕ) (d : Downlink) → NoneIsZero n
+        → AreFirst first teid d p → IsTied reading n ue bearer sn quota p
+        → IsOld n ue bearer p.state.units first → LeadsAt reading n ue bearer sn quota p
+        → ReportsAreTrueAt reading n ue bearer sn quota p → IsKnownAt reading n ue bearer sn quota p
+        → IsAtTerminal reading ue bearer p.state (both p) → IsOnItsWay n ue bearer p
+        → ReportsDownAreTrueAt reading n ue bearer sn quota p
+        → Steps reading n ue bearer sn quota p q
+        → DeliverInOrder reading n ue bearer sn quota p q }
+{}
+
+/// So from the first state of a run on, in which a terminal is set up without messages: over any steps from there its bearer delivers in
+/// order.
+pub fn a_terminal_delivers_in_order()
+    ensures { (reading : Reading) (n : Numbering) → NoneIsZero n
+        → (teid : ℕ) × (d : Downlink)
+        × IsTied reading n terminal bearer Len12 64 (start n teid d)
+        × IsAtTerminal reading terminal bearer (start n teid d).state (both (start n teid d))
+        × IsOnItsWay n terminal bearer (start n teid d)
+        × ((q : Point) → Steps reading n terminal bearer Len12 64 (start n teid d) q
+        → DeliverInOrder reading n terminal bearer Len12 64 (start n teid d) q) }
+{}
+
+/// What is owed of the way can be met: in that state, of its DU whatever it is given, and of a switch to this DU's tunnel.
+pub fn the_guards_can_be_met()
+    ensures { (reading : Reading) (n : Numbering) (input : Input Token Pdu)
+        → (teid : ℕ) × (d : Downlink)
+        × IsOnItsWay n terminal bearer (start n teid d)
+        × OwesFrame n terminal bearer (start n teid d) A 1 input
+        × OwesSwitch n terminal bearer (start n teid d) (first n) (start n teid d).down.epoch
+        (switches (Du A 1) 1) }
+{}

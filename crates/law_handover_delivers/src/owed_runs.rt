@@ -1,0 +1,62 @@
+//! Laws of runs of which of a CU-UP's steps only what control owes is asked, and of items what isn't shown yet. Each function does nothing:
+//! its contract is the law.
+
+ghost use Rattle.gnb_types.specs.declared.names.BearerId.{BearerId};
+ghost use Rattle.gnb_types.specs.declared.names.SnBits.TheVariants.{Len12};
+ghost use Rattle.gnb_types.specs.declared.names.SnBits.{SnBits};
+ghost use Rattle.gnb_types.specs.declared.names.UeId.{UeId};
+ghost use Rattle.law_handover_delivers.specs.first_runs.First.{AreFirst, DeliverInOrder};
+ghost use Rattle.proof_bearer_refinement.specs.first_ties.First.{start};
+ghost use Rattle.law_handover_delivers.specs.fresh_uplinks.Later as later;
+ghost use Rattle.law_handover_delivers.specs.fresh_uplinks.Later.{AreFresh, Comes};
+ghost use Rattle.law_handover_delivers.specs.owed_orders.Steady.{IsOld};
+ghost use Rattle.law_handover_delivers.specs.owed_runs.Owing.{IsSteadyAt, NoneIsZero, Step, Steps};
+ghost use Rattle.proof_bearer_refinement.specs.run_bearers.Bearers.{Numbering};
+ghost use Rattle.proof_bearer_refinement.specs.tied_runs.Steps.{IsPassed, IsTied, Point};
+ghost use Rattle.proof_bearer_refinement.specs.put_ties.Worked.{bearer, terminal};
+ghost use Rattle.run_defs.specs.Runs.{Reading};
+ghost use Rattle.std.specs.Prelude.{ℕ};
+ghost use Rattle.unit_defs.specs.UpRecords.{Downlink};
+
+/// Where the bearer's contexts are steady, a step to a later state of the run, of which of a CU-UP's orders only what is owed is asked, is
+/// one that `fresh_uplinks` takes, and they are steady then: a hop, once a freeze gave it, leads to the same other context, by the same
+/// two tunnels, as no TEID and no context comes twice.
+pub fn each_step_keeps_contexts_steady()
+    ensures { (reading : Reading) (n : Numbering) (ue : UeId) (bearer : BearerId) (sn : SnBits)
+        (quota : ℕ) (p q : Point) → NoneIsZero n
+        → IsPassed reading p.state → IsPassed reading q.state → Comes reading p.state q.state
+        → IsTied reading n ue bearer sn quota p → IsSteadyAt reading n ue bearer sn quota p
+        → Step reading n ue bearer sn quota p q
+        → later.Step reading n ue bearer sn quota p q × IsSteadyAt reading n ue bearer sn quota q }
+{}
+
+/// So over any steps of a run, one after another.
+pub fn steps_ask_what_is_owed()
+    ensures { (reading : Reading) (n : Numbering) (ue : UeId) (bearer : BearerId) (sn : SnBits)
+        (quota : ℕ) (p q : Point) → NoneIsZero n
+        → IsTied reading n ue bearer sn quota p → AreFresh n p.state p.up
+        → IsSteadyAt reading n ue bearer sn quota p → Steps reading n ue bearer sn quota p q
+        → later.Steps reading n ue bearer sn quota p q × IsSteadyAt reading n ue bearer sn quota q }
+{}
+
+/// From a state to which the first parts of a bearer, after the switch by which its context has its downlink, are tied, where the instance
+/// of this context was given: over any steps of the run what is delivered, down and up, is a prefix of what was offered meanwhile, each
+/// packet once, with COUNTs 0, 1, 2 and so on.
+pub fn runs_deliver_after_the_first_switch()
+    ensures { (reading : Reading) (n : Numbering) (ue : UeId) (bearer : BearerId) (sn : SnBits)
+        (quota : ℕ) (p q : Point) (first teid : ℕ) (d : Downlink) → NoneIsZero n
+        → AreFirst first teid d p → IsTied reading n ue bearer sn quota p
+        → IsOld n ue bearer p.state.units first
+        → Steps reading n ue bearer sn quota p q
+        → DeliverInOrder reading n ue bearer sn quota p q }
+{}
+
+/// So from the first state of a run on, in which a terminal is set up without messages: its parts are tied to it, and over any steps from
+/// there its bearer delivers in order.
+pub fn a_terminal_delivers_in_order()
+    ensures { (reading : Reading) (n : Numbering) → NoneIsZero n
+        → (teid : ℕ) × (d : Downlink)
+        × IsTied reading n terminal bearer Len12 64 (start n teid d)
+        × ((q : Point) → Steps reading n terminal bearer Len12 64 (start n teid d) q
+        → DeliverInOrder reading n terminal bearer Len12 64 (start n teid d) q) }
+{}

@@ -1,5 +1,0 @@
-use Rattle.law_handover_rows.proofs.Rows.{status_waits, status_begins}
-use Rattle.law_handover_rows.proofs.a_status_goes_on_from_the_source.Goals as goal
-
-pub returns : goal.returns
-returns c = record { before = λ way at. status_waits way at; arrived = λ way at. status_begins way at }

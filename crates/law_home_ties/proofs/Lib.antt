@@ -1,2 +1,0 @@
-pub mod Home
-pub use Rattle.law_beside_ties.proofs as law_beside_ties

@@ -1,8 +1,0 @@
-use Rattle.law_home_ties.proofs.Home.{acts, tied_then}
-use Rattle.law_home_ties.proofs.a_home_carries_what_stands_next.Goals as goal
-
-pub returns : goal.returns
-returns c = λ reading n ue bearer sn quota p q event tie gnb number item input outputs left passed tied acted step leads down_is up_is. (
-  acts reading n ue bearer sn quota p q event tie gnb number item input outputs left passed tied acted step leads down_is up_is,
-  tied_then reading n ue bearer sn quota p q event tie gnb number item input outputs left passed tied acted step leads down_is up_is,
-)

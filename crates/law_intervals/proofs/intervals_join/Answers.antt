@@ -1,5 +1,0 @@
-use Rattle.law_intervals.proofs.Intervals.{upto-length, upto-join}
-use Rattle.law_intervals.proofs.intervals_join.Goals as goal
-
-pub returns : goal.returns
-returns c = record { length_is = upto-length; joined = upto-join }

@@ -1,5 +1,0 @@
-use Rattle.law_item_fits.proofs.Items.{items_fit}
-use Rattle.law_item_fits.proofs.items_are_fit_but_for_control.Goals as goal
-
-pub returns : goal.returns
-returns c = λ reading events t is gnb number teid owner items is_open found. items_fit reading events t is gnb number teid owner items is_open found

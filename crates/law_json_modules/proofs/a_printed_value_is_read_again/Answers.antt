@@ -1,8 +1,0 @@
-use Rattle.json_proof_again.proofs.Law.{shown, again}
-use Rattle.law_json_modules.proofs.a_printed_value_is_read_again.Goals as goal
-
-pub returns-clause-is : goal.returns-clause-is
-returns-clause-is c = shown
-
-pub returns-clause-again : goal.returns-clause-again
-returns-clause-again c = again

@@ -1,5 +1,0 @@
-use Rattle.law_json_one.proofs.Law.{one_tree}
-use Rattle.law_json_one.proofs.json_of_a_value_is_one_tree.Goals as goal
-
-pub returns : goal.returns
-returns c = one_tree

@@ -1,9 +1,0 @@
-use Rattle.std.proofs.Common.{refl}
-use Rattle.std.specs.Fmt.{digits}
-use Rattle.serde_json.proofs.OnLiterals.{serde_json_on_literals}
-use Rattle.json_shown_defs.specs.Printed.{shown_as, components_shown, added_shown, part_shown, row_shown, contents_shown, outcome_shown}
-use Rattle.law_json_shown.proofs.worked_values_are_printed.Goals as goal
-
-pub returns : goal.returns
-unfolding digits shown_as components_shown added_shown part_shown row_shown contents_shown outcome_shown serde_json_on_literals
-returns c = refl

@@ -1,2 +1,0 @@
-pub mod Left
-pub use Rattle.law_tied_runs.specs as law_tied_runs

@@ -1,5 +1,0 @@
-use Rattle.law_link_items.proofs.Links.{octets_in_run}
-use Rattle.law_link_items.proofs.octets_are_of_their_links.Goals as goal
-
-pub returns : goal.returns
-returns c = λ reading events t is. octets_in_run reading events t is

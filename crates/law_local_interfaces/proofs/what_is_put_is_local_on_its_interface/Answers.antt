@@ -1,5 +1,0 @@
-use Rattle.law_local_interfaces.proofs.Whole.{local_on_interfaces}
-use Rattle.law_local_interfaces.proofs.what_is_put_is_local_on_its_interface.Goals as goal
-
-pub returns : goal.returns
-returns c = λ reading events is_spelled offers spelled. local_on_interfaces reading events is_spelled offers spelled

@@ -1,8 +1,0 @@
-use Rattle.law_message_ranges.proofs.InRangeF1 as f1
-use Rattle.law_message_ranges.proofs.InRangeE1 as e1
-use Rattle.law_message_ranges.proofs.InRangeXn as xn
-use Rattle.law_message_ranges.proofs.InRangeCore as core
-use Rattle.law_message_ranges.proofs.messages_in_range_are_values.Goals as goal
-
-pub returns : goal.returns
-returns c = record { f1 = f1.in_range; e1 = e1.in_range; xn = xn.in_range; core = core.in_range }

@@ -1,6 +1,0 @@
-use Rattle.law_own_events.proofs.law_own_steps.Runs.{sound_in_run}
-use Rattle.law_named_events.proofs.Named.{named_for}
-use Rattle.law_named_events.proofs.steps_of_an_event_for_a_terminal_are_its_own.Goals as goal
-
-pub returns : goal.returns
-returns c = λ reading events event s ue there its. named_for reading ue s (sound_in_run reading events s there) event its

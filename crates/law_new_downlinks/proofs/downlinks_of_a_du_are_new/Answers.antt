@@ -1,5 +1,0 @@
-use Rattle.law_new_downlinks.proofs.New.{is_new}
-use Rattle.law_new_downlinks.proofs.downlinks_of_a_du_are_new.Goals as goal
-
-pub returns : goal.returns
-returns c = λ way ue bearer r left input outputs answers. is_new way ue bearer r left input outputs answers

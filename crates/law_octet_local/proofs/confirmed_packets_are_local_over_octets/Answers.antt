@@ -1,5 +1,0 @@
-use Rattle.law_octet_local.proofs.Runs.{confirmed_local}
-use Rattle.law_octet_local.proofs.confirmed_packets_are_local_over_octets.Goals as goal
-
-pub returns : goal.returns
-returns g = λ codec items pdus reading near events are. confirmed_local reading near codec items pdus events are

@@ -1,5 +1,0 @@
-use Rattle.law_octet_ranges.proofs.Runs.{down_ranged}
-use Rattle.law_octet_ranges.proofs.packets_down_are_in_range.Goals as goal
-
-pub returns : goal.returns
-returns g = record { downs = λ reading. down_ranged ⊥ reading; confirmed = λ reading. down_ranged (Unit {0}) reading }

@@ -1,5 +1,0 @@
-use Rattle.law_octet_steady.proofs.Runs.{confirmed_print}
-use Rattle.law_octet_steady.proofs.confirmed_packets_print_the_same.Goals as goal
-
-pub returns : goal.returns
-returns g = λ codec items pdus reading near events are. confirmed_print reading near codec items pdus events are

@@ -1,5 +1,0 @@
-use Rattle.law_open_tunnels.proofs.CuUps.{cu_up_fits}
-use Rattle.law_open_tunnels.proofs.a_cu_up_shows_what_it_opens.Goals as goal
-
-pub returns : goal.returns
-returns g c = λ way r input. cu_up_fits way r input

@@ -1,9 +1,0 @@
-use Rattle.law_orders_kept.proofs.Down as down_proofs
-use Rattle.law_orders_kept.proofs.Up as up_proofs
-use Rattle.law_orders_kept.proofs.control_keeps_what_it_asks.Goals as goal
-
-pub returns : goal.returns
-returns g c = record {
-  down = λ s x p is known epoch final order tested asked owed. down_proofs.control_kept s x p is known epoch final order tested asked owed;
-  up = λ s x p is final order tested owed. up_proofs.control_kept s x p is final order tested owed;
-}

@@ -1,5 +1,0 @@
-use Rattle.law_packet_scripts.proofs.Runs.{bag_stays}
-use Rattle.law_packet_scripts.proofs.packets_need_no_control.Goals as goal
-
-pub returns : goal.returns
-returns c = λ reading events are s t is. bag_stays reading events are s t is

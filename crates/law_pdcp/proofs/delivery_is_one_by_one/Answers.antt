@@ -1,5 +1,0 @@
-use Rattle.law_pdcp.proofs.Delivering.{one_by_one, nothing_more}
-use Rattle.law_pdcp.proofs.delivery_is_one_by_one.Goals as goal
-
-pub returns : goal.returns
-returns c = record { some = one_by_one; none = nothing_more }

@@ -1,8 +1,0 @@
-use Rattle.law_radio_downs.proofs.Terminals.{owes_rest, down_then}
-use Rattle.law_radio_downs.proofs.a_terminal_takes_what_stands_first.Goals as goal
-
-pub returns : goal.returns
-returns c = λ reading event s t ue bearer b tie sn quota kept down some v cause input outputs step own to. (
-  owes_rest reading event s t ue bearer b tie sn quota kept down some v cause input outputs step own to,
-  down_then reading event s t ue bearer b tie sn quota kept down some v cause input outputs step own to,
-)

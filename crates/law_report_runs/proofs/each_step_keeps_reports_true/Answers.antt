@@ -1,5 +1,0 @@
-use Rattle.law_report_runs.proofs.Runs.{one_step}
-use Rattle.law_report_runs.proofs.each_step_keeps_reports_true.Goals as goal
-
-pub returns : goal.returns
-returns c = λ reading n ue bearer sn quota p q passed came told known step. one_step reading n ue bearer sn quota p q passed came told known step

@@ -1,3 +1,0 @@
-pub mod Reports
-pub mod Steps
-pub use Rattle.law_report_links.proofs as law_report_links

@@ -1,9 +1,0 @@
-use Rattle.law_report_terminals.proofs.Steps.{all_grow, terminal_keeps}
-use Rattle.law_report_terminals.proofs.a_terminal_keeps_reports_true.Goals as goal
-
-pub returns : goal.returns
-returns c = record {
-  keeps = λ reading event s t ue bearer b tie sn quota kept v cause input outputs step told.
-      terminal_keeps reading event s t ue bearer b tie sn quota kept v cause input outputs step told;
-  grows = λ d orders. all_grow d orders;
-}

@@ -1,0 +1,5 @@
+pub mod Ends
+pub mod Exactly
+pub mod Example
+pub mod Moves
+pub mod Replies

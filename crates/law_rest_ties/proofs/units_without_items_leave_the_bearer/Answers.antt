@@ -1,6 +1,0 @@
-use Rattle.law_rest_ties.proofs.Rest.{bearer_is_left}
-use Rattle.law_rest_ties.proofs.units_without_items_leave_the_bearer.Goals as goal
-
-pub returns : goal.returns
-returns c = λ reading n ue bearer s t event cause outputs units lines passed acted quiet goes_on.
-    bearer_is_left reading n ue bearer s t event cause outputs units lines passed acted quiet goes_on

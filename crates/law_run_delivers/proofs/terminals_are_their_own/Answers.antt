@@ -1,5 +1,0 @@
-use Rattle.law_run_delivers.proofs.Plans.{plans_are_own}
-use Rattle.law_run_delivers.proofs.terminals_are_their_own.Goals as goal
-
-pub returns : goal.returns
-returns c = λ reading events t is. plans_are_own reading events t is

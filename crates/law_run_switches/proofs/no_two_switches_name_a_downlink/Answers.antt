@@ -1,5 +1,0 @@
-use Rattle.law_run_switches.proofs.Runs.{named_once}
-use Rattle.law_run_switches.proofs.no_two_switches_name_a_downlink.Goals as goal
-
-pub returns : goal.returns
-returns c = λ reading events t s is. named_once reading t events s is

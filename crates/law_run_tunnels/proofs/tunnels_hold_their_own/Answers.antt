@@ -1,5 +1,0 @@
-use Rattle.law_run_tunnels.proofs.Runs.{own_in_runs}
-use Rattle.law_run_tunnels.proofs.tunnels_hold_their_own.Goals as goal
-
-pub returns : goal.returns
-returns c = λ reading events t there. own_in_runs reading events t there

@@ -1,5 +1,0 @@
-use Rattle.law_set_up_ties.proofs.SetUp.{is_left}
-use Rattle.law_set_up_ties.proofs.a_set_up_leaves_other_bearers.Goals as goal
-
-pub returns : goal.returns
-returns c = λ reading n ue bearer s plan passed passed_then free teids apart. is_left reading n ue bearer s plan passed passed_then free teids apart

@@ -1,2 +1,0 @@
-pub mod Owners
-pub use Rattle.law_tunnel_owners.proofs as law_tunnel_owners

@@ -1,2 +1,0 @@
-pub mod Steady
-pub use Rattle.unit_defs.specs as unit_defs

@@ -1,5 +1,0 @@
-use Rattle.law_steps.proofs.Runs.{made_of_steps}
-use Rattle.law_steps.proofs.events_are_made_of_steps.Goals as goal
-
-pub returns : goal.returns
-returns g c = λ world event s. made_of_steps world event s

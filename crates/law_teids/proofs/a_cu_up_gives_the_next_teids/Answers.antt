@@ -1,5 +1,0 @@
-use Rattle.law_teids.proofs.CuUps.{cu_up_gives}
-use Rattle.law_teids.proofs.a_cu_up_gives_the_next_teids.Goals as goal
-
-pub returns : goal.returns
-returns g c = λ way r input. cu_up_gives way r input

@@ -1,5 +1,0 @@
-use Rattle.law_teids.proofs.Dus.{du_gives}
-use Rattle.law_teids.proofs.a_du_gives_the_next_teids.Goals as goal
-
-pub returns : goal.returns
-returns g c = λ way r input. du_gives way r input

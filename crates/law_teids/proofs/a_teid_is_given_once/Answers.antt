@@ -1,9 +1,0 @@
-use Rattle.law_teids.proofs.Runs.{given_once}
-use Rattle.law_teids.proofs.UnitRuns.{given_once_by_units}
-use Rattle.law_teids.proofs.a_teid_is_given_once.Goals as goal
-
-pub returns-clause-run : goal.returns-clause-run
-returns-clause-run c = λ reading events s t is. given_once reading events s t is
-
-pub returns-clause-units : goal.returns-clause-units
-returns-clause-units c = λ codec events s t is. given_once_by_units codec events s t is

@@ -1,1 +1,0 @@
-pub use Rattle.law_slices.specs as law_slices

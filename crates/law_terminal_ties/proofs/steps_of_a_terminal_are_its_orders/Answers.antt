@@ -1,8 +1,0 @@
-use Rattle.law_terminal_ties.proofs.Steps.{stays, tied}
-use Rattle.law_terminal_ties.proofs.steps_of_a_terminal_are_its_orders.Goals as goal
-
-pub returns : goal.returns
-returns c = λ reading n ue bearer sn quota p q event tie v cause input outputs to passed step acted owed down_is up_is. (
-  stays reading n ue bearer sn quota p q event tie v cause input outputs to passed step acted owed down_is up_is,
-  tied reading n ue bearer sn quota p q event tie v cause input outputs to passed step acted owed down_is up_is,
-)

@@ -1,0 +1,4 @@
+pub mod Opens
+pub mod Ticks
+pub mod Placed
+pub mod Shares

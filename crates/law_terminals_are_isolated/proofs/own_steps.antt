@@ -1,0 +1,4 @@
+pub mod Closed
+pub mod Steps
+pub mod Leaves
+pub mod Runs

@@ -1,0 +1,5 @@
+pub mod Sorted
+pub mod Runs
+pub mod Dues
+pub mod Ticks
+pub mod Told

@@ -1,0 +1,16 @@
+pub mod slices
+pub mod du_slice
+pub mod cp_slice
+pub mod up_slice
+pub mod tick_slices
+pub mod run_slices
+pub mod slice_arguments
+pub mod others_stay
+pub mod own_steps
+pub mod own_events
+pub mod named_events
+pub mod all_steps
+pub mod run_ticks
+pub mod alike_steps
+pub mod alike_states
+pub mod two_runs

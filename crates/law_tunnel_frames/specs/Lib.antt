@@ -1,8 +1,0 @@
-pub mod OneTunnel
-pub use Rattle.law_frames.specs.gnb_types as gnb_types
-pub use Rattle.law_frames.specs.tables as tables
-pub use Rattle.law_frames.specs.message_types as message_types
-pub use Rattle.law_frames.specs.pdcp as pdcp
-pub use Rattle.law_frames.specs.transaction_defs as transaction_defs
-pub use Rattle.law_frames.specs.pdcp_defs as pdcp_defs
-pub use Rattle.law_frames.specs.unit_defs as unit_defs

@@ -1,5 +1,0 @@
-use Rattle.law_tunnel_numbers.proofs.Runs.{run_is_numbered}
-use Rattle.law_tunnel_numbers.proofs.frames_of_a_tunnel_are_numbered.Goals as goal
-
-pub returns : goal.returns
-returns c = λ reading events end. run_is_numbered reading events end

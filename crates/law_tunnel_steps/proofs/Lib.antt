@@ -1,2 +1,0 @@
-pub mod Tracks
-pub use Rattle.law_steps.proofs as law_steps

@@ -1,0 +1,5 @@
+pub mod Owners
+pub mod Laid
+pub mod Held
+pub mod Placed
+pub mod Runs

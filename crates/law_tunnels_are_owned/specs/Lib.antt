@@ -1,0 +1,9 @@
+pub mod link_items
+pub mod laid_out
+pub mod open_tunnels
+pub mod owner_facts
+pub mod tunnel_book
+pub mod run_tunnels
+pub mod run_lengths
+pub mod item_fits
+pub mod new_downlinks

@@ -1,5 +1,0 @@
-use Rattle.law_two_runs.proofs.Lives.{each_lives}
-use Rattle.law_two_runs.proofs.each_run_has_acts_for_a_terminal.Goals as goal
-
-pub returns : goal.returns
-returns c = λ reading ue t after. each_lives reading ue t after

@@ -1,6 +1,0 @@
-use Rattle.law_um_run.proofs.Gaps.{passes}
-use Rattle.law_um_run.proofs.a_gap_is_passed_after_all_ticks.Goals as goal
-
-pub returns : goal.returns
-returns c = λ sn ticks all event before printed after reached goes count from none less.
-    passes sn ticks all event before printed after reached goes count from none less

@@ -1,5 +1,0 @@
-use Rattle.law_um_run.proofs.Scripts.{all_rise}
-use Rattle.law_um_run.proofs.delivered_counts_of_scripts_rise.Goals as goal
-
-pub returns : goal.returns
-returns c = all_rise

@@ -1,5 +1,0 @@
-use Rattle.law_um_run.proofs.Rising.{rises}
-use Rattle.law_um_run.proofs.delivered_counts_rise.Goals as goal
-
-pub returns : goal.returns
-returns c = λ sn ticks all event before printed after reached goes. rises sn ticks all event before printed after reached goes

@@ -1,5 +1,0 @@
-use Rattle.law_um_run.proofs.Scripts.{all_offered}
-use Rattle.law_um_run.proofs.delivered_packets_of_scripts_were_offered.Goals as goal
-
-pub returns : goal.returns
-returns c = all_offered

@@ -1,5 +1,0 @@
-use Rattle.law_um_text.proofs.LineLaws.{one_line}
-use Rattle.law_um_text.proofs.texts_tell_lines_apart.Goals as goal
-
-pub returns : goal.returns
-returns c = one_line

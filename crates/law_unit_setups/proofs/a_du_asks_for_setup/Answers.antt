@@ -1,6 +1,0 @@
-use Rattle.gnb_types.specs.declared.names.NodeId.TheVariants.{Core}
-use Rattle.law_unit_setups.proofs.Dus.{du_asks}
-use Rattle.law_unit_setups.proofs.a_du_asks_for_setup.Goals as goal
-
-pub returns : goal.returns
-returns g c = λ talk r sorted input. du_asks talk Core r sorted input

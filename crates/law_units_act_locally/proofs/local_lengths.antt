@@ -1,0 +1,4 @@
+pub mod Attach
+pub mod Comes
+pub mod Tells
+pub mod Runs

@@ -1,5 +1,0 @@
-use Rattle.law_uplink.proofs.Reports.{reports_carried}
-use Rattle.law_uplink.proofs.reports_say_what_was_carried.Goals as goal
-
-pub returns : goal.returns
-returns c = record { carried = λ first teid orders more i kept said. reports_carried first teid orders more i kept said }

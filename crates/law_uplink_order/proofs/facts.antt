@@ -1,0 +1,5 @@
+pub mod Items
+pub mod Receivers
+pub mod Facts
+pub mod Frames
+pub mod Contexts

@@ -1,0 +1,4 @@
+pub mod Takes
+pub mod Relays
+pub mod Handing
+pub mod Ends

@@ -1,0 +1,5 @@
+pub mod Runs
+pub mod Laws
+pub mod Reports
+pub mod Relayed
+pub mod Rest

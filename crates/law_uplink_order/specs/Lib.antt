@@ -1,0 +1,3 @@
+pub mod uplink
+pub mod gone
+pub mod closing

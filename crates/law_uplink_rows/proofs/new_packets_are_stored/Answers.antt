@@ -1,5 +1,0 @@
-use Rattle.law_uplink_rows.proofs.Rows.{takes_new, relays_new}
-use Rattle.law_uplink_rows.proofs.new_packets_are_stored.Goals as goal
-
-pub returns : goal.returns
-returns c = record { delivered = λ way at. takes_new way at; forwarded = λ way at. relays_new way at }

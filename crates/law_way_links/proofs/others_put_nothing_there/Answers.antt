@@ -1,7 +1,0 @@
-use Rattle.law_report_ties.proofs.Quiet.{puts_fit}
-use Rattle.law_way_links.proofs.Tunnels.{step_from}
-use Rattle.law_way_links.proofs.others_put_nothing_there.Goals as goal
-
-pub returns : goal.returns
-returns c = λ reading event s t gnb number teid cause outputs units lines passed acted is far items there.
-    step_from gnb number teid reading cause outputs units s t lines is far (puts_fit reading s event cause outputs units passed acted) items there

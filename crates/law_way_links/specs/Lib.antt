@@ -1,2 +1,0 @@
-pub mod Links
-pub use Rattle.law_frame_ties.specs as law_frame_ties

@@ -1,2 +1,0 @@
-//! Definitions alone: what octets say on a link and on a radio, as functions that read them.
-#![tactic(auto)]

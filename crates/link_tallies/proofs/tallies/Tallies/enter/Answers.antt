@@ -1,8 +1,0 @@
-use Rattle.std.proofs.Common.{sym}
-use Rattle.link_tallies.proofs.SoundLemmas.{tried_are_sound}
-use Rattle.link_tallies.proofs.tallies.Tallies.enter.Goals as goal
-
-pub invariant_of-self-2 : goal.invariant_of-self-2
-invariant_of-self-2 c =
-    tried_are_sound c.self.inside.tallies c.args.key c.in-Some.tally.now c.enter.new.self c.args.count c.enter.result c.self.invariant
-    (c.self.invariant c.args.key c.in-Some.tally.now (sym c.in-Some.ensures.value)) c.enter.ensures.ok c.enter.ensures.err

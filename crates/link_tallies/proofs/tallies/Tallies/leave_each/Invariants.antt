@@ -1,9 +1,0 @@
-use Rattle.std.proofs.Common.{◌≡◌, length}
-use Rattle.link_tallies.specs.Tallies.{all_left}
-use Rattle.link_tallies.proofs.tallies.Tallies.leave_each.Given as goal
-
-abbrev pub invariant-loop-item : goal.invariant-loop-item
-invariant-loop-item g l = all_left l.self l.items.items ≡ all_left l.initial.self l.initial.items.items
-
-abbrev pub decreases-loop-item : goal.decreases-loop-item
-decreases-loop-item g l = length l.items.items

@@ -1,0 +1,3 @@
+pub mod BagLemmas
+pub mod Entries
+pub use Rattle.links.proofs.link_tallies as link_tallies

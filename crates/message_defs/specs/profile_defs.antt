@@ -1,0 +1,9 @@
+pub mod Forms
+pub mod BaseTypes
+pub mod Compounds
+pub mod Tokens
+pub mod Elements
+pub mod Tables
+pub mod Messages
+pub mod Profile
+pub mod Agreement

@@ -1,1 +1,0 @@
-pub use Rattle.gnb_types.proofs as gnb_types

@@ -1,1 +1,0 @@
-pub use Rattle.gnb_types.specs as gnb_types

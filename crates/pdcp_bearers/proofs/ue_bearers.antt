@@ -1,0 +1,11 @@
+pub mod DownLemmas
+pub mod FreedLemmas
+pub mod KeptLemmas
+pub mod NumberLemmas
+pub mod PutLemmas
+pub mod RefLemmas
+pub mod RestoreLemmas
+pub mod SeenLemmas
+pub mod StoreLemmas
+pub mod StoredLemmas
+pub mod UpLemmas

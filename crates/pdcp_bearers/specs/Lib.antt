@@ -1,0 +1,2 @@
+pub mod ue_bearers
+pub mod ue_packets

@@ -1,0 +1,3 @@
+pub mod Downlinks
+pub mod Uplinks
+pub mod inside

@@ -1,0 +1,2 @@
+pub mod Bearers
+pub use Rattle.pdcp_bearers.specs.ue_bearers as ue_bearers

@@ -1,0 +1,1 @@
+//! Definitions alone: the pool of packets, with its references, quotas and parked places.

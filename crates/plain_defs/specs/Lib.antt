@@ -1,2 +1,0 @@
-pub mod Plain
-pub use Rattle.run_defs.specs as run_defs

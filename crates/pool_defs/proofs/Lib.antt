@@ -1,2 +1,0 @@
-pub mod PoolLaws
-pub use Rattle.tables.proofs as tables

@@ -1,2 +1,0 @@
-pub mod Pools
-pub use Rattle.tables.specs as tables

@@ -1,0 +1,4 @@
+mod XnForms
+mod XnAlike
+mod XnFound
+pub mod Spellings

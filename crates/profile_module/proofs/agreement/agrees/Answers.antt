@@ -1,7 +1,0 @@
-use Rattle.std.proofs.Common.{sym, subst}
-use Rattle.profile_proof_text.specs.profile_defs.Profile.{profile_types}
-use Rattle.profile_proof_text.specs.profile_defs.Agreement.{Agrees}
-use Rattle.profile_module.proofs.agreement.agrees.Goals as goal
-
-pub differing-requires : goal.differing-requires
-differing-requires c = subst (Agrees (profile_types 1)) (sym c.module-own.ensures.syntax) c.in_ok-profile.ensures.agrees

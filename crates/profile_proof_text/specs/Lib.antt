@@ -1,2 +1,0 @@
-pub mod Texts
-pub use Rattle.profile_defs.specs as profile_defs

@@ -1,2 +1,0 @@
-pub mod Types
-pub use Rattle.profile_proof_trees.specs.aper_types as aper_types

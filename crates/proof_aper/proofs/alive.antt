@@ -1,0 +1,4 @@
+pub mod Allowed
+pub mod Steps
+pub mod Alive
+pub mod AliveForms

@@ -1,0 +1,5 @@
+pub mod Standing
+pub mod NumberFacts
+pub mod ForthNumbers
+pub mod ForthStrings
+pub mod Forth

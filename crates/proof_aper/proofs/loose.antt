@@ -1,0 +1,5 @@
+pub mod Following
+pub mod FollowNumbers
+pub mod FollowStrings
+pub mod FollowForms
+pub mod Determined

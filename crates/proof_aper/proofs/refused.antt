@@ -1,0 +1,2 @@
+pub mod WrongPlaces
+pub mod Refused

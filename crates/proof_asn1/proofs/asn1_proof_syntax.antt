@@ -1,0 +1,10 @@
+pub mod Exact
+pub mod Gives
+pub mod Sim
+pub mod SizeSims
+pub mod MemberSims
+pub mod TypeSims
+pub mod RowSims
+pub mod ModuleSims
+pub mod Streams
+pub mod Readings

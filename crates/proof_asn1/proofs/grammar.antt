@@ -1,0 +1,4 @@
+pub mod Predict
+pub mod Decide
+pub mod Makes
+pub mod Steps

@@ -1,0 +1,3 @@
+pub mod asn1_proof_syntax
+pub mod items
+pub mod values

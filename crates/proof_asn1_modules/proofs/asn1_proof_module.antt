@@ -1,0 +1,5 @@
+pub mod Judgements
+pub mod Faults
+pub mod Parts
+pub mod TypeBounds
+pub mod ModuleBounds

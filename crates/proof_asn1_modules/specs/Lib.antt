@@ -1,0 +1,2 @@
+pub mod asn1_proof_module
+pub mod ranks

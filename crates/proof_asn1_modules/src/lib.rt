@@ -1,0 +1,8 @@
+//! proof_asn1_modules: what stood in 2 crates
+//!
+//! - `asn1_proof_module`: Laws of modules that are read: each text has one reading or one fault, and a module keeps to the bounds of the profile.
+//! - `ranks`: Law: the types of a module have ranks, which fall from a type to each type that it leads to.
+#![tactic(auto)]
+
+pub mod asn1_proof_module;
+pub mod ranks;

@@ -1,0 +1,5 @@
+pub mod Tables
+pub mod Runs
+pub mod Dus
+pub mod Ups
+pub mod Core

@@ -1,0 +1,4 @@
+pub mod Apart
+pub mod Stands
+pub mod Listed
+pub mod Dus

@@ -1,0 +1,5 @@
+pub mod Lists
+pub mod Puts
+pub mod Taken
+pub mod Terminals
+pub mod Others

@@ -1,0 +1,193 @@
+-- A terminal's step leaves the bearer's contexts and tunnels, and is its input's orders.
+use Rattle.std.proofs.Common.{◌≡◌, ℕ, ◌+◌, ◌==◌, Bool, true, false, ◌&&◌, nat_lt, nat_le, length, List, [], ◌∷◌, map, Option, Some, None, refl, sym, ap, subst, ◌∙◌}
+use Rattle.std.specs.Prelude.{if◌then◌else◌}
+use Rattle.std.specs.List.{AllByRecursion}
+use Rattle.std.specs.Ordering.{eq_by_cmp}
+use Rattle.gnb_types.specs.declared.names.NodeId.{NodeId}
+use Rattle.gnb_types.specs.declared.names.NodeId.TheVariants.{CuCp, CuUp, Du, Core, Ue}
+use Rattle.gnb_types.specs.declared.names.SnBits.{SnBits}
+use Rattle.gnb_types.specs.declared.names.UeId.{UeId}
+use Rattle.gnb_types.specs.declared.names.BearerId.{BearerId}
+use Rattle.gnb_types.specs.declared.names.Dir.TheVariants.{Dl, Ul}
+use Rattle.gnb_types.specs.declared.inputs.Order.{Order as UeOrder}
+use Rattle.gnb_types.specs.declared.inputs.Order.TheVariants as orders
+use Rattle.gnb_types.specs.Orders.{bearer_cmp}
+use Rattle.message_types.specs.declared.rrc.Token.{Token}
+use Rattle.message_types.specs.declared.rrc.Token.TheVariants as tokens
+use Rattle.scenario_text.specs.declared.event.Event.{Event}
+use Rattle.pdcp_defs.specs.Receivers.{is_duplicate, is_ahead}
+use Rattle.unit_defs.specs.declared.UeState.{UeState}
+use Rattle.unit_defs.specs.declared.UeState.TheVariants as states
+use Rattle.unit_defs.specs.Ways.{Message, f1, e1, xn, core, rrc, Pdu, packet_content, report_content, Content, Input, control_input, packet_input, radio_input, confirm_input, offer_input, tick_input, order_input, Output}
+use Rattle.unit_defs.specs.Ue.{UeNode, largest_packet, is_connected, is_accessing, may_return, may_obey, used_uplink}
+use Rattle.run_defs.specs.Units.{with_ue}
+use Rattle.run_defs.specs.Written.{written_put}
+use Rattle.run_defs.specs.States.{sn_of}
+use Rattle.run_defs.specs.Runs.{Reading, plain_world, plain_way}
+use Rattle.proof_run_steps.specs.steps.Causes.{node_of}
+use Rattle.bearer_defs.specs.chain_defs.Orders as down
+use Rattle.bearer_defs.specs.uplink_defs.Orders as up
+use Rattle.proof_bearer_refinement.specs.run_bearers.Bearers.{Numbering}
+use Rattle.proof_node_orders.specs.terminal_rows.Shown.{numbering}
+use Rattle.proof_node_orders.specs.terminal_inputs.Inputs.{Parts, Orders, none, of_command, of_accepted, of_token, of_letter, of_taken, of_pdu, of_confirmed, offered_to, of_offer, of_arrival, of_return, of_order, if_here, orders_by, IsOwedFor, AllKept}
+use Rattle.proof_node_orders.proofs.terminal_inputs.Kept.{input_kept}
+use Rattle.law_terminals_are_isolated.specs.own_steps.Own.{IsActed}
+use Rattle.proof_run_steps.specs.law_run_links.Own.{HoldTheirOwn}
+use Rattle.law_terminals_are_isolated.proofs.own_events.Passed.{sound_past}
+use Rattle.proof_bearer_refinement.specs.tied_runs.Steps.{Point, IsPassed, IsOfRadio, IsOfTerminal, IsLeft, StaysBeside}
+use Rattle.proof_bearer_refinement.specs.rest_ties.Nodes.{PutsNoItem}
+use Rattle.proof_bearer_refinement.proofs.rest_ties.Rest.{bearer_is_left}
+use Rattle.proof_bearer_refinement.specs.radio_ties.Radio.{RunCause, IsAtTerminal, IsUeStep, OwedOnRadio}
+use Rattle.proof_bearer_refinement.proofs.radio_ties.Terminals.{terminal_then, owed_then, own_orders}
+use Rattle.proof_bearer_refinement.specs.terminal_ties.Owed.{both, OwedStill}
+
+-- ---- the orders down are those of the terminal and its radio
+
+module _ (u : UeNode) (b : Parts) where
+  abbrev Own : Orders → Type 0
+  Own o = AllByRecursion IsOfRadio o.down
+
+  own_if : (t : Bool) (o : Orders) → Own o → Own (if t then o else none)
+  own_if true o h = h
+  own_if false o h = tt
+
+  own_accepted : (x : UeState) → Own (of_accepted plain_way u b x)
+  own_accepted states.Returning = tt
+  own_accepted states.Idle = tt
+  own_accepted states.Connected = tt
+  own_accepted states.Accessing = tt
+  own_accepted states.Lost = tt
+
+  own_token : (token : Token) → Own (of_token plain_way u b token)
+  own_token (tokens.Command ue epoch gnb du) =
+      own_if (ue.0 == u.plan.ue.0) (of_command plain_way u b epoch)
+      (own_if (may_obey plain_way u.state && epoch == u.epoch + 1) (record { up = up.leaves ∷ []; down = [] }) tt)
+  own_token (tokens.Accepted ue epoch) =
+      own_if (ue.0 == u.plan.ue.0) (if epoch == u.epoch then of_accepted plain_way u b u.state else none)
+      (own_if (epoch == u.epoch) (of_accepted plain_way u b u.state) (own_accepted u.state))
+  own_token (tokens.Complete ue epoch) = tt
+  own_token (tokens.Reestablish ue epoch) = tt
+
+  own_letter : (from : NodeId) (message : Message Token) → Own (of_letter plain_way u b from message)
+  own_letter (Du gnb number) (rrc token) = own_token token
+  own_letter (Du gnb number) (f1 message) = tt
+  own_letter (Du gnb number) (e1 message) = tt
+  own_letter (Du gnb number) (xn message) = tt
+  own_letter (Du gnb number) (core message) = tt
+  own_letter (CuCp gnb) message = tt
+  own_letter (CuUp gnb number) message = tt
+  own_letter Core message = tt
+  own_letter (Ue ue) message = tt
+
+  own_taken : (old ahead : Bool) (count : ℕ) (packet : List ℕ) → Own (of_taken plain_way u b old ahead count packet)
+  own_taken true ahead count packet = (tt, tt)
+  own_taken false true count packet = tt
+  own_taken false false count packet = (tt, tt)
+
+  own_pdu : (content : Content) → Own (of_pdu plain_way u b content)
+  own_pdu (packet_content None packet) = tt
+  own_pdu (packet_content (Some count) packet) = own_taken (is_duplicate b.down.terminal count) (is_ahead u.plan.quota b.down.terminal count) count packet
+  own_pdu (report_content fmc bits) = tt
+
+  own_confirmed : (content : Content) → Own (of_confirmed plain_way u b content)
+  own_confirmed (packet_content None packet) = tt
+  own_confirmed (packet_content (Some count) packet) = tt
+  own_confirmed (report_content fmc bits) = tt
+
+  own_arrival : (to : Option ℕ) → Own (of_arrival plain_way u b to)
+  own_arrival None = (tt, tt)
+  own_arrival (Some x) = (tt, tt)
+
+  own_return : (home : Option NodeId) → Own (of_return plain_way u b home)
+  own_return None = tt
+  own_return (Some home) = own_if (may_return u.state) (record { up = []; down = down.fails ∷ [] }) (tt, tt)
+
+  own_order : (to : Option ℕ) (order : UeOrder) → Own (of_order plain_way u b to order)
+  own_order to (orders.Arrive ue) = own_if (is_accessing u.state) (of_arrival plain_way u b to) (own_arrival to)
+  own_order to (orders.Return ue) = own_return u.home
+  own_order to (orders.Fail ue) = own_if (is_connected u.state) (record { up = up.leaves ∷ []; down = [] }) tt
+  own_order to orders.Start = tt
+  own_order to (orders.Attach plan) = tt
+  own_order to (orders.Handover plan) = tt
+  own_order to (orders.Cancel ue) = tt
+  own_order to (orders.Release ue) = tt
+  own_order to (orders.Poll ue other) = tt
+
+  own_offer : (large full : Bool) (os : List up.Order) → Own (if large then none else (if full then none else record { up = os; down = [] }))
+  own_offer true full os = tt
+  own_offer false true os = tt
+  own_offer false false os = tt
+
+  own_down : (bearer : BearerId) (to : Option ℕ) (input : Input Token Pdu) → Own (orders_by plain_way u b bearer to input)
+  unfolding orders_by
+  own_down bearer to (control_input from message) = own_letter from message
+  own_down bearer to (radio_input ue other Dl pdu content) = own_if (eq_by_cmp bearer_cmp bearer other) (of_pdu plain_way u b content) (own_pdu content)
+  own_down bearer to (radio_input ue other Ul pdu content) = tt
+  own_down bearer to (confirm_input ue other Ul pdu content) =
+      own_if (eq_by_cmp bearer_cmp bearer other) (of_confirmed plain_way u b content) (own_confirmed content)
+  own_down bearer to (confirm_input ue other Dl pdu content) = tt
+  own_down bearer to (offer_input ue other packet) =
+      own_if (eq_by_cmp bearer_cmp bearer other) (of_offer plain_way u b packet)
+      (own_offer (nat_lt largest_packet (length packet)) (nat_le u.plan.quota (used_uplink plain_way b.up.terminal))
+      (up.offers packet ∷ numbering u (offered_to plain_way u b packet)))
+  own_down bearer to tick_input = tt
+  own_down bearer to (order_input order) = own_order to order
+  own_down bearer to (packet_input teid item) = tt
+
+  owed_for : (bearer : BearerId) (to : Option ℕ) (input : Input Token Pdu) → OwedStill u b bearer to input → OwedOnRadio bearer b.up input
+      → IsOwedFor plain_way u b bearer to input
+  unfolding IsOwedFor
+  owed_for bearer to (control_input from message) still radio = tt
+  owed_for bearer to (radio_input ue other Dl pdu content) still radio = still
+  owed_for bearer to (radio_input ue other Ul pdu content) still radio = tt
+  owed_for bearer to (confirm_input ue other Ul pdu (packet_content None packet)) still radio = λ here. tt
+  owed_for bearer to (confirm_input ue other Ul pdu (packet_content (Some count) packet)) still radio = radio
+  owed_for bearer to (confirm_input ue other Ul pdu (report_content fmc bits)) still radio = λ here. tt
+  owed_for bearer to (confirm_input ue other Dl pdu content) still radio = tt
+  owed_for bearer to (offer_input ue other packet) still radio = tt
+  owed_for bearer to tick_input still radio = tt
+  owed_for bearer to (order_input order) still radio = still
+  owed_for bearer to (packet_input teid item) still radio = tt
+
+module _ (reading : Reading) (n : Numbering) (ue : UeId) (bearer : BearerId) (sn : SnBits) (quota : ℕ) (p q : Point) (event : Event)
+    (tie : IsAtTerminal reading ue bearer p.state (both p)) (v : UeNode) (cause : RunCause) (input : Input Token Pdu)
+    (outputs : List (Output (Message Token) Pdu)) (to : Option ℕ) (passed : IsPassed reading p.state)
+    (step : IsUeStep reading event p.state q.state ue tie.terminal v cause input outputs)
+    (acted : IsActed (plain_world reading) event p.state cause (map (written_put (sn_of p.state)) outputs) (with_ue p.state.units ue v))
+    (owed : OwedStill tie.terminal (both p) bearer to input)
+    (down_is : q.down ≡ down.run p.down (orders_by plain_way tie.terminal (both p) bearer to input).down)
+    (up_is : q.up ≡ up.run p.up (orders_by plain_way tie.terminal (both p) bearer to input).up) where
+  own : HoldTheirOwn p.state
+  own = (sound_past reading passed.events passed.event passed.before passed.there p.state passed.passes).radios
+
+  abbrev o : Orders
+  o = orders_by plain_way tie.terminal (both p) bearer to input
+
+  asks : AllKept (both p) o
+  asks =
+      input_kept plain_way tie.terminal (both p) tie.shown.seen.connected bearer to input
+      (owed_for tie.terminal (both p) bearer to input owed
+      (owed_then reading event p.state q.state ue bearer (both p) tie v cause input outputs step own to))
+
+  left : IsLeft n ue bearer p.state q.state
+  left =
+      bearer_is_left reading n ue bearer p.state q.state event cause (map (written_put (sn_of p.state)) outputs) (with_ue p.state.units ue v) step.lines passed
+      acted (subst (λ (node : NodeId). PutsNoItem node) (sym step.node) tt) step.goes_on
+
+  pub stays : StaysBeside reading n ue bearer sn quota p q
+  stays = record {
+    rest = left;
+    radio = o.down;
+    terminal = o.up;
+    of_radio = own_down tie.terminal (both p) bearer to input;
+    of_terminal = own_orders reading event p.state q.state ue bearer (both p) tie v cause input outputs step own to;
+    radio_asks = asks.1 sn quota;
+    terminal_asks = asks.0;
+    down = down_is;
+    up = up_is;
+  }
+
+  pub tied : IsAtTerminal reading ue bearer q.state (both q)
+  tied =
+      subst (λ (b : Parts). IsAtTerminal reading ue bearer q.state b) (λ i. record { up = sym up_is i; down = sym down_is i })
+      (terminal_then reading event p.state q.state ue bearer (both p) tie v cause input outputs step own to)

@@ -1,0 +1,4 @@
+pub mod Ends
+pub mod Puts
+pub mod Heads
+pub mod Takes

@@ -1,0 +1,4 @@
+pub mod Happenings
+pub mod Dus
+pub mod Ups
+pub mod Core

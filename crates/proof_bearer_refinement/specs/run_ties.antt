@@ -1,0 +1,2 @@
+pub mod Worked
+pub use Rattle.proof_bearer_refinement.specs.law_run_units as law_run_units

@@ -1,0 +1,3 @@
+pub mod Ties
+pub mod Asked
+pub use Rattle.proof_bearer_refinement.specs.law_run_units as law_run_units

@@ -1,0 +1,48 @@
+//! A law of a DU that takes what stands next on a terminal's radio up in a run. The function does nothing: its contract is the law.
+
+ghost use Rattle.gnb_types.specs.declared.names.BearerId.{BearerId};
+ghost use Rattle.gnb_types.specs.declared.names.Gnb.{Gnb};
+ghost use Rattle.gnb_types.specs.declared.names.NodeId.TheVariants.{Du};
+ghost use Rattle.gnb_types.specs.declared.names.SnBits.{SnBits};
+ghost use Rattle.gnb_types.specs.declared.names.UeId.{UeId};
+ghost use Rattle.proof_bearer_refinement.specs.home_ties.Home.{HomeLeads};
+ghost use Rattle.law_terminals_are_isolated.specs.own_steps.Own.{IsActed};
+ghost use Rattle.proof_bearer_refinement.specs.put_ties.Puts.{IsDuStep, orders_up, puts_of};
+ghost use Rattle.proof_bearer_refinement.specs.radio_ties.Radio.{IsAtTerminal, OnRadio, up_key};
+ghost use Rattle.proof_run_steps.specs.steps.Causes.{by_air};
+ghost use Rattle.proof_bearer_refinement.specs.terminal_ties.Owed.{both};
+ghost use Rattle.bearer_defs.specs.uplink_defs.Orders as up;
+ghost use Rattle.proof_bearer_refinement.specs.run_bearers.Bearers.{Numbering};
+ghost use Rattle.proof_bearer_refinement.specs.law_run_units.Happenings.{DuRecord};
+ghost use Rattle.proof_bearer_refinement.specs.tied_runs.Steps.{DuActs, IsPassed, IsTied, Point};
+ghost use Rattle.message_types.specs.declared.rrc.Token.{Token};
+ghost use Rattle.run_defs.specs.Runs.{plain_world, Reading};
+ghost use Rattle.run_defs.specs.States.{sn_of};
+ghost use Rattle.run_defs.specs.Units.{with_du};
+ghost use Rattle.run_defs.specs.Written.{written_put};
+ghost use Rattle.scenario_text.specs.declared.event.Event.{Event};
+ghost use Rattle.std.specs.Prelude.{List, map, ◌≡◌, ℕ};
+ghost use Rattle.unit_defs.specs.Ways.{Input, Message, Output, Pdu};
+
+/// Where the parts are tied to a run, the terminal shows them, and its radio up is the part's, a step by which a DU takes what stands next
+/// on that radio is one of those that `tied_runs` takes, and the radio is the part's afterwards. Owed is where the DU puts it
+/// (`HomeLeads`), and nothing else: that a packet is the first of the part's list, and that its tunnel is open, is shown.
+pub fn a_home_carries_what_stands_next()
+    ensures { (reading : Reading) (n : Numbering) (ue : UeId) (bearer : BearerId) (sn : SnBits)
+        (quota : ℕ) (p q : Point) (event : Event)
+        (tie : IsAtTerminal reading ue bearer p.state (both p)) (gnb : Gnb) (number : ℕ)
+        (item : OnRadio) (input : Input Token Pdu) (outputs : List (Output (Message Token) Pdu))
+        (left : DuRecord)
+        → IsPassed reading p.state → IsTied reading n ue bearer sn quota p
+        → IsActed (plain_world reading) event p.state
+        (by_air (up_key ue bearer) (Du gnb number) item)
+        (map (written_put (sn_of p.state)) outputs) (with_du p.state.units gnb number left)
+        → IsDuStep reading p.state q.state gnb number
+        (by_air (up_key ue bearer) (Du gnb number) item) input outputs left
+        → HomeLeads n ue bearer p gnb number
+        → q.down ≡ p.down
+        → q.up ≡ up.run p.up (orders_up n ue bearer p.state.units p.up
+        (puts_of ue bearer p.state.units gnb number input))
+        → DuActs reading n ue bearer sn quota p q
+        × IsAtTerminal reading ue bearer q.state (both q) }
+{}

@@ -1,0 +1,51 @@
+//! Laws of a whole run beside the parts of one bearer: step by step the tunnels are the parts' lists, and the parts run one list of
+//! orders. Each function does nothing: its contract is the law.
+
+ghost use Rattle.bearer_defs.specs.chain_defs.Orders as down;
+ghost use Rattle.bearer_defs.specs.chain_defs.Parts as down_parts;
+ghost use Rattle.law_downlink_order.specs.chain.Words as down_words;
+ghost use Rattle.gnb_types.specs.declared.names.BearerId.{BearerId};
+ghost use Rattle.gnb_types.specs.declared.names.SnBits.{SnBits};
+ghost use Rattle.gnb_types.specs.declared.names.UeId.{UeId};
+ghost use Rattle.proof_bearer_refinement.specs.tie_facts.Asked.{AreSound};
+ghost use Rattle.proof_bearer_refinement.specs.tie_facts.Ties.{RunState};
+ghost use Rattle.proof_bearer_refinement.specs.run_bearers.Bearers.{Numbering};
+ghost use Rattle.run_defs.specs.Runs.{Reading};
+ghost use Rattle.proof_bearer_refinement.specs.tied_runs.Steps.{AreOrders, IsPassed, IsTied, Point, Step, Steps};
+ghost use Rattle.law_uplink_order.specs.uplink.Words as up_words;
+ghost use Rattle.std.specs.Prelude.{◌≡◌, ℕ};
+ghost use Rattle.bearer_defs.specs.uplink_defs.Orders as up;
+ghost use Rattle.bearer_defs.specs.uplink_defs.Parts as up_parts;
+
+/// In each two states that runs from the first one pass, within events too, open TEIDs have owners, tunnels stand where they are open, and
+/// hold their owner's items: so all that the laws of single steps ask of a run is so.
+pub fn states_of_a_run_are_sound()
+    ensures { (reading : Reading) (s t : RunState)
+        → IsPassed reading s → IsPassed reading t → AreSound s t }
+{}
+
+/// Over any steps of a run, of CU-UPs, DUs, the core and all else: where the parts have the contexts of the CU-UPs, and their lists are the
+/// run's tunnels, they do so afterwards; and what the parts did meanwhile is one list of orders each, every one of which asks what it
+/// does. What control owes is asked of each step by itself.
+pub fn steps_of_a_run_are_orders()
+    ensures one { (reading : Reading) (n : Numbering) (ue : UeId) (bearer : BearerId) (sn : SnBits)
+        (quota : ℕ) (p q : Point) → AreSound p.state q.state
+        → IsTied reading n ue bearer sn quota p → Step reading n ue bearer sn quota p q
+        → IsTied reading n ue bearer sn quota q × AreOrders reading n ue bearer sn quota p q }
+    ensures all { (reading : Reading) (n : Numbering) (ue : UeId) (bearer : BearerId) (sn : SnBits)
+        (quota : ℕ) (p q : Point)
+        → IsTied reading n ue bearer sn quota p → Steps reading n ue bearer sn quota p q
+        → IsTied reading n ue bearer sn quota q × AreOrders reading n ue bearer sn quota p q }
+{}
+
+/// So from the parts at their start, what is delivered, down and up, is a prefix of what was offered in the run, each packet once, with
+/// COUNTs 0, 1, 2 and so on.
+pub fn a_run_delivers_in_order()
+    ensures { (reading : Reading) (n : Numbering) (ue : UeId) (bearer : BearerId) (sn : SnBits)
+        (quota : ℕ) (p q : Point) (first teid : ℕ)
+        → p.down ≡ down_parts.start first teid → p.up ≡ up_parts.start first teid
+        → IsTied reading n ue bearer sn quota p → Steps reading n ue bearer sn quota p q
+        → (os : AreOrders reading n ue bearer sn quota p q)
+        × down_words.DeliversInOrder (down.offers_in os.downs) q.down
+        × up_words.DeliversInOrder (up.offers_in os.ups) q.up }
+{}

@@ -1,0 +1,3 @@
+pub mod Others
+pub mod Bearers
+pub mod Nothing

@@ -1,0 +1,4 @@
+pub mod Hops
+pub mod Stands
+pub mod Holds
+pub mod Enough

@@ -1,0 +1,15 @@
+pub mod context_orders
+pub mod context_tests
+pub mod context_rows
+pub mod chain_rows
+pub mod uplink_rows
+pub mod handover_rows
+pub mod down_orders
+pub mod frame_rows
+pub mod sending_contexts
+pub mod orders
+pub mod context_stands
+pub mod kept
+pub mod bearer_orders
+pub mod frames_kept
+pub mod bearer_lists

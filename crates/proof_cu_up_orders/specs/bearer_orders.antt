@@ -1,0 +1,4 @@
+pub mod Happenings
+pub mod Down
+pub mod Up
+pub mod Starts

@@ -1,0 +1,4 @@
+pub mod Contexts
+pub mod Frames
+pub mod Control
+pub mod Ups

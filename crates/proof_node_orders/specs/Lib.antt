@@ -1,0 +1,9 @@
+pub mod terminal_rows
+pub mod du_rows
+pub mod terminal_inputs
+pub mod terminal_radios
+pub mod terminal_refusals
+pub mod du_inputs
+pub mod du_puts
+pub mod du_steps
+pub mod core_rows

@@ -1,0 +1,10 @@
+pub mod Within
+pub mod Steps
+pub mod Runs
+pub mod Units
+pub mod Plain
+pub mod Alone
+pub mod Fits
+pub mod Tells
+pub mod Later
+pub mod Both

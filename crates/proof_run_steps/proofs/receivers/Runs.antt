@@ -1,0 +1,88 @@
+-- In every run what receivers store is above what they await.
+use Rattle.std.proofs.Common.{◌≡◌, ℕ, Option, Some, None, List, refl, subst}
+use Rattle.gnb_types.specs.declared.names.Gnb.{Gnb}
+use Rattle.gnb_types.specs.declared.names.NodeId.{NodeId}
+use Rattle.gnb_types.specs.declared.names.NodeId.TheVariants.{CuCp, CuUp as up_id, Du as du_id, Core, Ue}
+use Rattle.message_types.specs.declared.rrc.Token.{Token}
+use Rattle.scenario_text.specs.declared.event.Event.{Event}
+use Rattle.unit_defs.specs.Ways.{Message, Pdu, Load, Input, gives, spent}
+use Rattle.unit_defs.specs.Ue.{UeNode, new_ue, ue_acts}
+use Rattle.unit_defs.specs.UpRecords.{CuUp}
+use Rattle.unit_defs.specs.CuUp.{cu_up_acts}
+use Rattle.unit_defs.specs.Du.{Du, du_acts}
+use Rattle.unit_defs.specs.CpRecords.{CuCpRecord}
+use Rattle.unit_defs.specs.CuCp.{cu_cp_acts}
+use Rattle.run_defs.specs.Units.{Units, cp_of, with_cp, up_of, with_up, du_of, with_du, ue_of, with_ue}
+use Rattle.run_defs.specs.Written.{Written, PlainStepped, WrittenStepped, written_step}
+use Rattle.run_defs.specs.States.{State, Lengths, stepped, step_spent}
+use Rattle.run_defs.specs.Runs.{Reading, PlainGiven, Plain, plain_way, input_of, stepped_with, ue_stepped, acts_on, plain_by, plain_world}
+use Rattle.proof_run_steps.specs.steps.Reached.{reached}
+use Rattle.proof_run_steps.proofs.steps.Frames.{reached_relates}
+use Rattle.proof_unit_steps.specs.answers.After.{HoldsAfter}
+use Rattle.proof_unit_steps.specs.receivers.Ready.{UpReady, UeReady}
+use Rattle.proof_run_steps.specs.receivers.AllReady.{AreReady}
+use Rattle.proof_unit_steps.proofs.receivers.CuUps.{cu_up_stores}
+use Rattle.proof_unit_steps.proofs.receivers.Terminals.{terminal_stores}
+use Rattle.proof_run_steps.proofs.receivers.Placed.{with_up_ready, with_ue_ready, with_cp_ready, with_du_ready, placed_ready, new_is_ready}
+
+-- it goes on from these units to those
+abbrev pub GoesOn : {M C : Type 0} → Units M C → Units M C → Type 0
+GoesOn u v = AreReady u → AreReady v
+
+module _ (reading : Reading) where
+  abbrev PlainUnits : Type 0
+  PlainUnits = Units (Message Token) Token
+
+  abbrev Answered : PlainUnits → PlainStepped → Type 0
+  Answered u (stepped outputs v) = GoesOn u v
+  Answered u (step_spent counter) = Unit {0}
+
+  abbrev AnsweredWell : PlainUnits → WrittenStepped → Type 0
+  AnsweredWell u (stepped outputs v) = GoesOn u v
+  AnsweredWell u (step_spent counter) = Unit {0}
+
+  by_cp : (u : PlainUnits) (gnb : Gnb) (a : Plain (CuCpRecord (Message Token) Token)) → Answered u (stepped_with reading (with_cp u gnb) a)
+  by_cp u gnb (gives outputs r) = λ p. with_cp_ready u gnb r p
+  by_cp u gnb (spent counter) = tt
+
+  by_up : (u : PlainUnits) (gnb : Gnb) (number : ℕ) (a : Plain (CuUp (Message Token) Token)) → (UpReady (up_of u gnb number) → HoldsAfter (λ (r : CuUp (Message Token) Token). UpReady r) a)
+      → Answered u (stepped_with reading (with_up u gnb number) a)
+  by_up u gnb number (gives outputs r) h = λ p. with_up_ready u gnb number r p (h (p.0 gnb number))
+  by_up u gnb number (spent counter) h = tt
+
+  by_du : (u : PlainUnits) (gnb : Gnb) (number : ℕ) (a : Plain (Du (Message Token) Token)) → Answered u (stepped_with reading (with_du u gnb number) a)
+  by_du u gnb number (gives outputs r) = λ p. with_du_ready u gnb number r p
+  by_du u gnb number (spent counter) = tt
+
+  by_ue : (u : PlainUnits) (ue : ℕ) (a : Plain UeNode) → (AreReady u → HoldsAfter UeReady a) → Answered u (stepped_with reading (with_ue u (record { 0 = ue })) a)
+  by_ue u ue (gives outputs x) h = λ p. with_ue_ready u (record { 0 = ue }) x p (h p)
+  by_ue u ue (spent counter) h = tt
+
+  acted : (u : PlainUnits) (node : NodeId) (input : Input Token Pdu) → Answered u (acts_on reading u node input)
+  acted u (CuCp gnb) input = by_cp u gnb (cu_cp_acts plain_way (cp_of u gnb) input)
+  acted u (up_id gnb number) input =
+      by_up u gnb number (cu_up_acts plain_way (up_of u gnb number) input) (cu_up_stores plain_way (up_of u gnb number) input)
+  acted u (du_id gnb number) input =
+      by_du u gnb number (du_acts plain_way (du_of u gnb number) input)
+  acted u (Ue ue) input = there (ue_of u (record { 0 = ue })) refl
+    where
+      there : (o : Option UeNode) → ue_of u (record { 0 = ue }) ≡ o → Answered u (ue_stepped reading u ue input o)
+      there None is = λ p. p
+      there (Some x) is = by_ue u ue (ue_acts plain_way x input) (λ p. terminal_stores plain_way x input (p.1 (record { 0 = ue }) x is))
+  acted u Core input = λ p. p
+
+  answered : (u : PlainUnits) (node : NodeId) (given : PlainGiven) (o : Option (Input Token Pdu)) → Answered u (plain_by reading u node given o)
+  answered u node given None = λ p. p
+  answered u node given (Some input) = acted u node input
+
+  written : (lengths : Lengths) (u : PlainUnits) (x : PlainStepped) → Answered u x → AnsweredWell u (written_step lengths x)
+  written lengths u (stepped outputs v) p = p
+  written lengths u (step_spent counter) p = tt
+
+  pub ready_later : (events : List Event) (s t : State (Message Token) Token (Written (Load Pdu)) (Written Pdu))
+      → reached (plain_world reading) events s ≡ Some t → AreReady s.units → AreReady t.units
+  ready_later events s t is =
+      reached_relates (plain_world reading) GoesOn (λ u p. p) (λ u v w first second p. second (first p))
+      (λ lengths u v node given outputs e. subst (AnsweredWell u) e
+      (written lengths u (plain_by reading u node given (input_of reading given)) (answered u node given (input_of reading given))))
+      (λ u plan p. with_ue_ready u plan.ue (new_ue plan) p (new_is_ready plan)) (λ u plan free room teids. placed_ready u plan) events s t is

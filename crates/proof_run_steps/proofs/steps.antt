@@ -1,0 +1,5 @@
+pub mod Steps
+pub mod Events
+pub mod Settling
+pub mod Runs
+pub mod Frames

@@ -1,0 +1,12 @@
+pub mod refusals
+pub mod steps
+pub mod teids
+pub mod plans
+pub mod facts
+pub mod plan_facts
+pub mod control
+pub mod law_run_links
+pub mod tunnel_steps
+pub mod radio_steps
+pub mod answerers
+pub mod receivers

@@ -1,0 +1,4 @@
+pub mod Facts
+pub mod UnitFacts
+pub mod TellFacts
+pub mod Later

@@ -1,0 +1,109 @@
+-- The units over octets: what they hold or refuse leaves them as they were, and what is so of them goes on to be so.
+use Rattle.std.proofs.Common.{◌≡◌, ℕ, Bool, true, false, List, [], ◌∷◌, Some, None, refl}
+use Rattle.std.specs.Prelude.{if◌then◌else◌, Result, Ok, Err}
+use Rattle.gnb_types.specs.declared.names.Gnb.{Gnb}
+use Rattle.gnb_types.specs.declared.names.NodeId.{NodeId}
+use Rattle.gnb_types.specs.declared.names.NodeId.TheVariants.{CuCp}
+use Rattle.gnb_types.specs.declared.inputs.Input.{Input as OctetInput}
+use Rattle.gnb_types.specs.declared.inputs.Input.TheVariants as ins
+use Rattle.gnb_types.specs.declared.inputs.Order.{Order}
+use Rattle.gnb_types.specs.declared.inputs.Order.TheVariants as orders
+use Rattle.gnb_types.specs.declared.reasons.DropReason.{DropReason}
+use Rattle.gnb_types.specs.declared.reasons.DropReason.TheVariants.{Unexpected}
+use Rattle.tables.specs.Tables.{find}
+use Rattle.unit_defs.specs.Ways.{Message, Input, control_input, tick_input, order_input}
+use Rattle.unit_defs.specs.Messages.{shares_interface}
+use Rattle.unit_defs.specs.CpRecords.{CuCpRecord}
+use Rattle.unit_defs.specs.CuCp.{cu_cp_acts}
+use Rattle.unit_defs.specs.UpRecords.{CuUp}
+use Rattle.unit_defs.specs.CuUp.{new_cu_up, up_node, cu_up_acts}
+use Rattle.unit_defs.specs.Du.{Du, du_acts}
+use Rattle.unit_defs.specs.Ue.{UeNode, ue_acts}
+use Rattle.unit_defs.specs.octet_defs.Codec.{Codec, octet_way}
+use Rattle.unit_defs.specs.octet_defs.Reading.{ReadInput, message_read, read_message, read_at_cu_cp, read_at_cu_up, read_at_du, read_at_ue}
+use Rattle.unit_defs.specs.octet_defs.Units.{OctetAnswer, acts_on, cu_cp_steps, cu_up_steps, du_steps, ue_steps}
+use Rattle.proof_site.specs.lone_units.Lone.{Makes, EndsIn, StaysWhereLone, StaysIn}
+use Rattle.proof_site.specs.lone_units.Orders.{HasOrder, IsCpOf, IsAskedOf}
+use Rattle.proof_site.proofs.lone_units.CuUps.{cu_up_stays, cu_up_makes, IsOther}
+use Rattle.proof_site.proofs.lone_units.Dus.{du_makes}
+use Rattle.proof_site.proofs.lone_units.Terminals.{ue_stays}
+use Rattle.proof_site.proofs.lone_units.CuCps.{cu_cp_ends, cu_cp_stays}
+
+abbrev Octets : Type 0
+Octets = List ℕ
+
+-- an order at a CU-CP is asked; whatever else it is given may be anything
+abbrev pub IsAskedThere : CuCpRecord Octets Octets → OctetInput → Type 0
+IsAskedThere c (ins.Order order) = IsAskedOf {P = Octets} c (order_input order)
+IsAskedThere c input = Unit {0}
+
+abbrev pub IsNoPoll : OctetInput → Type 0
+IsNoPoll (ins.Order (orders.Poll ue bearer)) = ⊥
+IsNoPoll input = Unit {0}
+
+module _ (codec : Codec) where
+  is_other : (order : Order) → IsNoPoll (ins.Order order) → IsOther (octet_way codec) (order_input order)
+  is_other (orders.Poll ue bearer) is = is
+  is_other order is = tt
+
+  -- what is so of a message that is read, of all that a unit makes of its octets
+  read_so : {R : Type 0} (Q : OctetAnswer R → Type 0) (act : Input Octets Octets → OctetAnswer R) (r : R) (from : NodeId)
+      → ((m : Message Octets) → Q (act (control_input from m))) → ((reason : DropReason) → Q (acts_on act r (Err reason)))
+      → (t : Bool) (m : Result (Message Octets) DropReason) → Q (acts_on act r (if t then message_read codec from m else Err Unexpected))
+  read_so Q act r from each drop true (Ok m) = each m
+  read_so Q act r from each drop true (Err reason) = drop reason
+  read_so Q act r from each drop false m = drop Unexpected
+
+  pub up_steps_stay : (r : CuUp Octets Octets) (input : OctetInput) → StaysWhereLone r (cu_up_steps codec r input)
+  unfolding cu_up_steps
+  up_steps_stay r input = by (read_at_cu_up codec r input)
+    where
+      by : (read : ReadInput) → StaysWhereLone r (acts_on (cu_up_acts (octet_way codec) r) r read)
+      by (Ok heard) = cu_up_stays (octet_way codec) r heard
+      by (Err reason) = tt
+
+  -- a new CU-UP has nothing to hold
+  pub new_up_makes : (gnb : Gnb) (number : ℕ) (input : OctetInput) → IsNoPoll input → Makes (cu_up_steps codec (new_cu_up gnb number) input)
+  unfolding cu_up_steps read_at_cu_up find
+  new_up_makes gnb number (ins.Control from octets) is =
+      read_so Makes (cu_up_acts (octet_way codec) (new_cu_up gnb number)) (new_cu_up gnb number) from
+      (λ m. cu_up_makes (octet_way codec) (new_cu_up gnb number) (control_input from m) tt) (λ reason. (tt, tt))
+      (shares_interface (up_node {M = Octets} {C = Octets} (new_cu_up gnb number)) from) (codec.read from (up_node {M = Octets} {C = Octets} (new_cu_up gnb number)) octets)
+  new_up_makes gnb number (ins.Packet teid octets) is = (tt, tt)
+  new_up_makes gnb number ins.Tick is = cu_up_makes (octet_way codec) (new_cu_up gnb number) tick_input tt
+  new_up_makes gnb number (ins.Order order) is = cu_up_makes (octet_way codec) (new_cu_up gnb number) (order_input order) (is_other order is)
+  new_up_makes gnb number input is = (tt, tt)
+
+  pub du_steps_make : (r : Du Octets Octets) (input : OctetInput) → Makes (du_steps codec r input)
+  unfolding du_steps
+  du_steps_make r input = by (read_at_du codec r input)
+    where
+      by : (read : ReadInput) → Makes (acts_on (du_acts (octet_way codec) r) r read)
+      by (Ok heard) = du_makes (octet_way codec) r heard
+      by (Err reason) = (tt, tt)
+
+  pub ue_steps_stay : (u : UeNode) (input : OctetInput) → HasOrder u → StaysIn HasOrder u (ue_steps codec u input)
+  unfolding ue_steps
+  ue_steps_stay u input p = by (read_at_ue codec u input)
+    where
+      by : (read : ReadInput) → StaysIn HasOrder u (acts_on (ue_acts (octet_way codec) u) u read)
+      by (Ok heard) = ue_stays (octet_way codec) u heard p
+      by (Err reason) = (tt, p)
+
+  pub cp_steps_end : (own : Gnb) (r : CuCpRecord Octets Octets) (input : OctetInput) → IsCpOf own r → EndsIn (λ c. IsCpOf own c) (cu_cp_steps codec r input)
+  unfolding cu_cp_steps
+  cp_steps_end own r input p = by (read_at_cu_cp codec r input)
+    where
+      by : (read : ReadInput) → EndsIn (λ c. IsCpOf own c) (acts_on (cu_cp_acts (octet_way codec) r) r read)
+      by (Ok heard) = cu_cp_ends (octet_way codec) own r heard p
+      by (Err reason) = p
+
+  pub cp_steps_stay : (own : Gnb) (r : CuCpRecord Octets Octets) (input : OctetInput) → IsCpOf own r → IsAskedThere r input
+      → StaysWhereLone r (cu_cp_steps codec r input)
+  unfolding cu_cp_steps read_at_cu_cp
+  cp_steps_stay own r (ins.Control from octets) p is =
+      read_so (λ a. StaysWhereLone r a) (cu_cp_acts (octet_way codec) r) r from
+      (λ m. cu_cp_stays (octet_way codec) own r (control_input from m) p tt) (λ reason. tt) (shares_interface (CuCp r.gnb) from) (codec.read from (CuCp r.gnb) octets)
+  cp_steps_stay own r ins.Tick p is = cu_cp_stays (octet_way codec) own r tick_input p tt
+  cp_steps_stay own r (ins.Order order) p is = cu_cp_stays (octet_way codec) own r (order_input order) p is
+  cp_steps_stay own r input p is = tt

@@ -1,0 +1,2 @@
+pub mod lone_units
+pub mod leaves

@@ -1,0 +1,4 @@
+pub mod Answers
+pub mod Keyed
+pub mod UpBearers
+pub mod CuUps

@@ -1,0 +1,4 @@
+pub mod Receivers
+pub mod UpBearers
+pub mod CuUps
+pub mod Terminals

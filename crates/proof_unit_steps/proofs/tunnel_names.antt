@@ -1,0 +1,5 @@
+pub mod Kept
+pub mod Rows
+pub mod Answers
+pub mod CuCps
+pub mod Cores

@@ -1,0 +1,5 @@
+pub mod Keyed
+pub mod Dus
+pub mod UpBearers
+pub mod CuUps
+pub mod Terminals

@@ -1,0 +1,11 @@
+pub mod frames
+pub mod tunnel_frames
+pub mod answers
+pub mod count_ranges
+pub mod count_windows
+pub mod receivers
+pub mod packets
+pub mod tunnel_names
+pub mod tunnels
+pub mod downlink_names
+pub mod downlink_grants

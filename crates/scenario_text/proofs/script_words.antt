@@ -1,0 +1,4 @@
+pub mod FormLaws
+pub mod NumberLemmas
+pub mod PlaceLaws
+pub mod WordLemmas

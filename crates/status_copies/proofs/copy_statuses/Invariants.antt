@@ -1,5 +1,0 @@
-use Rattle.std.proofs.Common.{◌≡◌, take}
-use Rattle.status_copies.proofs.copy_statuses.Given as goal
-
-abbrev pub invariant-loop-status : goal.invariant-loop-status
-invariant-loop-status l = record { copied : l.copy ≡ take l.status-index l.statuses }

@@ -1,5 +1,0 @@
-//! Tests of the contexts of a DU.
-#![tactic(auto)]
-
-#[cfg(test)]
-mod packets;

@@ -1,9 +1,0 @@
-use Rattle.std.proofs.Common.{◌≡◌, ap}
-use Rattle.gnb_types.specs.Orders.{entity_cmp}
-use Rattle.tables.specs.Tables.{find}
-use Rattle.pool_defs.specs.Pools.{PoolState}
-use Rattle.tests_entities.proofs.pools.pool_of.Goals as goal
-
-pub reserve_quota-requires : goal.reserve_quota-requires
-unfolding find
-reserve_quota-requires c = ap (λ (p : PoolState). find entity_cmp p.quotas c.args.key) c.in_ok-pool.ensures

@@ -1,5 +1,0 @@
-//! Tests of the codec of the profile: messages of each interface are read and spelled, others are dropped or have no octets.
-#![tactic(auto)]
-
-#[cfg(test)]
-mod rows;

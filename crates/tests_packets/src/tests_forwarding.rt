@@ -1,0 +1,4 @@
+//! Tests of the hops between two CU-UPs.
+
+#[cfg(test)]
+mod hops;

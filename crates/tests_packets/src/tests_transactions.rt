@@ -1,0 +1,4 @@
+//! Tests of requests and replies, by public calls alone.
+
+#[cfg(test)]
+mod requests;

@@ -1,0 +1,6 @@
+//! Tests of the script language: its words, events and lines.
+
+#[cfg(test)]
+mod scenario;
+#[cfg(test)]
+mod words;

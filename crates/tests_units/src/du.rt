@@ -1,0 +1,4 @@
+//! Tests of the contexts of a DU.
+
+#[cfg(test)]
+mod packets;

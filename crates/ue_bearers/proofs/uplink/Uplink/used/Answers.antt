@@ -1,7 +1,0 @@
-use Rattle.ue_bearers.proofs.KeptLemmas.{used_seen}
-use Rattle.ue_bearers.proofs.uplink.Uplink.used.Goals as goal
-
-pub returns : goal.returns
-returns c =
-    let i = c.self.inside in
-    used_seen i.sn i.quota i.pool i.tx i.waiting c.args.self.now c.self.view_is i.held c.len.result c.self.invariant.held_is c.len.ensures

@@ -1,0 +1,3 @@
+pub mod um_pdcp
+pub mod run
+pub mod text

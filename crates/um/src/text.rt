@@ -1,0 +1,5 @@
+//! The text of a script of one unacknowledged bearer: the events that it may have, and the lines that they print.
+
+pub mod keyword;
+pub mod print;
+pub mod read;

@@ -1,0 +1,1 @@
+//! Definitions alone: the run of one unacknowledged bearer over a link that loses, repeats and reorders.

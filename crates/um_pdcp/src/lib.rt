@@ -1,8 +1,0 @@
-//! The receiving entity of an unacknowledged bearer, with its reordering timer (TS 38.323, 5.2.2).
-#![tactic(auto)]
-
-pub mod rx;
-pub mod stored;
-
-pub use um_types::error::UmError;
-pub use um_types::out::{Out, Outs};

@@ -1,9 +1,0 @@
-use Rattle.std.proofs.Common.{◌≡◌, ◌++◌}
-use Rattle.std.specs.Vec.Iter.{into_iter_items}
-use Rattle.um_defs.specs.Receivers.{entries}
-use Rattle.um_run_defs.specs.Run.{delivered}
-use Rattle.um_run.proofs.lines.put_delivered.Given as goal
-
-abbrev pub invariant-loop-out : goal.invariant-loop-out
-invariant-loop-out l = l.lines ++ delivered (entries (into_iter_items l.out-iterator))
-    ≡ l.initial.lines ++ delivered (entries (into_iter_items l.initial.out-iterator))

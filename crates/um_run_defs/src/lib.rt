@@ -1,2 +1,0 @@
-//! Definitions alone: the run of one unacknowledged bearer over a link that loses, repeats and reorders.
-#![tactic(auto)]

@@ -1,6 +1,0 @@
-//! The text of a script of one unacknowledged bearer: the events that it may have, and the lines that they print.
-#![tactic(auto)]
-
-pub mod keyword;
-pub mod print;
-pub mod read;

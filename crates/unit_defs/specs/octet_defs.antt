@@ -1,0 +1,5 @@
+pub mod Codec
+pub mod Writing
+pub mod Reading
+pub mod Units
+pub mod Spelling

@@ -1,9 +1,0 @@
-use Rattle.std.proofs.Common.{◌≡◌, drop}
-use Rattle.std.specs.List.{flat_map}
-use Rattle.unit_defs.specs.Teids.{without_each}
-use Rattle.up_contexts.specs.Rows.{closed_of}
-use Rattle.up_contexts.proofs.tunnels.close_shown.Given as goal
-
-abbrev pub invariant-loop-output : goal.invariant-loop-output
-invariant-loop-output l =
-    without_each l.tunnels (flat_map closed_of (drop l.output-index l.out)) ≡ without_each l.initial.tunnels (flat_map closed_of l.out)

@@ -1,7 +1,0 @@
-use Rattle.std.proofs.Common.{◌≡◌, ◌++◌, drop}
-use Rattle.up_ends.proofs.UplinkEnds.{others}
-use Rattle.up_ends.proofs.uplinks.without.Given as goal
-
--- what is left so far, and of those that come, is all
-abbrev pub invariant-loop-other : goal.invariant-loop-other
-invariant-loop-other l = l.left ++ others l.teid (drop l.other-index l.teids) ≡ others l.teid l.teids

@@ -1,5 +1,0 @@
-//! The ends of a bearer's tunnels at a CU-UP: the End Markers of N3, of uplinks, and of the hop from the source (TS 38.300, 9.2.3.2.3).
-#![tactic(auto)]
-
-pub mod ending;
-pub mod uplinks;

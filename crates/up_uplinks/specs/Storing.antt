@@ -1,9 +1,0 @@
--- A packet up that was stored: while frozen it goes to the target as well, else what is awaited is delivered.
-use Rattle.std.specs.Prelude.{ℕ, List, if◌then◌else◌}
-use Rattle.gnb_types.specs.declared.outputs.Tag.TheVariants.{Same}
-use Rattle.up_packets.specs.unit_defs.Ways.{Way, Answer, numbered}
-use Rattle.up_packets.specs.unit_defs.UpRecords.{UpBearer, UpAt}
-use Rattle.up_packets.specs.unit_defs.UpBearers.{deliver_stored, forwarded_up}
-
-abbrev pub kept_at : {M C P : Type 0} → Way M C P → UpAt → ℕ → List ℕ → UpBearer → Answer M P UpBearer
-kept_at way at count p b = if at.flags.frozen then forwarded_up way at Same (numbered at.sn count p) b else deliver_stored way at b

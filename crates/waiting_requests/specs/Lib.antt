@@ -1,1 +1,0 @@
-pub use Rattle.unit_requests.specs as unit_requests

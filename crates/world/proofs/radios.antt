@@ -1,0 +1,2 @@
+pub mod OnRadios
+pub mod RadioLists

@@ -1,0 +1,16 @@
+use Rattle.std.proofs.Common.{ℕ, subst}
+use Rattle.run_defs.specs.Settling.{rounds_from, settle}
+use Rattle.run_defs.specs.UnitRuns.{unit_world}
+use Rattle.run_links.specs.Grounds.{state_of}
+use Rattle.world_steps.specs.Gives.{EventGives}
+use Rattle.world.proofs.settling.settle.settle.Goals as goal
+
+pub returns-clause-gives : goal.returns-clause-gives
+unfolding settle
+returns-clause-gives g c =
+    let world = unit_world g.C.MessageCodec.codec g.U.Units.answer in
+    let records = g.U.Units.records in
+    let s = state_of (records c.args.parts.now.units) c.args.parts.now.core c.args.parts.now.ground in
+    let t = state_of (records c.rounds_from.new.parts.units) c.rounds_from.new.parts.core c.rounds_from.new.parts.ground in
+    subst (λ (n : ℕ). EventGives c.args.lines.now (rounds_from world 0 n s) c.rounds_from.new.lines t c.rounds_from.result)
+    (c.in_ok-limit.ensures world (records c.args.parts.now.units) c.args.parts.now.core) c.rounds_from.ensures.gives

@@ -1,0 +1,4 @@
+pub mod Lists
+pub mod OnTunnels
+pub mod Turned
+pub mod Unconfirmed

@@ -1,0 +1,236 @@
+//! The turns of radios: each that is ready is aired until nothing is uncarried, then acknowledged until nothing is carried, and so on
+//! until it is empty.
+
+ghost use Rattle.std.specs.Prelude.{◌≡◌, ◌+◌, ◌*◌, IfOk, OnOk};
+ghost use Rattle.gnb_types.specs.Orders.{entity_cmp};
+ghost use Rattle.tables.specs.Tables.{at};
+ghost use Rattle.transport_defs.specs.Links.{nth, silent};
+ghost use Rattle.run_defs.specs.Settling.{Turn as RunTurn, air_next, ack_next, turn_step, turn_times, all_radios, attached_entities};
+ghost use Rattle.run_defs.specs.UnitRuns.{unit_world};
+ghost use Rattle.run_links.specs.Grounds.{OctetState, OctetOutcome, state_of};
+ghost use Rattle.world_steps.specs.Gives.{EventGives};
+ghost use Rattle.world.specs.radios.RadioTurns.{TurnGives, turn_of, left_of, turned, both_turns, bearer_turns};
+
+use crate::radios::turn::Turn;
+use crate::turns::attached::attached_bearers;
+use crate::turns::held::show_held;
+use gnb_types::items::Memory;
+use gnb_types::keys::EntityKey;
+use gnb_types::names::{BearerId, Dir, NodeId, UeId};
+use run_links::lines::{Lines, radio_link};
+use unit_messages::MessageCodec;
+use world_steps::Units;
+use world_steps::cause::Cause;
+use world_steps::packets::radio::{ack_item, air_item};
+use world_steps::parts::Parts;
+
+/// How much more often than items stood on it a radio may be aired, and acknowledged.
+const FURTHER_TURNS: u64 = 4096;
+
+/// An item of a radio's turn is carried, where one can be. The answer is what is left of the turn, if anything.
+fn air_next<U: Units<C> + Drop, C: MessageCodec + Drop>(
+    parts: &mut Parts<U, C>,
+    turn: Turn,
+    home: NodeId,
+    lines: &mut Lines,
+) -> Result<Option<Turn>, Cause>
+    requires { U.ready parts.old.units }
+    ensures ready { OnOk result (U.ready parts.new.units) }
+    ensures gives { (again : RunTurn → OctetState → OctetOutcome) → TurnGives lines.old
+        (air_next (unit_world C.codec U.answer) again (turn_of turn) home (state_of (U.records parts.old.units) parts.old.core parts.old.ground)
+        (nth (at entity_cmp silent parts.old.ground.radios.radios turn.key).items (at entity_cmp silent parts.old.ground.radios.radios turn.key).carried))
+        again lines.new (state_of (U.records parts.new.units) parts.new.core parts.new.ground) (left_of result) }
+{
+    let left = turn.to_acks();
+    if turn.airs == 0 {
+        return Ok(Some(left));
+    }
+    if let None = parts.ground.uncarried(turn.key) {
+        return Ok(Some(left));
+    }
+    let link = radio_link(turn.key, parts.ground.shown_epoch(turn.key.ue));
+    let moved = match air_item(parts, turn.key, home, lines) {
+        Ok(moved) => moved,
+        Err(cause) => return Err(cause),
+    };
+    show_held(moved, link, lines)?;
+    Ok(Some(turn.aired(moved)))
+}
+
+/// An item of a radio's turn is confirmed, where one can be. The answer is what is left of the turn, if anything.
+fn ack_next<U: Units<C> + Drop, C: MessageCodec + Drop>(
+    parts: &mut Parts<U, C>,
+    turn: Turn,
+    home: NodeId,
+    lines: &mut Lines,
+) -> Result<Option<Turn>, Cause>
+    requires { U.ready parts.old.units }
+    ensures ready { OnOk result (U.ready parts.new.units) }
+    ensures gives { (again : RunTurn → OctetState → OctetOutcome) → TurnGives lines.old
+        (ack_next (unit_world C.codec U.answer) again (turn_of turn) home (state_of (U.records parts.old.units) parts.old.core parts.old.ground)
+        (at entity_cmp silent parts.old.ground.radios.radios turn.key).items (at entity_cmp silent parts.old.ground.radios.radios turn.key).carried)
+        again lines.new (state_of (U.records parts.new.units) parts.new.core parts.new.ground) (left_of result) }
+{
+    let EntityKey { ue, bearer, dir } = turn.key;
+    if parts.ground.radios.length(ue, bearer, dir) == 0 {
+        return Ok(None);
+    }
+    let left = turn.over();
+    if turn.acks == 0 {
+        return Ok(left);
+    }
+    if let None = parts.ground.carried(turn.key) {
+        return Ok(left);
+    }
+    match ack_item(parts, turn.key, home, lines) {
+        Ok(_) => Ok(Some(turn.after_ack())),
+        Err(cause) => Err(cause),
+    }
+}
+
+/// One part of a radio's turn. A radio that is no longer ready has had its turn.
+fn turn_step<U: Units<C> + Drop, C: MessageCodec + Drop>(
+    parts: &mut Parts<U, C>,
+    turn: Turn,
+    lines: &mut Lines,
+) -> Result<Option<Turn>, Cause>
+    requires { U.ready parts.old.units }
+    ensures ready { OnOk result (U.ready parts.new.units) }
+    ensures gives { (again : RunTurn → OctetState → OctetOutcome) → TurnGives lines.old
+        (turn_step (unit_world C.codec U.answer) again (turn_of turn) (state_of (U.records parts.old.units) parts.old.core parts.old.ground))
+        again lines.new (state_of (U.records parts.new.units) parts.new.core parts.new.ground) (left_of result) }
+{
+    let Some(home) = parts.ready_home(turn.key.ue) else {
+        return Ok(None);
+    };
+    if turn.airing {
+        air_next(parts, turn, home, lines)
+    } else {
+        ack_next(parts, turn, home, lines)
+    }
+}
+
+/// At most so many parts of a radio's turn.
+fn turn_times<U: Units<C> + Drop, C: MessageCodec + Drop>(
+    parts: &mut Parts<U, C>,
+    turn: Turn,
+    times: u64,
+    lines: &mut Lines,
+) -> Result<(), Cause>
+    requires { U.ready parts.old.units }
+    ensures ready { OnOk result (U.ready parts.new.units) }
+    ensures gives { EventGives lines.old
+        (turn_times (unit_world C.codec U.answer) times (turn_of turn) (state_of (U.records parts.old.units) parts.old.core parts.old.ground))
+        lines.new (state_of (U.records parts.new.units) parts.new.core parts.new.ground) result }
+{
+    let mut left = turn;
+    for _ in 0..times {
+        match turn_step(parts, left, lines) {
+            Ok(Some(next)) => left = next,
+            Ok(None) => return Ok(()),
+            Err(cause) => return Err(cause),
+        }
+    }
+    Ok(())
+}
+
+/// How often a radio on which so many items stand may be aired, and acknowledged, and how many parts its turn has at most: each air and
+/// each acknowledgement is followed by two changes between them at most.
+fn radio_parts(items: u64) -> Result<(u64, u64), Memory>
+    ensures { IfOk result (λ p. p ≡ (items + 4096, 6 * (items + 4096) + 2)) }
+{
+    // So many items don't fit the memory.
+    let most = items.checked_add(FURTHER_TURNS).ok_or(Memory)?;
+    let parts = most.checked_mul(6).ok_or(Memory)?;
+    let parts = parts.checked_add(2).ok_or(Memory)?;
+    Ok((most, parts))
+}
+
+/// The turn of a radio.
+fn radio_turn<U: Units<C> + Drop, C: MessageCodec + Drop>(
+    parts: &mut Parts<U, C>,
+    key: EntityKey,
+    lines: &mut Lines,
+) -> Result<(), Cause>
+    requires { U.ready parts.old.units }
+    ensures ready { OnOk result (U.ready parts.new.units) }
+    ensures gives { EventGives lines.old
+        (turned (unit_world C.codec U.answer) key (state_of (U.records parts.old.units) parts.old.core parts.old.ground))
+        lines.new (state_of (U.records parts.new.units) parts.new.core parts.new.ground) result }
+{
+    let (most, times) = radio_parts(parts.ground.radios.length(key.ue, key.bearer, key.dir))?;
+    let turn = Turn {
+        key,
+        airs: most,
+        acks: most,
+        airing: true,
+        moved: false,
+    };
+    turn_times(parts, turn, times, lines)
+}
+
+/// The turns of the radios of a bearer: downlink, and uplink.
+fn both_turns<U: Units<C> + Drop, C: MessageCodec + Drop>(
+    parts: &mut Parts<U, C>,
+    ue: UeId,
+    bearer: BearerId,
+    lines: &mut Lines,
+) -> Result<(), Cause>
+    requires { U.ready parts.old.units }
+    ensures ready { OnOk result (U.ready parts.new.units) }
+    ensures gives { EventGives lines.old
+        (both_turns (unit_world C.codec U.answer) ue bearer (state_of (U.records parts.old.units) parts.old.core parts.old.ground))
+        lines.new (state_of (U.records parts.new.units) parts.new.core parts.new.ground) result }
+{
+    let downlink = EntityKey {
+        ue,
+        bearer,
+        dir: Dir::Dl,
+    };
+    let uplink = EntityKey {
+        ue,
+        bearer,
+        dir: Dir::Ul,
+    };
+    match radio_turn(parts, downlink, lines) {
+        Ok(()) => radio_turn(parts, uplink, lines),
+        Err(cause) => Err(cause),
+    }
+}
+
+/// The same of each of these bearers, in order.
+fn bearer_turns<U: Units<C> + Drop, C: MessageCodec + Drop>(
+    parts: &mut Parts<U, C>,
+    bearers: &[(UeId, BearerId)],
+    lines: &mut Lines,
+) -> Result<(), Cause>
+    requires { U.ready parts.old.units }
+    ensures ready { OnOk result (U.ready parts.new.units) }
+    ensures gives { EventGives lines.old
+        (bearer_turns (unit_world C.codec U.answer) bearers.now (state_of (U.records parts.old.units) parts.old.core parts.old.ground))
+        lines.new (state_of (U.records parts.new.units) parts.new.core parts.new.ground) result }
+{
+    for (ue, bearer) in bearers {
+        match both_turns(parts, *ue, *bearer, lines) {
+            Ok(()) => {}
+            Err(cause) => return Err(cause),
+        }
+    }
+    Ok(())
+}
+
+/// Each radio of an attached terminal has its turn.
+pub fn all_radios<U: Units<C> + Drop, C: MessageCodec + Drop>(
+    parts: &mut Parts<U, C>,
+    lines: &mut Lines,
+) -> Result<(), Cause>
+    requires { U.ready parts.old.units }
+    ensures ready { OnOk result (U.ready parts.new.units) }
+    ensures gives { EventGives lines.old
+        (all_radios (unit_world C.codec U.answer) (attached_entities (state_of (U.records parts.old.units) parts.old.core parts.old.ground))
+        (state_of (U.records parts.old.units) parts.old.core parts.old.ground))
+        lines.new (state_of (U.records parts.new.units) parts.new.core parts.new.ground) result }
+{
+    let bearers = attached_bearers(parts.alloc, &parts.ground)?;
+    bearer_turns(parts, bearers.as_slice(), lines)
+}

@@ -1,0 +1,85 @@
+//! A round: terminals move, control messages are given, tunnels and radios have their turns, bearers are polled, and each unit has a tick.
+
+ghost use Rattle.std.specs.Prelude.{OnOk};
+ghost use Rattle.run_defs.specs.Settling.{round};
+ghost use Rattle.run_defs.specs.UnitRuns.{unit_world};
+ghost use Rattle.run_links.specs.Grounds.{state_of};
+ghost use Rattle.world_steps.specs.Gives.{EventGives};
+ghost use Rattle.world.specs.settling.Rounds.{opening, packets_move};
+
+use crate::radios::radios::all_radios;
+use crate::turns::orders::{move_each, poll_each};
+use crate::turns::tunnels::all_tunnels;
+use run_links::lines::Lines;
+use unit_messages::MessageCodec;
+use world_steps::Units;
+use world_steps::cause::Cause;
+use world_steps::letters::pumps::pump;
+use world_steps::letters::turns::tick;
+use world_steps::parts::Parts;
+
+/// The first parts of a round: terminals move, control messages are given, and tunnels have their turns.
+fn opening<U: Units<C> + Drop, C: MessageCodec + Drop>(
+    parts: &mut Parts<U, C>,
+    lines: &mut Lines,
+) -> Result<(), Cause>
+    requires { U.ready parts.old.units }
+    ensures ready { OnOk result (U.ready parts.new.units) }
+    ensures gives { EventGives lines.old
+        (opening (unit_world C.codec U.answer) (state_of (U.records parts.old.units) parts.old.core parts.old.ground))
+        lines.new (state_of (U.records parts.new.units) parts.new.core parts.new.ground) result }
+{
+    match move_each(parts, lines) {
+        Ok(()) => {}
+        Err(cause) => return Err(cause),
+    }
+    match pump(parts, lines) {
+        Ok(()) => {}
+        Err(cause) => return Err(cause),
+    }
+    all_tunnels(parts, lines)
+}
+
+/// The same, and then radios have their turns, and bearers are polled.
+fn packets_move<U: Units<C> + Drop, C: MessageCodec + Drop>(
+    parts: &mut Parts<U, C>,
+    lines: &mut Lines,
+) -> Result<(), Cause>
+    requires { U.ready parts.old.units }
+    ensures ready { OnOk result (U.ready parts.new.units) }
+    ensures gives { EventGives lines.old
+        (packets_move (unit_world C.codec U.answer) (state_of (U.records parts.old.units) parts.old.core parts.old.ground))
+        lines.new (state_of (U.records parts.new.units) parts.new.core parts.new.ground) result }
+{
+    match opening(parts, lines) {
+        Ok(()) => {}
+        Err(cause) => return Err(cause),
+    }
+    match all_radios(parts, lines) {
+        Ok(()) => {}
+        Err(cause) => return Err(cause),
+    }
+    poll_each(parts, lines)
+}
+
+/// A round.
+pub fn round<U: Units<C> + Drop, C: MessageCodec + Drop>(
+    parts: &mut Parts<U, C>,
+    lines: &mut Lines,
+) -> Result<(), Cause>
+    requires { U.ready parts.old.units }
+    ensures ready { OnOk result (U.ready parts.new.units) }
+    ensures gives { EventGives lines.old
+        (round (unit_world C.codec U.answer) (state_of (U.records parts.old.units) parts.old.core parts.old.ground))
+        lines.new (state_of (U.records parts.new.units) parts.new.core parts.new.ground) result }
+{
+    match packets_move(parts, lines) {
+        Ok(()) => {}
+        Err(cause) => return Err(cause),
+    }
+    match pump(parts, lines) {
+        Ok(()) => {}
+        Err(cause) => return Err(cause),
+    }
+    tick(parts, lines)
+}

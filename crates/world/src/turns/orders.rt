@@ -1,0 +1,170 @@
+//! Orders of a round, of which nothing is printed where they can't apply: terminals that move, and bearers that are polled.
+
+ghost use Rattle.std.specs.Prelude.{◌≡◌, OnOk};
+ghost use Rattle.gnb_types.specs.declared.inputs.Input.TheVariants as ins;
+ghost use Rattle.run_defs.specs.Settling.{attached_plans, attached_bearers, quiet_order, move_by, move_each, poll_at, poll_each};
+ghost use Rattle.run_defs.specs.Conditions.{serving_place, state_at};
+ghost use Rattle.run_defs.specs.UnitRuns.{unit_world};
+ghost use Rattle.run_links.specs.Grounds.{state_of};
+ghost use Rattle.run_units.specs.Steps.{IsAsked};
+ghost use Rattle.world_steps.specs.Gives.{EventGives};
+ghost use Rattle.world.specs.turns.Turns.{move_terminals};
+
+use crate::turns::attached::{attached_bearers, attached_terminals};
+use gnb_types::inputs::{Input, Order};
+use gnb_types::names::{BearerId, NodeId, UeId};
+use run_links::lines::Lines;
+use unit_defs::UeState;
+use unit_messages::MessageCodec;
+use world_steps::Units;
+use world_steps::cause::Cause;
+use world_steps::parts::Parts;
+
+/// An order to a unit, of which nothing is printed where it can't apply.
+fn quiet_order<U: Units<C> + Drop, C: MessageCodec + Drop>(
+    parts: &mut Parts<U, C>,
+    node: NodeId,
+    order: Order,
+    lines: &mut Lines,
+) -> Result<(), Cause>
+    requires ready { U.ready parts.old.units }
+    requires asked { IsAsked (U.records parts.old.units) node (ins.Order order) }
+    ensures ready { OnOk result (U.ready parts.new.units) }
+    ensures gives { EventGives lines.old
+        (quiet_order (unit_world C.codec U.answer) node order (state_of (U.records parts.old.units) parts.old.core parts.old.ground))
+        lines.new (state_of (U.records parts.new.units) parts.new.core parts.new.ground) result }
+{
+    match parts.try_step(node, Input::Order(order), lines) {
+        Ok(_) => Ok(()),
+        Err(cause) => Err(cause),
+    }
+}
+
+/// The state of a terminal.
+fn state_at<U: Units<C> + Drop, C: MessageCodec + Drop>(parts: &Parts<U, C>, ue: UeId) -> UeState
+    requires { U.ready parts.now.units }
+    ensures { result ≡ state_at (state_of (U.records parts.now.units) parts.now.core parts.now.ground) ue }
+{
+    match parts.units.ue_node(ue) {
+        Some(terminal) => terminal.state(),
+        None => UeState::Idle,
+    }
+}
+
+/// A terminal that is accessing arrives, and one that lost its radio returns.
+fn move_one<U: Units<C> + Drop, C: MessageCodec + Drop>(
+    parts: &mut Parts<U, C>,
+    ue: UeId,
+    lines: &mut Lines,
+) -> Result<(), Cause>
+    requires { U.ready parts.old.units }
+    ensures ready { OnOk result (U.ready parts.new.units) }
+    ensures gives { EventGives lines.old
+        (move_by (unit_world C.codec U.answer) ue (state_of (U.records parts.old.units) parts.old.core parts.old.ground)
+        (state_at (state_of (U.records parts.old.units) parts.old.core parts.old.ground) ue))
+        lines.new (state_of (U.records parts.new.units) parts.new.core parts.new.ground) result }
+{
+    match state_at(parts, ue) {
+        UeState::Accessing => quiet_order(parts, NodeId::Ue(ue.0), Order::Arrive(ue), lines),
+        UeState::Lost => quiet_order(parts, NodeId::Ue(ue.0), Order::Return(ue), lines),
+        UeState::Idle | UeState::Connected | UeState::Returning => Ok(()),
+    }
+}
+
+/// The same of each of these terminals, in order.
+fn move_terminals<U: Units<C> + Drop, C: MessageCodec + Drop>(
+    parts: &mut Parts<U, C>,
+    terminals: &[UeId],
+    lines: &mut Lines,
+) -> Result<(), Cause>
+    requires { U.ready parts.old.units }
+    ensures ready { OnOk result (U.ready parts.new.units) }
+    ensures gives { EventGives lines.old
+        (move_terminals (unit_world C.codec U.answer) terminals.now (state_of (U.records parts.old.units) parts.old.core parts.old.ground))
+        lines.new (state_of (U.records parts.new.units) parts.new.core parts.new.ground) result }
+{
+    for ue in terminals {
+        match move_one(parts, *ue, lines) {
+            Ok(()) => {}
+            Err(cause) => return Err(cause),
+        }
+    }
+    Ok(())
+}
+
+/// Each attached terminal that is accessing arrives, and each that lost its radio returns.
+pub fn move_each<U: Units<C> + Drop, C: MessageCodec + Drop>(
+    parts: &mut Parts<U, C>,
+    lines: &mut Lines,
+) -> Result<(), Cause>
+    requires { U.ready parts.old.units }
+    ensures ready { OnOk result (U.ready parts.new.units) }
+    ensures gives { EventGives lines.old
+        (move_each (unit_world C.codec U.answer) (attached_plans (state_of (U.records parts.old.units) parts.old.core parts.old.ground))
+        (state_of (U.records parts.old.units) parts.old.core parts.old.ground))
+        lines.new (state_of (U.records parts.new.units) parts.new.core parts.new.ground) result }
+{
+    let terminals = attached_terminals(parts.alloc, &parts.ground)?;
+    move_terminals(parts, terminals.as_slice(), lines)
+}
+
+/// A bearer is polled, where a downlink packet of it is unconfirmed.
+fn poll_one<U: Units<C> + Drop, C: MessageCodec + Drop>(
+    parts: &mut Parts<U, C>,
+    bearer: (UeId, BearerId),
+    lines: &mut Lines,
+) -> Result<(), Cause>
+    requires { U.ready parts.old.units }
+    ensures ready { OnOk result (U.ready parts.new.units) }
+    ensures gives { EventGives lines.old
+        (poll_at (unit_world C.codec U.answer) bearer (state_of (U.records parts.old.units) parts.old.core parts.old.ground)
+        (serving_place (state_of (U.records parts.old.units) parts.old.core parts.old.ground) bearer.0))
+        lines.new (state_of (U.records parts.new.units) parts.new.core parts.new.ground) result }
+{
+    let (ue, number) = bearer;
+    let Some((up, _)) = parts.serving_place(ue) else {
+        return Ok(());
+    };
+    let gnb = parts.serving_gnb(ue);
+    if !parts.is_unconfirmed(gnb, up, ue, number) {
+        return Ok(());
+    }
+    quiet_order(parts, NodeId::CuUp(gnb, up), Order::Poll(ue, number), lines)
+}
+
+/// The same of each of these bearers, in order.
+fn poll_bearers<U: Units<C> + Drop, C: MessageCodec + Drop>(
+    parts: &mut Parts<U, C>,
+    bearers: &[(UeId, BearerId)],
+    lines: &mut Lines,
+) -> Result<(), Cause>
+    requires { U.ready parts.old.units }
+    ensures ready { OnOk result (U.ready parts.new.units) }
+    ensures gives { EventGives lines.old
+        (poll_each (unit_world C.codec U.answer) bearers.now (state_of (U.records parts.old.units) parts.old.core parts.old.ground))
+        lines.new (state_of (U.records parts.new.units) parts.new.core parts.new.ground) result }
+{
+    for bearer in bearers {
+        match poll_one(parts, *bearer, lines) {
+            Ok(()) => {}
+            Err(cause) => return Err(cause),
+        }
+    }
+    Ok(())
+}
+
+/// Each bearer of an attached terminal is polled, where a downlink packet of it is unconfirmed.
+pub fn poll_each<U: Units<C> + Drop, C: MessageCodec + Drop>(
+    parts: &mut Parts<U, C>,
+    lines: &mut Lines,
+) -> Result<(), Cause>
+    requires { U.ready parts.old.units }
+    ensures ready { OnOk result (U.ready parts.new.units) }
+    ensures gives { EventGives lines.old
+        (poll_each (unit_world C.codec U.answer) (attached_bearers (state_of (U.records parts.old.units) parts.old.core parts.old.ground))
+        (state_of (U.records parts.old.units) parts.old.core parts.old.ground))
+        lines.new (state_of (U.records parts.new.units) parts.new.core parts.new.ground) result }
+{
+    let bearers = attached_bearers(parts.alloc, &parts.ground)?;
+    poll_bearers(parts, bearers.as_slice(), lines)
+}

@@ -1,6 +1,0 @@
-//! Events of a run of the whole base station by which a terminal comes.
-#![tactic(auto)]
-
-pub mod attaches;
-mod keeping;
-pub mod setups;

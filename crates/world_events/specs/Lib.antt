@@ -1,0 +1,3 @@
+pub mod bearers
+pub mod orders
+pub mod attaches

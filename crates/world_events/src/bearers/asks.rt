@@ -1,0 +1,74 @@
+//! `ask`: whether a bearer is quiet, with how many of its packets were delivered.
+
+ghost use Rattle.std.specs.Prelude.{◌≡◌};
+ghost use Rattle.run_defs.specs.Printing.{out_line};
+ghost use Rattle.run_defs.specs.Conditions.{ask_line};
+ghost use Rattle.run_defs.specs.Events.{ask};
+ghost use Rattle.run_defs.specs.UnitRuns.{unit_world};
+ghost use Rattle.run_links.specs.Grounds.{state_of};
+ghost use Rattle.world_steps.specs.Gives.{EventGives};
+
+use crate::bearers::quiet::rests;
+use gnb_types::keys::EntityKey;
+use gnb_types::names::{BearerId, Dir, UeId};
+use gnb_types::reasons::RefuseReason;
+use run_links::lines::Lines;
+use scenario_text::line::OutLine;
+use unit_messages::MessageCodec;
+use world_steps::Units;
+use world_steps::cause::Cause;
+use world_steps::parts::Parts;
+
+/// The line that says whether a bearer is quiet.
+pub fn ask_line<U: Units<C> + Drop, C: MessageCodec + Drop>(
+    parts: &Parts<U, C>,
+    ue: UeId,
+    bearer: BearerId,
+) -> OutLine
+    requires { U.ready parts.now.units }
+    ensures { result ≡ out_line (λ octets. octets)
+        (ask_line (state_of (U.records parts.now.units) parts.now.core parts.now.ground) ue bearer) }
+{
+    if !rests(parts, ue, bearer) {
+        return OutLine::Busy { ue, bearer };
+    }
+    let downlink = EntityKey {
+        ue,
+        bearer,
+        dir: Dir::Dl,
+    };
+    let uplink = EntityKey {
+        ue,
+        bearer,
+        dir: Dir::Ul,
+    };
+    OutLine::Quiet {
+        ue,
+        bearer,
+        downlink: parts.ground.book(downlink).delivered,
+        uplink: parts.ground.book(uplink).delivered,
+    }
+}
+
+/// `ask`.
+#[tactic(auto, unfolding(run_defs::specs::Events::ask))]
+pub fn ask<U: Units<C> + Drop, C: MessageCodec + Drop>(
+    parts: &Parts<U, C>,
+    ue: UeId,
+    bearer: BearerId,
+    lines: &mut Lines,
+) -> Result<(), Cause>
+    requires { U.ready parts.now.units }
+    ensures gives { EventGives lines.old
+        (ask (unit_world C.codec U.answer) ue bearer (state_of (U.records parts.now.units) parts.now.core parts.now.ground))
+        lines.new (state_of (U.records parts.now.units) parts.now.core parts.now.ground) result }
+{
+    if !parts.ground.has_bearer(ue, bearer) {
+        lines.push(OutLine::Refused {
+            reason: RefuseReason::NoBearer,
+        })?;
+        return Ok(());
+    }
+    lines.push(ask_line(parts, ue, bearer))?;
+    Ok(())
+}

@@ -1,0 +1,148 @@
+//! `handover` and `cancel`: the CU-CPs decide.
+
+ghost use Rattle.std.specs.Prelude.{◌≡◌, OnOk};
+ghost use Rattle.run_defs.specs.Conditions.{is_same_place, is_other_up};
+ghost use Rattle.run_defs.specs.Events.{handover, cancel};
+ghost use Rattle.run_defs.specs.UnitRuns.{unit_world};
+ghost use Rattle.run_links.specs.Grounds.{state_of};
+ghost use Rattle.world_steps.specs.Gives.{EventGives};
+ghost use Rattle.world_events.specs.orders.Orders.{handover_order, names, cancel_order};
+
+use crate::orders::looks::{is_busy_with, is_source};
+use crate::orders::ordering::{Ordered, give_order};
+use cu_cp_rows::control_rows::is_same_gnb;
+use gnb_types::inputs::Order;
+use gnb_types::names::{Gnb, NodeId, UeId};
+use gnb_types::plans::Plan;
+use gnb_types::reasons::RefuseReason;
+use run_links::lines::Lines;
+use unit_messages::MessageCodec;
+use world_steps::Units;
+use world_steps::cause::Cause;
+use world_steps::parts::Parts;
+
+/// Whether a terminal that this gNB serves at this place is at that DU already.
+fn is_same_place(gnb: Gnb, du: u8, serving: Gnb, place: Option<(u8, u8)>) -> bool
+    ensures { result ≡ is_same_place gnb du serving place }
+{
+    match place {
+        Some((_, there)) => is_same_gnb(gnb, serving) && there == du,
+        None => false,
+    }
+}
+
+/// Whether it would change its CU-UP within its gNB.
+fn is_other_up(gnb: Gnb, up: u8, serving: Gnb, place: Option<(u8, u8)>) -> bool
+    ensures { result ≡ is_other_up gnb up serving place }
+{
+    match place {
+        Some((there, _)) => is_same_gnb(gnb, serving) && there != up,
+        None => false,
+    }
+}
+
+fn handover_order<U: Units<C> + Drop, C: MessageCodec + Drop>(
+    parts: &Parts<U, C>,
+    ue: UeId,
+    gnb: Gnb,
+    up: u8,
+    du: u8,
+) -> Ordered
+    requires { U.ready parts.now.units }
+    ensures { result ≡ handover_order (state_of (U.records parts.now.units) parts.now.core parts.now.ground) ue gnb up du }
+{
+    if !parts.ground.is_attached(ue) {
+        return Err(RefuseReason::NoUe);
+    }
+    let serving = parts.serving_gnb(ue);
+    let place = parts.serving_place(ue);
+    if is_same_place(gnb, du, serving, place) {
+        return Err(RefuseReason::Same);
+    }
+    if is_other_up(gnb, up, serving, place) {
+        return Err(RefuseReason::NotAllowed);
+    }
+    if is_busy_with(parts, ue) {
+        return Err(RefuseReason::Busy);
+    }
+    match parts.ground.plan(ue) {
+        Some(plan) => Ok((
+            NodeId::CuCp(serving),
+            Order::Handover(Plan {
+                gnb,
+                up,
+                du,
+                ..*plan
+            }),
+        )),
+        None => Err(RefuseReason::NoUe),
+    }
+}
+
+/// Whether a handover is one of this terminal.
+fn names(order: Ordered, ue: UeId) -> bool
+    ensures { result ≡ names order ue }
+{
+    match order {
+        Ok((_, Order::Handover(goal))) => goal.ue.0 == ue.0,
+        _ => true,
+    }
+}
+
+fn cancel_order<U: Units<C> + Drop, C: MessageCodec + Drop>(
+    parts: &Parts<U, C>,
+    ue: UeId,
+) -> Ordered
+    requires { U.ready parts.now.units }
+    ensures { result ≡ cancel_order (state_of (U.records parts.now.units) parts.now.core parts.now.ground) ue }
+{
+    if !parts.ground.is_attached(ue) {
+        return Err(RefuseReason::NoUe);
+    }
+    if is_source(parts.units.cu_control(Gnb::A).state(ue)) {
+        return Ok((NodeId::CuCp(Gnb::A), Order::Cancel(ue)));
+    }
+    if is_source(parts.units.cu_control(Gnb::B).state(ue)) {
+        return Ok((NodeId::CuCp(Gnb::B), Order::Cancel(ue)));
+    }
+    Err(RefuseReason::Empty)
+}
+
+/// `handover`.
+pub fn handover<U: Units<C> + Drop, C: MessageCodec + Drop>(
+    parts: &mut Parts<U, C>,
+    ue: UeId,
+    gnb: Gnb,
+    up: u8,
+    du: u8,
+    lines: &mut Lines,
+) -> Result<(), Cause>
+    requires { U.ready parts.old.units }
+    ensures ready { OnOk result (U.ready parts.new.units) }
+    ensures gives { EventGives lines.old
+        (handover (unit_world C.codec U.answer) ue gnb up du (state_of (U.records parts.old.units) parts.old.core parts.old.ground))
+        lines.new (state_of (U.records parts.new.units) parts.new.core parts.new.ground) result }
+{
+    let order = handover_order(parts, ue, gnb, up, du);
+    if !names(order, ue) {
+        // A plan is kept under its own terminal, so that this doesn't happen.
+        return Err(Cause::Memory);
+    }
+    give_order(parts, order, lines)
+}
+
+/// `cancel`.
+pub fn cancel<U: Units<C> + Drop, C: MessageCodec + Drop>(
+    parts: &mut Parts<U, C>,
+    ue: UeId,
+    lines: &mut Lines,
+) -> Result<(), Cause>
+    requires { U.ready parts.old.units }
+    ensures ready { OnOk result (U.ready parts.new.units) }
+    ensures gives { EventGives lines.old
+        (cancel (unit_world C.codec U.answer) ue (state_of (U.records parts.old.units) parts.old.core parts.old.ground))
+        lines.new (state_of (U.records parts.new.units) parts.new.core parts.new.ground) result }
+{
+    let order = cancel_order(parts, ue);
+    give_order(parts, order, lines)
+}

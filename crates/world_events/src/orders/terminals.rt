@@ -1,0 +1,139 @@
+//! `fail`, `arrive` and `return`: the terminal's state decides.
+
+ghost use Rattle.std.specs.Prelude.{◌≡◌, OnOk};
+ghost use Rattle.unit_defs.specs.Ue.{is_connected, is_accessing, may_return};
+ghost use Rattle.run_defs.specs.Events.{fail, arrive, come_back};
+ghost use Rattle.run_defs.specs.UnitRuns.{unit_world};
+ghost use Rattle.run_links.specs.Grounds.{state_of};
+ghost use Rattle.world_steps.specs.Gives.{EventGives};
+ghost use Rattle.world_events.specs.orders.Orders.{fail_order, arrive_order, return_order};
+
+use crate::orders::looks::{has_home, state_at};
+use crate::orders::ordering::{Ordered, give_order};
+use gnb_types::inputs::Order;
+use gnb_types::names::{NodeId, UeId};
+use gnb_types::reasons::RefuseReason;
+use run_links::lines::Lines;
+use unit_defs::UeState;
+use unit_messages::MessageCodec;
+use world_steps::Units;
+use world_steps::cause::Cause;
+use world_steps::parts::Parts;
+
+fn is_connected(state: UeState) -> bool
+    ensures { result ≡ is_connected state }
+{
+    matches!(state, UeState::Connected)
+}
+
+fn is_accessing(state: UeState) -> bool
+    ensures { result ≡ is_accessing state }
+{
+    matches!(state, UeState::Accessing)
+}
+
+/// Whether a terminal in this state may return to its home.
+fn may_return(state: UeState) -> bool
+    ensures { result ≡ may_return state }
+{
+    matches!(state, UeState::Lost | UeState::Accessing)
+}
+
+fn fail_order<U: Units<C> + Drop, C: MessageCodec + Drop>(parts: &Parts<U, C>, ue: UeId) -> Ordered
+    requires { U.ready parts.now.units }
+    ensures { result ≡ fail_order (state_of (U.records parts.now.units) parts.now.core parts.now.ground) ue }
+{
+    if !parts.ground.is_attached(ue) {
+        return Err(RefuseReason::NoUe);
+    }
+    if is_connected(state_at(parts, ue)) {
+        Ok((NodeId::Ue(ue.0), Order::Fail(ue)))
+    } else {
+        Err(RefuseReason::NoRadio)
+    }
+}
+
+fn arrive_order<U: Units<C> + Drop, C: MessageCodec + Drop>(
+    parts: &Parts<U, C>,
+    ue: UeId,
+) -> Ordered
+    requires { U.ready parts.now.units }
+    ensures { result ≡ arrive_order (state_of (U.records parts.now.units) parts.now.core parts.now.ground) ue }
+{
+    if !parts.ground.is_attached(ue) {
+        return Err(RefuseReason::NoUe);
+    }
+    if is_accessing(state_at(parts, ue)) {
+        Ok((NodeId::Ue(ue.0), Order::Arrive(ue)))
+    } else {
+        Err(RefuseReason::NotAccessing)
+    }
+}
+
+fn return_order<U: Units<C> + Drop, C: MessageCodec + Drop>(
+    parts: &Parts<U, C>,
+    ue: UeId,
+) -> Ordered
+    requires { U.ready parts.now.units }
+    ensures { result ≡ return_order (state_of (U.records parts.now.units) parts.now.core parts.now.ground) ue }
+{
+    if !parts.ground.is_attached(ue) {
+        return Err(RefuseReason::NoUe);
+    }
+    if !has_home(parts, ue) {
+        return Err(RefuseReason::NoHome);
+    }
+    if may_return(state_at(parts, ue)) {
+        Ok((NodeId::Ue(ue.0), Order::Return(ue)))
+    } else {
+        Err(RefuseReason::Busy)
+    }
+}
+
+/// `fail`.
+pub fn fail<U: Units<C> + Drop, C: MessageCodec + Drop>(
+    parts: &mut Parts<U, C>,
+    ue: UeId,
+    lines: &mut Lines,
+) -> Result<(), Cause>
+    requires { U.ready parts.old.units }
+    ensures ready { OnOk result (U.ready parts.new.units) }
+    ensures gives { EventGives lines.old
+        (fail (unit_world C.codec U.answer) ue (state_of (U.records parts.old.units) parts.old.core parts.old.ground))
+        lines.new (state_of (U.records parts.new.units) parts.new.core parts.new.ground) result }
+{
+    let order = fail_order(parts, ue);
+    give_order(parts, order, lines)
+}
+
+/// `arrive`.
+pub fn arrive<U: Units<C> + Drop, C: MessageCodec + Drop>(
+    parts: &mut Parts<U, C>,
+    ue: UeId,
+    lines: &mut Lines,
+) -> Result<(), Cause>
+    requires { U.ready parts.old.units }
+    ensures ready { OnOk result (U.ready parts.new.units) }
+    ensures gives { EventGives lines.old
+        (arrive (unit_world C.codec U.answer) ue (state_of (U.records parts.old.units) parts.old.core parts.old.ground))
+        lines.new (state_of (U.records parts.new.units) parts.new.core parts.new.ground) result }
+{
+    let order = arrive_order(parts, ue);
+    give_order(parts, order, lines)
+}
+
+/// `return`.
+pub fn come_back<U: Units<C> + Drop, C: MessageCodec + Drop>(
+    parts: &mut Parts<U, C>,
+    ue: UeId,
+    lines: &mut Lines,
+) -> Result<(), Cause>
+    requires { U.ready parts.old.units }
+    ensures ready { OnOk result (U.ready parts.new.units) }
+    ensures gives { EventGives lines.old
+        (come_back (unit_world C.codec U.answer) ue (state_of (U.records parts.old.units) parts.old.core parts.old.ground))
+        lines.new (state_of (U.records parts.new.units) parts.new.core parts.new.ground) result }
+{
+    let order = return_order(parts, ue);
+    give_order(parts, order, lines)
+}

@@ -1,1 +1,0 @@
-pub use Rattle.world_steps.specs as world_steps

@@ -1,3 +1,0 @@
-pub mod Letters
-pub mod Turns
-pub use Rattle.world_steps.specs as world_steps

@@ -1,3 +1,0 @@
-pub mod Aired
-pub mod Got
-pub use Rattle.world_steps.proofs as world_steps

@@ -1,0 +1,2 @@
+pub mod Aired
+pub mod Got

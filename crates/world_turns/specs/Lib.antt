@@ -1,2 +1,0 @@
-pub mod Turns
-pub use Rattle.world_packets.specs.world_steps as world_steps
