@@ -1,7 +1,7 @@
 -- The hop of a CU-UP's context for a bearer: the downlink packets that it is to take, in order (TS 38.300, 9.2.3.2.3). For the first context
 -- that serves the bearer these are the items of its N3 tunnel. A further one has what the one before put for it when it was frozen (the
 -- numbered packets, and those that waited); what that one had not yet taken of its own hop then; and the items of its own N3 tunnel.
-use Rattle.std.specs.Prelude.{ℕ, ◌≡◌, ◌==◌, ◌+◌, Bool, true, false, not, ◌&&◌, List, [], ◌∷◌, ◌++◌, drop, filter, length, Option, Some, None, is_some, slice_get, if◌then◌else◌, Any, ⊥, ◌⊎◌}
+use Rattle.std.specs.Prelude.{ℕ, ◌≡◌, ◌==◌, ◌+◌, Bool, true, false, not, ◌&&◌, List, [], ◌∷◌, ◌++◌, drop, filter, length, Option, Some, None, is_some, slice_get, if◌then◌else◌, Any, ◌⊎◌}
 use Rattle.std.specs.List.{flat_map, list_any}
 use Rattle.std.specs.Ordering.{eq_by_cmp}
 use Rattle.gnb_types.specs.declared.names.NodeId.{NodeId}
