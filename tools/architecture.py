@@ -4,7 +4,7 @@
 A table stands between a line `<!-- table -->` and a line `<!-- end -->` under the heading of its family; what stands around it is written by hand. What a
 crate is, is the first sentence of its first file's doc comment, without its kind and what stands in brackets of standards; of a long one what stands before a colon
 or semicolon. Calls are public functions, and methods of public types and traits (of a crate of theorems: the theorems); code are the lines of src/ that are neither
-blank nor a comment, and lines all of src/, specs/ and proofs/.
+blank nor a comment, and lines all of src/, specs/ and proofs/, both in hundreds.
 
 Usage: tools/architecture.py [--write]
     --write: writes the tables; without it, only says where page and repository differ. A heading that the page lacks is not written: that is by hand.
@@ -33,9 +33,14 @@ def short(says):
     return says[:1].upper() + says[1:]
 
 
+def hundreds(count):
+    """A number of lines in hundreds, so that the page needn't follow each line."""
+    return f"{round(count, -2):,}" if count >= 50 else "0"
+
+
 def row(name):
     says = short(facts.sentence(facts.paragraph(facts.head_of(facts.root_of(name))))).replace("|", "\\|")
-    return f"| `{name}` | {says} | {facts.call_count(name)} | {facts.code_lines(name)} | {facts.all_lines(name)} |"
+    return f"| `{name}` | {says} | {facts.call_count(name)} | {hundreds(facts.code_lines(name))} | {hundreds(facts.all_lines(name))} |"
 
 
 def table(heading):
