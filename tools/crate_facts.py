@@ -156,17 +156,28 @@ def doc_before(text, at):
     return sentence(paragraph(found))
 
 
+def top_of(name, path):
+    """The module of a crate's root in which a file stands, or the file's own name."""
+    return path.relative_to(CRATES / name / "src").parts[0].removesuffix(".rt")
+
+
+@functools.cache
 def methods(name):
-    """By type, the public methods of a crate's own types, and the methods of its traits."""
-    found = collections.defaultdict(list)
+    """By type and by the module of the root: the public methods of a crate's own types, and the methods of its traits."""
+    found = collections.defaultdict(lambda: collections.defaultdict(list))
     for path in sources(name):
-        text = text_of(path)
+        text, top = text_of(path), top_of(name, path)
         for block in IMPLEMENTATION.finditer(text):
-            body = block_of(text, block.start())
-            found[block[1]] += re.findall(r"^    pub (?:const )?fn (\w+)", body, re.MULTILINE)
+            found[block[1]][top] += re.findall(r"^    pub (?:const )?fn (\w+)", block_of(text, block.start()), re.MULTILINE)
         for block in re.finditer(r"^pub trait (\w+)", text, re.MULTILINE):
-            found[block[1]] += re.findall(r"^    (?:const )?fn (\w+)", block_of(text, block.start()), re.MULTILINE)
+            found[block[1]][top] += re.findall(r"^    (?:const )?fn (\w+)", block_of(text, block.start()), re.MULTILINE)
     return found
+
+
+def methods_of(name, item, top):
+    """The public methods of a type that stands in a module of the root; another module with a type of the same name has its own."""
+    others = {top_of(name, path) for path in sources(name) for row in ITEM.finditer(text_of(path)) if row[4] == item and row[3] in ("struct", "enum", "trait")}
+    return tuple(method for where, own in methods(name)[item].items() if where == top or where not in others for method in own)
 
 
 def block_of(text, start):
@@ -179,11 +190,11 @@ def block_of(text, start):
 def public_items(name):
     """The public items of a crate, by the path under which others name them: {path: Item}."""
     found = {}
-    collect(name, root_of(name), "", methods(name), found)
+    collect(name, root_of(name), "", found)
     return found
 
 
-def collect(name, path, prefix, own_methods, found):
+def collect(name, path, prefix, found):
     """Adds the public items of a file and of its public modules."""
     text = without_tests(text_of(path))
     for row in ITEM.finditer(text):
@@ -192,14 +203,20 @@ def collect(name, path, prefix, own_methods, found):
             continue
         inner = inner_file(path, item)
         if kind == "mod" and inner:
-            collect(name, inner, f"{prefix}{item}::", own_methods, found)
+            collect(name, inner, f"{prefix}{item}::", found)
         elif kind != "mod":
-            found[prefix + item] = Item(kind, item, doc_before(text, row.start()), tuple(own_methods.get(item, ())))
+            found[prefix + item] = Item(kind, item, doc_before(text, row.start()), methods_of(name, item, top_of(name, path)))
     for row in REEXPORT.finditer(text):
+        # What stands in another module of the crate is named there, unless the root passes it on.
+        if row[1].startswith("crate::") and prefix:
+            continue
         for item in passed_on(row[1]):
-            declared = declaration(name, item)
-            if declared and not any(path.split("::")[-1] == item for path in found):
-                found[prefix + item] = declared._replace(methods=tuple(own_methods.get(item, ())))
+            declared = declaration(name, item, path if prefix else None)
+            if declared:
+                # Others name it by the shorter path.
+                for longer in [there for there in found if there.startswith(prefix) and there.endswith(f"::{item}") and found[there] == declared]:
+                    del found[longer]
+                found[prefix + item] = declared
 
 
 def inner_file(path, module):
@@ -216,13 +233,16 @@ def passed_on(words):
     return [item.split(" as ")[-1].strip() for item in names if item.strip()]
 
 
-def declaration(name, item):
-    """The declaration of a public item anywhere in a crate, or None."""
+def declaration(name, item, below_file):
+    """The declaration of a public item in a crate, or in the module of the root that a file is of; or None."""
     for path in sources(name):
+        top = top_of(name, path)
+        if below_file is not None and top != top_of(name, below_file):
+            continue
         text = text_of(path)
         for row in ITEM.finditer(text):
             if not row[1] and row[2] and row[4] == item and row[3] != "mod":
-                return Item(row[3], item, doc_before(text, row.start()), ())
+                return Item(row[3], item, doc_before(text, row.start()), methods_of(name, item, top))
     return None
 
 
