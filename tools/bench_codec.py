@@ -2,7 +2,7 @@
 """Measures the codec alone, without JSON, digits and lines, at two sizes: processor time and its ratio between the sizes, values a second and peak memory; and beside it Erlang's
 asn1 on the same octets of the same module, where it is installed.
 
-It runs two tests of tests_aper_values, as 'rt test' in its folder or the gate built them: one decodes eight spellings over and over, the other encodes their values and compares
+It runs two tests of tests_aper, as 'rt test' in its folder or the gate built them: one decodes eight spellings over and over, the other encodes their values and compares
 the octets. Of Erlang the calls alone are measured; of the tests all, so their start counts, and reading the module. Each is run several times, by turns with the other, and the
 least and the middle of its times are printed: where other work takes a processor away for a while, the least says most.
 
@@ -24,14 +24,14 @@ import bench
 import other_reading
 
 CRATE = other_reading.TOP / "crates/tests_aper"
-PROGRAM = CRATE / "out/tests_aper_values_tests"
-TESTS = {"decode": "codec::reads_values", "encode": "codec::writes_values"}
+PROGRAM = CRATE / "out/tests_aper_tests"
+TESTS = {"decode": "values::codec::reads_values", "encode": "values::codec::writes_values"}
 LARGEST = 2**32 - 8
 
 
 def table_of_tests():
     """The module of the tests, and the octets of its values in hex."""
-    source = (CRATE / "src/codec.rt").read_text()
+    source = (CRATE / "src/values/codec.rt").read_text()
     module = re.search(r'MODULE: &\[u8\] = b"(.*?)";', source, re.DOTALL)
     spelled = re.search(r"SPELLED: \[&str; \d+\] = \[(.*?)\];", source, re.DOTALL)
     if not module or not spelled:
@@ -96,7 +96,7 @@ def main():
     asked.add_argument("--small", type=int, default=200_000)
     asked.add_argument("--large", type=int, default=800_000)
     asked.add_argument("--runs", type=int, default=5, help="how often each is run")
-    asked.add_argument("--program", default=str(PROGRAM), help="the tests of tests_aper_values")
+    asked.add_argument("--program", default=str(PROGRAM), help="the tests of tests_aper")
     given = asked.parse_args()
     if not 8 <= given.small < given.large <= LARGEST or given.small % 8 or given.large % 8:
         asked.error(f"the sizes are two multiples of 8 from 8 to {LARGEST}, the smaller one first")

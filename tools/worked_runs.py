@@ -23,7 +23,7 @@ LAWS = ["worked_runs", "worked_octet_runs", "old_copy_stops_a_run"]
 BY_HAND = ["PlainCodec", "Octets", "OldUplinkCopyAndSpan"]
 EVENTS = "scenario_text.specs.declared.event"
 # the crates whose words are opened to compute a run
-OPENED = ["tables", "transaction_defs", "pdcp_defs", "unit_defs", "unit_octet_defs", "transport_defs", "run_defs", "link_defs", "gtpu", "nr_user_plane",
+OPENED = ["tables", "transaction_defs", "pdcp_defs", "unit_defs", "transport_defs", "run_defs", "link_defs", "gtpu", "nr_user_plane",
           "pdcp", "gnb_types"]
 
 if OTHER.exists():

@@ -1,10 +1,10 @@
-//! aper_stream: what stood in 5 crates
+//! A decoder of aligned PER (ITU-T X.691) whose octets come in pieces: `Decoder`.
 //!
-//! - `string_turns`: The turns of a decoder of aligned PER (ITU-T X.691) inside a string: each takes one field of it, and for the next one nothing that has been taken is taken again.
-//! - `resuming`: The turns of a decoder of aligned PER (ITU-T X.691) whose octets come in pieces.
-//! - `aper_resuming`: Steps of a decoder's proof: what its turns say of the octets of its pieces is what is said of the whole.
-//! - `steps`: The steps of a decoder of aligned PER (ITU-T X.691) whose octets come in pieces: the turns of aper_resuming, but that of a string one field is taken after another.
-//! - `decoder`: A decoder of aligned PER (ITU-T X.691) whose octets come in pieces.
+//! - `string_turns`: A turn inside a string takes one of its fields, and takes nothing again for the next one.
+//! - `resuming`: A turn reads as far as the octets that came go, and is taken again when more come.
+//! - `aper_resuming`: Proof steps: what the turns say of the octets of the pieces is so of the whole.
+//! - `steps`: A step is a turn of `resuming`, but in a string it takes one field after another.
+//! - `decoder`: `Decoder` takes pieces, and gives the value once its last octet is there, or the first wrong field.
 #![tactic(auto)]
 
 pub mod aper_resuming;

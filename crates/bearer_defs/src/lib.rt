@@ -1,7 +1,7 @@
-//! bearer_defs: what stood in 2 crates
+//! Definitions alone: the model of one bearer in a run, its downlink and its uplink.
 //!
-//! - `chain_defs`: Definitions alone: the part of a run that one bearer's downlink is, the orders that change it, and what they ask for.
-//! - `uplink_defs`: Definitions alone: the part of a run that one bearer's uplink is, the orders that change it, and what they ask for.
+//! - `chain_defs`: The downlink of a bearer, the orders that change it, and what each order asks for.
+//! - `uplink_defs`: The uplink of a bearer, the orders that change it, and what each order asks for.
 #![tactic(auto)]
 
 pub mod chain_defs;

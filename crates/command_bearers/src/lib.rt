@@ -1,7 +1,8 @@
-//! command_bearers: what stood in 2 crates
+//! The words `um` and `duplicate`: a script of one bearer is read line by line, and each event is applied and its lines are written before
+//! the next line is read.
 //!
-//! - `command_um`: The word `um`: a script of events of one unacknowledged bearer is read line by line, each event is applied before the next line is read, and what it prints is written.
-//! - `command_dup`: The word `duplicate`: a script of events of one bearer with duplication is read line by line, each event is applied before the next line is read, and what it prints is written.
+//! - `command_um`: The word `um` runs one unacknowledged bearer.
+//! - `command_dup`: The word `duplicate` runs one bearer with PDCP duplication.
 #![tactic(auto)]
 
 pub mod command_dup;

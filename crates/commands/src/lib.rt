@@ -1,10 +1,10 @@
-//! commands: what stood in 5 crates
+//! What all words of the program share, with the words `check` and `profile`.
 //!
 //! - `input_lines`: A line of the input is read here, for every word of the program.
-//! - `input_module`: The module of an input: its first line is a header, which names a version of the profile or says that a module's text follows.
-//! - `command_output`: What each word of the program needs for its output: its lines are written, and the statuses are made that all words share.
-//! - `command_check`: The word `check`: an input is checked that is to be a header, with the text of a module where it says so, and nothing else; what it is is written.
-//! - `command_profile`: The word `profile`: the text of the profile's module is written.
+//! - `input_module`: The first line names a version of the profile, or says that a module's text follows.
+//! - `command_output`: Lines are written, and the statuses that all words share are made.
+//! - `command_check`: The word `check` reports whether an input is a header, with a module's text where it says so, and nothing else.
+//! - `command_profile`: The word `profile` writes the text of the profile's module.
 #![tactic(auto)]
 
 pub mod command_check;

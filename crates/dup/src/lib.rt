@@ -1,7 +1,7 @@
-//! dup: what stood in 2 crates
+//! One downlink bearer with PDCP duplication as a script: its run and its text.
 //!
-//! - `run`: The run of one downlink bearer with PDCP duplication over two legs, up to the step in which it ends.
-//! - `text`: The text of a script of one bearer with duplication: the events that it may have, and the lines that they print.
+//! - `run`: The run applies events over two legs, up to the step in which it ends.
+//! - `text`: The text of events is read, and lines are printed.
 #![tactic(auto)]
 
 pub mod run;

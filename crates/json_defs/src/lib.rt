@@ -1,4 +1,4 @@
-//! Definitions alone: values of a module's types as JSON (RFC 8259), and which JSON is none.
+//! Definitions alone: values of a module's types as JSON (RFC 8259), and which JSON shows no value.
 #![tactic(auto)]
 
 mod fault;

@@ -1,9 +1,9 @@
-//! json_fields: what stood in 4 crates
+//! The parts of values as JSON has them: members, simple values, and the types that say which are there.
 //!
-//! - `members`: What a value of JSON is: a number, octets, bits, a name among names, or an object with members.
-//! - `types`: The types of a module as JSON takes them: each with its names followed, the names that JSON shows, and what its set holds.
-//! - `simple`: Values that JSON shows of the types without types inside, or what is wrong with it.
-//! - `parts`: Which part of a type, and which outcome of a message, an object of JSON has as a member; and the order of information elements.
+//! - `members`: A JSON value is a number, octets, bits, a name among names, or an object with members.
+//! - `types`: A type follows its names, and says which names JSON shows and what its set holds.
+//! - `simple`: A type without types inside shows a value, or says what is wrong with the JSON.
+//! - `parts`: An object's member says which part of a type, or which outcome of a message, it has; information elements have an order.
 #![tactic(auto)]
 
 pub mod members;

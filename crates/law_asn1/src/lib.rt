@@ -1,8 +1,8 @@
-//! law_asn1: what stood in 3 crates
+//! Laws of ASN.1 modules: what is read of a text is what its items say.
 //!
-//! - `text`: Law: a module that is read is written with the items that it was read from.
-//! - `names`: Laws: what a module's items hold, told of the items alone, is what its types and assignments refer to.
-//! - `depth`: Laws: how deep types stand one inside another, told of a module's items alone, is what its types say.
+//! - `text`: A module that is read is written with the items that it was read from.
+//! - `names`: The types and assignments of a module refer to what its items alone say that they hold.
+//! - `depth`: The items alone say how deep types stand inside one another, as the types do.
 #![tactic(auto)]
 
 pub mod depth;

@@ -1,12 +1,12 @@
-//! law_downlink_order: what stood in 7 crates
+//! Laws of the downlink of one bearer's model: every list of orders that keeps what they ask delivers in order, each packet once.
 //!
-//! - `chain`: Laws of the downlink of one bearer, over every list of orders that keeps what is asked of them: any handovers between contexts, with packets forwarded through several.
-//! - `path`: Laws of the way down from a CU-UP to the terminal, over every list of steps that keeps what is asked of them: whatever frames of F1-U are lost, and whenever all is sent again.
-//! - `lossy_chain`: Laws of the downlink of one bearer over handovers where frames of F1-U may be lost, over every list of steps that keeps what is asked of them.
-//! - `heard_packets`: Laws of the packets that a terminal takes, in orders of the chain of contexts, where frames of F1-U may have been lost.
-//! - `put_packets`: Laws of the packets that orders of the chain of contexts put for the present radio.
-//! - `waiting_frames`: Laws of the frames that stand on a DU's downlink tunnel, any of which may be lost, beside the chain of contexts and the radio down.
-//! - `sent_frames`: Laws of the frames that a CU-UP sends to a DU, any of which may be lost, beside the chain of contexts.
+//! - `chain`: A chain of contexts delivers in order over any handovers, with packets forwarded through several.
+//! - `path`: The path from a CU-UP to the terminal delivers in order, whatever frames of F1-U are lost, and whenever all is sent again.
+//! - `lossy_chain`: A chain of contexts delivers in order where frames of F1-U may be lost.
+//! - `heard_packets`: A terminal takes a packet that was put for the present radio, whatever else was lost there.
+//! - `put_packets`: What is sent after a switch was put for the present radio.
+//! - `waiting_frames`: Frames wait on a DU's downlink tunnel, and any of them may be lost: what the DU takes fits on the radio.
+//! - `sent_frames`: A CU-UP sends frames to a DU, and any of them may be lost: what it sends fits to what stands between.
 #![tactic(auto)]
 
 pub mod chain;

@@ -1,16 +1,16 @@
-//! law_downlink_scripts: what stood in 11 crates
+//! Laws of scripts that set terminals up without messages and move packets down: every run of one delivers in order, each packet once.
 //!
-//! - `steady_rows`: Laws of what units do to the downlink of a bearer while no control message comes.
-//! - `delivers`: Laws: a run delivers.
-//! - `run_delivers`: Laws: every run delivers.
-//! - `packet_scripts`: A law of scripts that move packets alone.
-//! - `steady_facts`: Steps of the laws of runs in which no unit is told anything: what a state has of the downlink of a bearer, when all of it is in order, and what an event tells of it.
-//! - `steady_steps`: Steps of the laws of runs in which no unit is told anything: what a CU-UP, a DU and a terminal get leaves each bearer in order.
-//! - `steady_events`: Steps of the laws of runs in which no unit is told anything: each event of packets leaves each bearer in order.
-//! - `steady_runs`: Laws of runs in which no unit is told anything.
-//! - `steady_counts`: Laws of COUNTs in runs in which no unit is told anything.
-//! - `wires`: Laws of the links of any run.
-//! - `steady_lines`: Laws of the COUNTs that a transcript shows.
+//! - `steady_rows`: Units pass a bearer's downlink on in order while no control message comes.
+//! - `delivers`: A CU-UP and a terminal deliver the packet that they await.
+//! - `run_delivers`: In every run the oldest item delivers, where it has the awaited packet and is neither held nor frozen.
+//! - `packet_scripts`: Scripts that move packets alone put no control message.
+//! - `steady_facts`: Proof steps: what a state has of a bearer's downlink, and when all of it is in order.
+//! - `steady_steps`: Proof steps: a CU-UP, a DU and a terminal keep each bearer in order at what they get.
+//! - `steady_events`: Proof steps: each event of packets keeps each bearer in order.
+//! - `steady_runs`: What a bearer delivers is a prefix of what was offered.
+//! - `steady_counts`: Each COUNT on a link is the place of its packet among those offered.
+//! - `wires`: In any run each item that is got is the oldest on its link that was neither taken nor lost.
+//! - `steady_lines`: Each COUNT that a transcript shows is the place of its packet among those offered.
 #![tactic(auto)]
 
 pub mod delivers;

@@ -1,8 +1,8 @@
-//! law_frames_are_numbered: what stood in 3 crates
+//! Law: in every run the data frames that CU-UPs put on a tunnel have the NR-U numbers 0, 1, 2 and so on.
 //!
-//! - `run_switches`: A law of the requests that switch bearers, in any run.
-//! - `number_facts`: Steps of the law of the numbers on a tunnel: which bearer is switched there, and that what a CU-UP puts there is counted.
-//! - `tunnel_numbers`: A law of the NR-U numbers on a tunnel, in any run.
+//! - `run_switches`: No two switches name one downlink tunnel.
+//! - `number_facts`: Proof steps: which bearer is switched to a tunnel, and that what a CU-UP puts there is counted.
+//! - `tunnel_numbers`: The frames of every tunnel are numbered, in every run.
 #![tactic(auto)]
 
 pub mod number_facts;

@@ -1,16 +1,17 @@
-//! law_octets_say_the_same: what stood in 11 crates
+//! Laws of the run over octets: where units read in octets what is said, as on scripts that move packets down, it prints what the run of
+//! messages prints.
 //!
-//! - `octet_rows`: Laws of units over octets, beside units that are told what is said.
-//! - `octet_runs`: Laws of runs over octets, beside the runs of what is said.
-//! - `octet_answers`: Laws of what the units of a run answer over octets.
-//! - `octet_asks`: A law of questions of a run, over octets.
-//! - `units_follow`: Laws of units that do what the tables say.
-//! - `plain_units`: Laws of plain units, as the runner has them.
-//! - `octet_facts`: Steps of the laws of runs of packets down, over octets: what stands on links and what units keep is in range, and each item that a unit gets, carries or is confirmed keeps it so.
-//! - `octet_ranges`: A law of the states of runs of packets down.
-//! - `octet_steady`: Laws of runs of packets down, over octets.
-//! - `octet_local`: Laws that units over octets act on what they got, and which need not.
-//! - `octet_downlink`: Laws of what plain units deliver, over octets.
+//! - `octet_rows`: A unit that reads octets does what a unit does that is told what they say.
+//! - `octet_runs`: A run over octets prints what the run of messages prints, where units read in octets what is said.
+//! - `octet_answers`: In a run, units make of an item's octets what they make of what it says.
+//! - `octet_asks`: A bearer is quiet over octets exactly where it is quiet otherwise.
+//! - `units_follow`: Units that answer as their tables do after decoding have the run of the tables.
+//! - `plain_units`: Plain units, as the runner has them, have the run of the tables.
+//! - `octet_facts`: Proof steps: what stands on links and what units keep is in range, and stays so.
+//! - `octet_ranges`: What stands on links and what units keep is in range in runs of packets down.
+//! - `octet_steady`: Runs of packets down are the same over octets.
+//! - `octet_local`: Units over octets act on what they got; units of any meaning need not.
+//! - `octet_downlink`: Plain units over octets deliver downlink packets in order.
 #![tactic(auto)]
 
 pub mod octet_answers;

@@ -1,13 +1,14 @@
-//! law_requests_act_once: what stood in 8 crates
+//! Laws of control messages: in every run each request acts at most once, in the order of issue.
 //!
-//! - `channel`: Laws of requests and replies, between any two nodes and for any terminal, whatever stands for their messages: each request acts at most once, and each reply is that to the request that it answers.
-//! - `channel_rows`: Laws: what units do to requests and replies is what may be done on a channel: each step of the core, of a DU, of a CU-UP and of a CU-CP is a list of orders, each of which may be made.
-//! - `cp_deadlines`: Laws of the deadlines of a CU-CP's requests: on any input only the request of a handover that is being prepared has one, so that what expires can be cancelled.
-//! - `cp_offers`: Laws of what is offered to a CU-CP: the request of each offer stays the newest that it took, unanswered.
-//! - `unit_setups`: Laws of what a DU, a CU-UP and the core ask: the setup of their interface, or nothing.
-//! - `taken_requests`: A law of the requests that a CU-UP takes.
-//! - `run_channels`: Laws of control messages in every run of the whole base station: each request is acted on at most once, in the order of issue.
-//! - `run_once`: Laws of control messages in every run of the whole base station, without a premise: CU-CPs fit what their rows ask, so each request acts at most once, in the order of issue.
+//! - `channel`: Between any two nodes and for any terminal each request acts at most once, and each reply is to the request that it
+//!   answers.
+//! - `channel_rows`: Each step of the core, a DU, a CU-UP and a CU-CP makes orders of a channel, each of which may be made.
+//! - `cp_deadlines`: Only the request of a handover under preparation has a deadline, so that what expires can be cancelled.
+//! - `cp_offers`: The request of each offer stays the newest that the CU-CP took, unanswered.
+//! - `unit_setups`: A DU and a CU-UP ask for the setup of their interface alone, and the core asks nothing.
+//! - `taken_requests`: A CU-UP never takes an old request as new.
+//! - `run_channels`: Each request acts at most once in every run, where CU-CPs fit what their rows ask.
+//! - `run_once`: CU-CPs do fit, so each request acts at most once in every run, without a premise.
 #![tactic(auto)]
 
 pub mod channel;

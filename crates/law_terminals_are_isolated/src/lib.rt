@@ -1,24 +1,24 @@
-//! law_terminals_are_isolated: what stood in 19 crates
+//! Laws of isolation: what a run keeps of a terminal (its slice) is what the terminal's own acts make of it, whatever others do.
 //!
-//! - `slices`: Laws of the slice of a terminal: what it is, and that a step of the core is one terminal's.
-//! - `terminal_slice`: Laws of the slice of a terminal at the terminal itself: its steps are its own.
-//! - `du_slice`: Laws of the slice of a terminal at a DU: a step is one terminal's.
-//! - `cp_slice`: Laws of the slice of a terminal at a CU-CP: a step is one terminal's.
-//! - `up_slice`: Laws of the slice of a terminal at a CU-UP: a step is one terminal's.
-//! - `tick_slices`: Laws of the ticks of units: a tick is a step of each terminal, one beside another.
-//! - `slice_owners`: Laws of the slice of a terminal at nodes whose open TEIDs are those that their contexts name.
-//! - `run_slices`: Laws of what the units of a run do for one terminal.
-//! - `slice_arguments`: A law of what couples terminals in a run.
-//! - `step_slices`: A law of what the units of a run do for one terminal.
-//! - `others_stay`: A law of what a run keeps of other terminals than that of a step.
-//! - `own_steps`: Laws of the steps of a run: each with what is for a terminal is that terminal's, and leaves the others.
-//! - `own_events`: Laws of the events of a run: what is one terminal's leaves the others, step by step.
-//! - `named_events`: Laws of the events that are for a terminal: they leave the others.
-//! - `all_steps`: Laws of all steps of a run: those that are no business of a terminal leave its whole slice.
-//! - `run_ticks`: Laws of the ticks of a run: a tick of a unit is a step of each terminal.
-//! - `alike_steps`: Laws of a terminal's step in two states of runs in which what is kept of it is the same.
-//! - `alike_states`: Laws of two states of runs that share a terminal's slice: the tunnels that are its, ticks, and its setup without messages.
-//! - `two_runs`: Laws of two runs: after the same acts of a terminal its slice is the same.
+//! - `slices`: The slice of a terminal is defined, and a step of the core is one terminal's.
+//! - `terminal_slice`: A terminal's steps are its own.
+//! - `du_slice`: A step of a DU is one terminal's.
+//! - `cp_slice`: A step of a CU-CP is one terminal's.
+//! - `up_slice`: A step of a CU-UP is one terminal's.
+//! - `tick_slices`: A unit's tick is a step of each terminal, one beside another.
+//! - `slice_owners`: A step of a CU-UP or DU whose open TEIDs are those that its contexts name leaves the other terminals' TEIDs too.
+//! - `run_slices`: A unit's step in a run is for one terminal.
+//! - `slice_arguments`: Terminals are coupled in a run by what is shared at a node, and by nothing else.
+//! - `step_slices`: A run's step changes one terminal's slice at the units.
+//! - `others_stay`: A step that is one terminal's keeps what the run keeps of the others.
+//! - `own_steps`: A step with what is for a terminal is that terminal's, and leaves the others.
+//! - `own_events`: An event that is one terminal's leaves the others, step by step.
+//! - `named_events`: An event that names a terminal leaves the others.
+//! - `all_steps`: A step that is no business of a terminal leaves its whole slice.
+//! - `run_ticks`: A tick in a run is a step of each terminal.
+//! - `alike_steps`: One step of a terminal does the same in two states with the same slice.
+//! - `alike_states`: Two states with the same slice share the terminal's tunnels, ticks, and setup without messages.
+//! - `two_runs`: After the same acts of a terminal its slice is the same in two runs.
 #![tactic(auto)]
 
 pub mod alike_states;

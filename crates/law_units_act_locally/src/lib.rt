@@ -1,11 +1,11 @@
-//! law_units_act_locally: what stood in 6 crates
+//! Laws of locality: what a unit puts or delivers was offered to it, or got by it, and control messages keep to their interface.
 //!
-//! - `local_packets`: Laws of the packets of a run.
-//! - `local_lengths`: Laws of the packets of a run, with the lengths of its terminals' numbers.
-//! - `local`: The law that units act on what they got, of a run of the whole base station.
-//! - `cp_interfaces`: A law of the interfaces to which a CU-CP keeps.
-//! - `run_interfaces`: Laws of the interfaces of control messages in any run.
-//! - `local_interfaces`: A law of every run: nothing passes but over the links, and each control message on its interface.
+//! - `local_packets`: Each packet that a unit puts or delivers was offered or got there, for the same terminal, bearer and direction.
+//! - `local_lengths`: The same with numbers as long as each terminal's plan says.
+//! - `local`: The same in the octets of each link.
+//! - `cp_interfaces`: A CU-CP puts each message on its interface, where it got messages so.
+//! - `run_interfaces`: Each control message in a run is of the interface between its two ends.
+//! - `local_interfaces`: Nothing passes but over links, each control message on its interface.
 #![tactic(auto)]
 
 pub mod cp_interfaces;

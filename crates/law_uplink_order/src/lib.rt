@@ -1,11 +1,11 @@
-//! law_uplink_order: what stood in 6 crates
+//! Laws of the uplink of one bearer's model: every list of orders that keeps what they ask delivers in order, each packet once.
 //!
-//! - `facts`: Steps of the laws of the uplink of one bearer: what holds in every run, and that what control does to one context keeps it.
-//! - `takes`: Steps of the laws of the uplink of one bearer: what a CU-UP takes, passes on and delivers, and how its tunnels end.
-//! - `moves`: Steps of the laws of the uplink of one bearer: what the terminal and its radio do, a freeze, and an arrival.
-//! - `uplink`: Laws of the uplink of one bearer, over every list of orders that keeps what is asked of them: any handovers between contexts, with packets forwarded through several.
-//! - `gone`: Laws of a terminal that is released: what was delivered stays, and is a prefix of what was offered.
-//! - `closing`: Laws of the end of contexts: they end from the oldest on, with nothing left on their tunnels.
+//! - `facts`: Proof steps: what holds in every run of orders, and that what control does to one context keeps it.
+//! - `takes`: Proof steps: what a CU-UP takes, passes on and delivers, and how its tunnels end.
+//! - `moves`: Proof steps: what the terminal and its radio do, a freeze, and an arrival.
+//! - `uplink`: A chain of contexts delivers in order over any handovers, with packets forwarded through several.
+//! - `gone`: What was delivered of a released terminal stays a prefix of what was offered.
+//! - `closing`: Contexts end from the oldest on, with nothing left on their tunnels, down and up.
 #![tactic(auto)]
 
 pub mod closing;

@@ -1,31 +1,32 @@
-//! proof_bearer_refinement: what stood in 26 crates
+//! Proof steps: a run, step by step, does to one bearer's tunnels and contexts what orders do to the bearer's model.
 //!
-//! - `run_terminals`: Laws of terminals in every run: what happens to one is a list of inputs of its table, and these are a list of orders of each of its bearers.
-//! - `law_run_units`: Laws of CU-UPs and DUs in every run: what happens to one is a list of inputs of its table, and these are a list of orders of each bearer.
-//! - `run_bearers`: Laws of all units in every run: what happens is one list, in its order, and for each bearer a list of orders of its contexts.
-//! - `tie_facts`: What ties the tunnels of a run to the lists of a bearer's parts, and steps of the law of it: whose a tunnel is, what a step puts on it, and which order takes from it.
-//! - `run_ties`: Laws of the tunnels of a run and the lists of a bearer's parts: they are the same, step by step.
-//! - `frame_ties`: Laws of the frames on a DU's tunnel in a run.
-//! - `other_contexts`: Laws of a context of the chain that sends to a DU, beside what a CU-UP is asked of another context, and beside the radio.
-//! - `put_ties`: Laws of what a DU puts on a bearer's tunnels in a run: it is orders of the uplink's part, and the run's tunnels stay the lists of the bearer's parts.
-//! - `core_ties`: Laws of what the core puts on a bearer's tunnels in a run: it is orders of the downlink's part, and the run's tunnels stay the lists of the bearer's parts.
-//! - `up_ties`: Laws of a step of a CU-UP in a run: what it opens for a bearer stands empty, and the run's tunnels stay the lists of the bearer's parts.
-//! - `radio_ties`: Laws of the radio up between a terminal and a DU in a run, and the lists of a bearer's part.
-//! - `radio_downs`: Laws of the radio down between a DU and a terminal in a run, beside a bearer's part down.
-//! - `du_radios`: Laws of what a DU puts on the radio down of a bearer, in a run.
-//! - `shown_orders`: Laws of orders that leave what a terminal shows of a bearer.
-//! - `tied_runs`: Laws of a whole run beside the parts of one bearer: step by step the tunnels are the parts' lists, and the parts run one list of orders.
-//! - `rest_ties`: A law of the steps of a run that leave a bearer's contexts and tunnels.
-//! - `first_ties`: A law that runs begin tied to a bearer's parts, and go on so.
-//! - `beside_ties`: A law of the steps of units that are no terminals, beside a radio up.
-//! - `beside_downs`: A law of the steps of CU-CPs and CU-UPs in a run, beside a terminal's radio down.
-//! - `known_airs`: Laws of a terminal's radio down in a run: what was carried there and isn't confirmed to the DU was received.
-//! - `terminal_ties`: A law of a terminal's own steps in a run, beside the parts of one bearer.
-//! - `heard_ties`: A law of a terminal's own steps in a run, beside the parts of one bearer, where frames of F1-U may have been lost.
-//! - `home_ties`: A law of a DU that takes what stands next on a terminal's radio up in a run.
-//! - `du_ties`: A law of the steps of a DU by which nothing is carried up for a bearer.
-//! - `left_ties`: Laws of steps of a run that leave a bearer's contexts and tunnels, and aren't a unit's with items.
-//! - `set_up_ties`: A law of the terminals that are set up without messages in a run.
+//! - `run_terminals`: A terminal in a run takes a list of inputs, which are orders of each of its bearers.
+//! - `law_run_units`: CU-UPs and DUs in a run take lists of inputs, which are orders of each bearer.
+//! - `run_bearers`: A run is one list of inputs, and for each bearer a list of orders of its contexts.
+//! - `tie_facts`: The tunnels of a run and the lists of a bearer's model are tied: whose a tunnel is, what a step puts there, and which
+//!   order takes from it.
+//! - `run_ties`: The tunnels of a run stay the lists of the bearer's model, step by step.
+//! - `frame_ties`: The frames on a DU's tunnel are those that stood there and those that the orders of a CU-UP's step send.
+//! - `other_contexts`: A context that sends to a DU stays as it is beside orders to another context, and beside the radio.
+//! - `put_ties`: What a DU puts for a bearer is orders of the uplink's model.
+//! - `core_ties`: An offered packet, and a message to the core, are orders of the downlink's model.
+//! - `up_ties`: A CU-UP's step opens empty tunnels, and the run's tunnels stay the model's lists.
+//! - `radio_ties`: The radio up between a terminal and a DU stays the model's list.
+//! - `radio_downs`: What waits on the radio down is for the present radio and has no gap; a terminal takes what stands first.
+//! - `du_radios`: A DU puts on a bearer's radio down what the frame carries that it takes, and keeps that radio without a gap.
+//! - `shown_orders`: The orders of a CU-UP, of the core, and of End Markers leave what a terminal shows of a bearer.
+//! - `tied_runs`: A whole run keeps its tunnels the model's lists, and the model runs one list of orders.
+//! - `rest_ties`: A step of a CU-CP or of a terminal leaves a bearer's contexts and tunnels.
+//! - `first_ties`: A terminal that is set up without messages starts tied to its bearer's model.
+//! - `beside_ties`: A step of a CU-CP, a CU-UP or a DU changes no terminal, and puts nothing on a radio up.
+//! - `beside_downs`: A step of a CU-CP or a CU-UP, but the terminal's release, leaves what waits on its radio down.
+//! - `known_airs`: What was carried on a terminal's radio down, and isn't confirmed to the DU, was received.
+//! - `terminal_ties`: A terminal's own step is the orders of its input.
+//! - `heard_ties`: The same where frames of F1-U may have been lost.
+//! - `home_ties`: A step by which a DU takes what stands next on the radio up is an order of the model.
+//! - `du_ties`: A step of a DU owes nothing, where it isn't given a PDU of the bearer's radio up.
+//! - `left_ties`: Messages that land nowhere, losses, and octets from outside leave a bearer's contexts.
+//! - `set_up_ties`: The set-up of a terminal without messages leaves the bearers of others.
 #![tactic(auto)]
 
 pub mod beside_downs;

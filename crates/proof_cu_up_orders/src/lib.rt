@@ -1,20 +1,21 @@
-//! proof_cu_up_orders: what stood in 15 crates
+//! Proof steps: each step of a CU-UP is a list of orders of each bearer's model, of its downlink and of its uplink.
 //!
-//! - `context_orders`: Laws of the rows of a CU-UP's bearers, and of what asks nothing of a bearer.
-//! - `context_tests`: Laws of what a CU-UP tests of its own.
-//! - `context_rows`: Laws of the rows round one bearer of a CU-UP.
-//! - `chain_rows`: Laws of the rows of a CU-UP on one bearer: each does what its orders do.
-//! - `uplink_rows`: Laws of the rows of a CU-UP on the uplink of one bearer: each does what its orders do.
-//! - `handover_rows`: Laws of the rows of a handover at a CU-UP, on one bearer: each does what its orders do, of the downlink and of the uplink.
-//! - `down_orders`: Laws of the orders to a bearer of a CU-UP: each is orders to the downlink of the bearer in the run.
-//! - `frame_rows`: A law of the rows of a bearer of a CU-UP, and of the frames that they put for its DU.
-//! - `sending_contexts`: A law of a context of the chain that sends to a DU, and of what happens beside it.
-//! - `orders`: Laws of the orders to a bearer of a CU-UP: each is orders to the uplink of the bearer in the run.
-//! - `context_stands`: Laws of all bearers of a CU-UP, whatever it is given.
-//! - `kept`: Laws of what the orders to a bearer of a CU-UP ask: what the CU-UP tests of its own is so, and control owes the rest; and of a released one, which delivers nothing more.
-//! - `bearer_orders`: Laws of what happens to one bearer in a run: orders of all its contexts, and of the terminal, the core, the radio and the DU, one after another.
-//! - `frames_kept`: Laws of a context that sends to a DU, beside the chain of contexts: whatever is asked of it, what it sends may be sent.
-//! - `bearer_lists`: Laws of the orders to a bearer of a CU-UP: on which tunnels their rows put, and which lists of the bearer's part they move.
+//! - `context_orders`: A row of a bearer puts and delivers on this bearer alone; ticks, starts and items of others ask nothing of it.
+//! - `context_tests`: A CU-UP asks one thing of a bearer at a time, and tests first that the bearer's state allows it.
+//! - `context_rows`: Whatever a CU-UP is given, each bearer is then what its orders make of it.
+//! - `chain_rows`: Each row on one bearer does what its orders do to the downlink.
+//! - `uplink_rows`: Each row on one bearer does what its orders do to the uplink.
+//! - `handover_rows`: Each row of a handover does what its orders do, down and up.
+//! - `down_orders`: Each order to a bearer is orders of the bearer's downlink in the run.
+//! - `frame_rows`: The frames that a bearer's row puts for its DU are what is sent then.
+//! - `sending_contexts`: A context that sends to a DU goes on to do so, whatever happens beside it, unless the radio begins anew.
+//! - `orders`: Each order to a bearer is orders of the bearer's uplink in the run.
+//! - `context_stands`: A bearer has a hop exactly while it is frozen, whatever the CU-UP is given.
+//! - `kept`: What the CU-UP tests itself holds, and control owes the rest; a released bearer delivers nothing more.
+//! - `bearer_orders`: What happens to one bearer in a run is orders of its contexts, the terminal, the core, the radio and the DU, one
+//!   after another.
+//! - `frames_kept`: Whatever is asked of a context, what it sends to a DU may be sent.
+//! - `bearer_lists`: The row of an order puts on this bearer's tunnels alone, and moves the lists of its model.
 #![tactic(auto)]
 
 pub mod bearer_lists;

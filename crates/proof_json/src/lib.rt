@@ -1,14 +1,14 @@
-//! proof_json: what stood in 9 crates
+//! Proof steps of values as JSON: what JSON shows of each type, what is wrong with other JSON, and that what is printed is read again.
 //!
-//! - `values`: Steps of the laws of values as JSON: texts and numbers, types without types inside, and SEQUENCE.
-//! - `choices`: Steps of the laws of values as JSON: CHOICE, and what information elements and messages hold.
-//! - `lawful`: Steps of the laws of JSON: of every type, JSON shows a value of it exactly where no demand of the type fails.
-//! - `shown`: Steps of proofs that what is printed of a value is JSON of that value, and read again is the value.
-//! - `floats`: A step of the laws of JSON: the trees that values are printed as have no number that is kept as a float.
-//! - `order`: A step of the laws of JSON: the members of each object in the trees that values are printed as stand in the order of their keys.
-//! - `types`: A step of the laws of JSON: a type of a module with its names is what its definition says.
-//! - `modules`: Steps of the laws of JSON: the types of a module without their names, their bounds, and the values that JSON of them shows.
-//! - `again`: Steps of the proof that what is printed of a value of a module's type is read again as that value.
+//! - `values`: Texts, numbers, types without types inside, and SEQUENCE.
+//! - `choices`: CHOICE, and what information elements and messages hold.
+//! - `lawful`: JSON shows a value of a type exactly where no demand of the type fails.
+//! - `shown`: What is printed of a value is JSON of that value, and read again is the value.
+//! - `floats`: No number that is printed is kept as a float.
+//! - `order`: The members of each printed object stand in the order of their keys.
+//! - `types`: A type of a module with its names is what its definition says.
+//! - `modules`: The types of a module without their names have bounds, and JSON of them shows values.
+//! - `again`: What is printed of a value of a module's type is read again as that value.
 #![tactic(auto)]
 
 pub mod again;

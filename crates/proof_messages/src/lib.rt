@@ -1,7 +1,8 @@
-//! proof_messages: what stood in 2 crates
+//! Proof steps of messages as values: their elements in order, and what is refused.
 //!
-//! - `message_elements`: Steps of the laws of what is heard in a value: the elements of a set stand in order, and what is read from fields and written again is the same.
-//! - `message_refusals`: Steps of what is said of refused messages: the types of the profile's PDUs and tokens are within the bounds, and each of their sets leaves an id, so that refused octets go wrong by loose layouts.
+//! - `message_elements`: The elements of a set stand in order, and what is read from fields and written again is the same.
+//! - `message_refusals`: The types of the profile's PDUs and tokens are within the bounds, and each set leaves an id, so that refused
+//!   octets go wrong by loose layouts.
 #![tactic(auto)]
 
 pub mod message_elements;

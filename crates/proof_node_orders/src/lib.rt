@@ -1,14 +1,15 @@
-//! proof_node_orders: what stood in 9 crates
+//! Proof steps: each step of a terminal, a DU and the core is a list of orders of each bearer's model.
 //!
-//! - `terminal_rows`: Laws of the rows of the terminal: what each does to one bearer is what its orders do, to the bearer's part up and to its part down.
-//! - `du_rows`: Laws of the rows of a DU: what each does to one bearer is what its steps do on the way down, and what its orders do up.
-//! - `terminal_inputs`: Laws of the inputs of a terminal: what each does to one bearer is a list of orders of its part up and of its part down.
-//! - `terminal_radios`: A law of the inputs of a terminal and its radio up.
-//! - `terminal_refusals`: Laws of a terminal: rows that refuse or drop change nothing, what is of another bearer is no order of this one, and both parts of the downlink receive alike.
-//! - `du_inputs`: Laws of the inputs of a DU: what each changes of one bearer, and what it puts for it.
-//! - `du_puts`: A law of a DU, whatever it is given: what it puts for one bearer.
-//! - `du_steps`: Laws of what a DU's inputs change and put for one bearer: steps of the way down, and orders of the uplink.
-//! - `core_rows`: Laws of the core: what a message does to the downlink path of one bearer is an order of the bearer's part.
+//! - `terminal_rows`: Each row of the terminal does what its orders do, up and down.
+//! - `du_rows`: Each row of a DU does what its steps do on the way down, and what its orders do up.
+//! - `terminal_inputs`: Each input of a terminal is a list of orders of one bearer, up and down.
+//! - `terminal_radios`: A terminal puts on its own radio up alone, in the epoch in which it is connected.
+//! - `terminal_refusals`: A row that refuses or drops changes nothing, what is of another bearer is no order of this one, and both models
+//!   of the downlink receive alike.
+//! - `du_inputs`: Each input of a DU is a change of what it has of a bearer, with what it puts for it.
+//! - `du_puts`: What a DU puts for a bearer is computed from its input.
+//! - `du_steps`: What a DU's inputs change and put for one bearer is steps of the way down, and orders of the uplink.
+//! - `core_rows`: A message to the core is an order of one bearer's downlink path.
 #![tactic(auto)]
 
 pub mod core_rows;

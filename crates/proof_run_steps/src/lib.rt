@@ -1,17 +1,17 @@
-//! proof_run_steps: what stood in 12 crates
+//! Proof steps of every run: an event is made of steps, and what each step keeps holds in every state that a run reaches.
 //!
-//! - `refusals`: Laws of refused events.
-//! - `steps`: A law of the events of any run.
-//! - `teids`: Laws of TEIDs: a node gives each once, ascending.
-//! - `plans`: Laws of the plans of a run's terminals.
-//! - `facts`: Steps of the laws of every run: what holds of units, of the core, of control messages and of items on links, and what keeps it.
-//! - `plan_facts`: Steps of the laws of every run: facts that may speak of the plans that a run keeps of its terminals.
-//! - `control`: Steps of the laws of every run: what holds of units, of the core and of all control messages ever put, where each step keeps it.
-//! - `law_run_links`: Laws of what stands on links.
-//! - `tunnel_steps`: Laws of the steps of any run, on one tunnel.
-//! - `radio_steps`: A law of the steps of any run, on one radio.
-//! - `answerers`: A law of the answers in any run.
-//! - `receivers`: Laws of what receivers store in every run.
+//! - `refusals`: A refused event leaves the state as it was.
+//! - `steps`: Each event is steps of a few kinds, one after another.
+//! - `teids`: A node gives each TEID once, ascending.
+//! - `plans`: The plan of a terminal stays for good.
+//! - `facts`: What each step keeps of units, the core, control messages and items on links holds in every run.
+//! - `plan_facts`: The same of facts that speak of the plans of terminals.
+//! - `control`: The same of units, the core and all control messages ever put.
+//! - `law_run_links`: An item on a radio is of the radio's terminal, bearer and direction; control messages are at most 1,000,000.
+//! - `tunnel_steps`: A step changes a tunnel by the item that it takes, and by its outputs.
+//! - `radio_steps`: A step changes one radio as it carries, confirms and loses.
+//! - `answerers`: DUs alone answer for downlinks, and CU-UPs alone for bearer contexts.
+//! - `receivers`: A receiver stores only what is above what it awaits, in every run.
 #![tactic(auto)]
 
 pub mod answerers;

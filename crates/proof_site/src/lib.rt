@@ -1,7 +1,8 @@
-//! proof_site: what stood in 2 crates
+//! Proof steps of the product's units: where one holds what it is given, or refuses an event, all stays.
 //!
-//! - `lone_units`: Where a unit holds what it is given, or refuses an event, that is all that it puts, and its record stays: lemmas over the rows of units.
-//! - `leaves`: Units that do what the tables say leave all where they hold what a run asks or refuse an event, as long as their tables are in order; and they go on to be.
+//! - `lone_units`: A unit that holds or refuses puts only that, and its record stays.
+//! - `leaves`: Units that follow the tables leave all as it was where they hold what a run asks or refuse an event, as long as their tables
+//!   are in order.
 #![tactic(auto)]
 
 pub mod leaves;

@@ -1,17 +1,17 @@
-//! proof_unit_steps: what stood in 12 crates
+//! Proof steps of one unit's input: what it numbers, stores, puts and names.
 //!
-//! - `frames`: A law of the frames of a bearer's downlink.
-//! - `tunnel_frames`: A law of the frames on one downlink tunnel.
-//! - `answers`: Steps of the laws of what a unit keeps: what holds after an answer, alone, after others, and where a request or a reply is taken.
-//! - `count_ranges`: Laws of the COUNTs and NR-U numbers that a CU-UP gives.
-//! - `count_windows`: Laws of the window of a CU-UP.
-//! - `receivers`: Laws of what receivers store.
-//! - `packets`: Laws of the packets of a CU-UP.
-//! - `node_packets`: Laws of the packets of a terminal, and of nodes that keep none.
-//! - `tunnel_names`: Laws of the tunnels that a CU-CP and the core name.
-//! - `tunnels`: Laws of the tunnels that a CU-UP, a DU and a terminal name, and put items on.
-//! - `downlink_names`: A law of the downlink TEIDs that a CU-CP names.
-//! - `downlink_grants`: A law of the downlink TEIDs that a DU gives.
+//! - `frames`: The frames that a bearer's downlink puts are numbered one after another.
+//! - `tunnel_frames`: The frames on one downlink tunnel are numbered one after another.
+//! - `answers`: What holds after an answer, alone, after others, and where a request or a reply is taken.
+//! - `count_ranges`: The COUNTs and NR-U numbers that a CU-UP gives are in range.
+//! - `count_windows`: What a CU-UP holds as unconfirmed stays in its window.
+//! - `receivers`: A receiver stores only what is above what it awaits.
+//! - `packets`: A CU-UP puts and delivers only packets that it got or kept.
+//! - `node_packets`: A terminal puts only packets that it got or kept; a DU keeps none, and control puts none.
+//! - `tunnel_names`: A CU-CP and the core name tunnels for whom these were named to them.
+//! - `tunnels`: A CU-UP and a DU put items on their own terminals' tunnels alone; a terminal puts none on a tunnel.
+//! - `downlink_names`: A CU-CP has at most one switch to a downlink TEID.
+//! - `downlink_grants`: A DU gives a downlink TEID by at most one answer.
 #![tactic(auto)]
 
 pub mod answers;

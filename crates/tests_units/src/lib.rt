@@ -1,10 +1,10 @@
-//! tests_units: what stood in 5 crates
+//! Tests of units, by public calls alone.
 //!
-//! - `du`: Tests of the contexts of a DU.
-//! - `tests_cu_control`: Tests of the steps of a CU-CP, by public calls alone.
-//! - `ue`: Tests of a terminal, by public calls alone.
-//! - `tests_du_node`: Tests of the steps of a DU, by public calls alone.
-//! - `tests_handover`: Tests of the states of an attach, a handover and a return.
+//! - `du`: The contexts of a DU.
+//! - `tests_cu_control`: The steps of a CU-CP.
+//! - `ue`: A terminal.
+//! - `tests_du_node`: The steps of a DU.
+//! - `tests_handover`: The states of an attach, a handover and a return.
 #![tactic(auto)]
 
 pub mod du;

@@ -1,8 +1,8 @@
-//! um: what stood in 3 crates
+//! One unacknowledged bearer (TS 38.323, 5.2.2): its receiving entity, its run, and its script's text.
 //!
-//! - `um_pdcp`: The receiving entity of an unacknowledged bearer, with its reordering timer (TS 38.323, 5.2.2).
-//! - `run`: The run of one unacknowledged bearer over a link that loses, repeats and reorders messages (TS 38.323, 5.2.1, 5.2.2).
-//! - `text`: The text of a script of one unacknowledged bearer: the events that it may have, and the lines that they print.
+//! - `um_pdcp`: The receiving entity delivers, stores and drops packets, with its reordering timer (TS 38.323, 5.2.2).
+//! - `run`: The run goes over a link that loses, repeats and reorders messages (TS 38.323, 5.2.1, 5.2.2).
+//! - `text`: The text of events is read, and lines are printed.
 #![tactic(auto)]
 
 pub mod run;
