@@ -187,7 +187,7 @@ def main():
     check_by_hand()
     paths = stories.transcripts()
     packets = sum(check_story(path) for path in paths)
-    stories.check_wrong_inputs("to_pcapng", WRONG)
+    stories.check_wrong_inputs("to_pcapng", WRONG, "-")
     if shutil.which("tshark") is None:
         print(f"captures of {len(paths)} transcripts have their {packets} packets; tshark isn't installed, and was not asked")
         return
