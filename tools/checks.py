@@ -63,6 +63,16 @@ def of_octets(count, longest):
     return made
 
 
+def is_here(name, package):
+    """Whether a program is installed. Where it isn't, and this is root on Debian, it is installed from Debian's package, if that goes."""
+    if shutil.which(name) is None and os.geteuid() == 0 and shutil.which("apt-get"):
+        quiet = {"stdin": subprocess.DEVNULL, "stdout": subprocess.DEVNULL, "stderr": subprocess.DEVNULL, "check": False, "env": {**os.environ, "DEBIAN_FRONTEND": "noninteractive"}}
+        with contextlib.suppress(subprocess.TimeoutExpired):
+            subprocess.run(["apt-get", "update", "-q"], timeout=120, **quiet)
+            subprocess.run(["apt-get", "install", "-y", "-q", package], timeout=600, **quiet)
+    return shutil.which(name) is not None
+
+
 @contextlib.contextmanager
 def as_program(folder, text):
     """Has a script of Python stand for the program, as a file in this folder, until the block ends."""
