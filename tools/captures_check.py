@@ -1,20 +1,22 @@
 #!/usr/bin/env python3
-"""Checks tools/to_pcapng.py: the captures of the examples, by a small reader of pcapng; what is said of a wrong input; and, where tshark is installed, that Wireshark reads
-every packet of GTP-U with its extension headers, and finds none malformed.
+"""Checks tools/to_pcapng.py: the captures of the examples, by a small reader of pcapng; what is said of a wrong input; and, where tshark is installed, that with the command of
+docs/lab.md Wireshark reads every packet of GTP-U with its extension headers, and finds no packet malformed but what a script injects.
 
 Nothing here is a proof.
 
 Usage: tools/captures_check.py
 """
 
-import shutil
+import re
 import struct
 import subprocess
 import sys
 import tempfile
 
+import checks
 import endpoints
 import packet_reader
+import selection
 import stories
 import to_pcapng
 
@@ -112,8 +114,9 @@ def check_packet(found, names, line, ends):
     assert struct.unpack_from(">HH", octets, 20) == (ends.kind.port, ends.kind.port), at
     payload = octets[28:]
     assert payload.endswith(line.octets) and (ends.kind.stands == "PDCP" or payload == line.octets), f"{at}: other octets"
-    assert comment.startswith(f"line {line.number}, event {line.event}: {line.kind} {line.link} "), at
-    if not line.is_control:
+    what = f"injected {'at' if '/' in line.text else 'from'} " if line.kind == "event" else f"{line.kind} {line.link} "
+    assert comment.startswith(f"line {line.number}, event {line.event}: {what}"), at
+    if not line.is_control and line.kind != "event":
         assert comment.endswith("no COUNT" if line.count is None else f"COUNT {line.count}"), at
 
 
@@ -121,7 +124,7 @@ def check_story(path):
     """The packets of both captures of a transcript."""
     found = endpoints.read_with_ends(path)
     for kind in ("put", "got"):
-        lines = [(line, ends) for line, ends, _ in found if line.kind == kind]
+        lines = [(line, ends) for line, ends, _ in found if line.kind == kind or is_injected(line)]
         interfaces, names, packets = read_capture(to_pcapng.capture(found, kind))
         assert interfaces == [entry.name for entry in endpoints.KINDS]
         assert len(packets) == len(lines), f"{path}: {len(packets)} packets for {len(lines)} lines"
@@ -130,6 +133,29 @@ def check_story(path):
         for packet, (line, ends) in zip(packets, lines):
             check_packet(packet, names, line, ends)
     return len(packets)
+
+
+def is_injected(line):
+    """Whether a line is an `inject` that isn't refused."""
+    return line.kind == "event" and line.what == "inject" and not line.refused
+
+
+def check_injected():
+    """What examples/foreign-octets.script injects: ten of its fifteen are given to a unit."""
+    _, _, packets = read_capture(to_pcapng.capture(endpoints.read_with_ends(stories.EXAMPLES / "foreign-octets.out"), "put"))
+    injected = [(name, octets[28:].hex().upper(), comment) for name, _, octets, comment in packets if "injected" in comment]
+    assert len(injected) == 10
+    assert injected[0] == ("F1-C", "0006", "line 4, event 3: injected from A.du1 to A.cp")
+    assert injected[3] == ("N3", "40FF000000000001", "line 12, event 7: injected at A.up1/1")
+
+
+def check_chosen():
+    """A range of events, a terminal and a bearer choose packets."""
+    found = endpoints.read_with_ends(stories.EXAMPLES / "usual-day.out")
+    for chosen, pattern in ((selection.Selection(first=7, last=9), r"line \d+, event [789]:"), (selection.Selection(bearer="b2"), r".* (u1 b2 .*|u[01])(;|$)"),
+                            (selection.Selection(ue="u2"), r".* u0$")):
+        comments = [comment for *_, comment in read_capture(to_pcapng.capture(found, "put", chosen))[2]]
+        assert comments and all(re.match(pattern, comment) for comment in comments), f"{chosen}: {comments}"
 
 
 def check_by_hand():
@@ -144,12 +170,15 @@ def check_by_hand():
 # ---- tshark
 
 
+LUA = stories.TOOLS / "wireshark/splitgnb.lua"
+
+
 def tshark(capture, *words):
-    """The lines of what tshark says of a capture. Payloads of G-PDUs are what scripts offer, which need not be IP: they are not dissected."""
+    """The lines of what tshark says of a capture, with the command that docs/lab.md gives."""
     with tempfile.NamedTemporaryFile(suffix=".pcapng") as file:
         file.write(capture)
         file.flush()
-        ran = subprocess.run(["tshark", "-o", "gtp.dissect_tpdu_as:None", "-r", file.name, *words], capture_output=True, text=True, check=True)
+        ran = subprocess.run(["tshark", "-X", f"lua_script:{LUA}", "-N", "n", "-r", file.name, *words], capture_output=True, text=True, check=True)
     return ran.stdout.splitlines()
 
 
@@ -168,7 +197,7 @@ def fields_of(line, ends):
 
 def check_with_tshark(paths):
     """Asks tshark of all captures at once, each a section of one file."""
-    found = [(path, line, ends) for path in paths for line, ends, _ in endpoints.read_with_ends(path) if line.kind == "put"]
+    found = [(path, line, ends) for path in paths for line, ends, _ in endpoints.read_with_ends(path) if line.kind == "put" or is_injected(line)]
     sections = b"".join(to_pcapng.capture(endpoints.read_with_ends(path), "put") for path in paths)
     words = [word for field in ("_ws.malformed", "_ws.expert.message", *FIELDS) for word in ("-e", field)]
     told = tshark(sections, "-T", "fields", "-E", "separator=|", *words)
@@ -176,8 +205,10 @@ def check_with_tshark(paths):
     for text, (path, line, ends) in zip(told, found):
         malformed, expert, *values, comment = text.split("|")
         at = f"{path}, line {line.number}"
-        assert not malformed and expert == comment, f"{at}: tshark finds {malformed} {expert}"
         assert comment.startswith(f"line {line.number},"), f"{at}: {comment}"
+        if is_injected(line):
+            continue
+        assert not malformed and expert == comment, f"{at}: tshark finds {malformed} {expert}"
         if ends.kind.stands == "GTP-U":
             values = [values[0], *(",".join(str(int(number, 0)) for number in value.split(",") if number) for value in values[1:])]
             assert values == fields_of(line, ends), f"{at}: tshark reads {values}, not {fields_of(line, ends)}"
@@ -185,11 +216,13 @@ def check_with_tshark(paths):
 
 def main():
     check_by_hand()
+    check_injected()
+    check_chosen()
     paths = stories.transcripts()
     packets = sum(check_story(path) for path in paths)
-    stories.check_wrong_inputs("to_pcapng", WRONG)
-    if shutil.which("tshark") is None:
-        print(f"captures of {len(paths)} transcripts have their {packets} packets; tshark isn't installed, and was not asked")
+    stories.check_wrong_inputs("to_pcapng", WRONG, "-")
+    if not checks.is_here("tshark", "tshark"):
+        print(f"captures of {len(paths)} transcripts have their {packets} packets; not looked at: tshark isn't installed, and Wireshark was not asked")
         return
     check_with_tshark(paths)
     print(f"captures of {len(paths)} transcripts have their {packets} packets, and tshark reads every packet of GTP-U")

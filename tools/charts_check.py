@@ -219,7 +219,7 @@ def main():
     check_odd_messages()
     paths = stories.transcripts()
     rows = sum(check_story(pathlib.Path(path)) for path in paths)
-    stories.check_wrong_inputs("to_chart", WRONG)
+    stories.check_wrong_inputs("to_chart", WRONG, "-")
     check_wrong_words()
     check_docs(sys.argv[1:] == ["--write"])
     print(f"charts of {len(paths)} transcripts have their {rows} rows")

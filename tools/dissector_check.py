@@ -9,10 +9,11 @@ Usage: tools/dissector_check.py [--seed S]
 
 import argparse
 import random
-import shutil
+import re
 import sys
 
 import captures_check
+import checks
 import endpoints
 import packet_reader
 import profile_reader
@@ -21,19 +22,20 @@ import to_lua
 import to_pcapng
 import transcripts
 
-LUA = stories.TOOLS / "wireshark/splitgnb.lua"
+LUA = captures_check.LUA
 TABLE = stories.TOOLS / "wireshark/splitgnb_profile.lua"
 # fields of control messages and of the user plane, each with the parts of a value that it shows
 SHOWN = ("message", "ue", "instance", "epoch", "teid", "bearer", "mode", "cause", "name", "dlNext", "ulFirst", "ulReceived", "quota", "sn", "final", "forward", "gnb", "up",
          "du", "bearers", "container")
-USER_PLANE = ("splitgnb.nru.number", "splitgnb.nru.delivered", "splitgnb.nru.lost_start", "splitgnb.pdcp.sn", "splitgnb.pdcp.fmc", "splitgnb.packet")
+USER_PLANE = ("nrup.seq_num", "nrup.high_success_delivered_nr_pdcp_sn", "nrup.start_num_lost_nru_seq_num", "splitgnb.pdcp.sn", "splitgnb.pdcp.fmc", "splitgnb.packet",
+              "splitgnb.ue", "splitgnb.bearer", "splitgnb.direction", "splitgnb.count", "splitgnb.event", "splitgnb.line", "splitgnb.injected")
 CHANGES = 300
 
 
 def tshark(capture, *fields):
     """The values of these fields in each packet, by the dissector."""
     words = [word for field in fields for word in ("-e", field)]
-    lines = captures_check.tshark(capture, "-X", f"lua_script:{LUA}", "-T", "fields", "-E", "separator=|", "-E", "occurrence=a", *words)
+    lines = captures_check.tshark(capture, "-T", "fields", "-E", "separator=|", "-E", "occurrence=a", *words)
     return [line.split("|") for line in lines]
 
 
@@ -74,12 +76,17 @@ def fields_of_message(line, kind):
     return [",".join(values[field]) for field in SHOWN]
 
 
+def written(name):
+    """The name of a field as Wireshark writes it: forwardDown is forward_down."""
+    return re.sub("[A-Z]", lambda letter: f"_{letter[0].lower()}", name)
+
+
 def truth(text):
     return text.replace("True", "1").replace("False", "0")
 
 
 def check_messages(found, capture):
-    told = tshark(capture, "splitgnb.malformed", *(f"splitgnb.{field}" for field in SHOWN))
+    told = tshark(capture, "splitgnb.malformed", *(f"splitgnb.{written(field)}" for field in SHOWN))
     assert len(told) == len(found)
     for (malformed, *values), (path, line, ends, _) in zip(told, found):
         assert not malformed, f"{path}, line {line.number}: {malformed}"
@@ -93,7 +100,9 @@ def check_messages(found, capture):
 
 def fields_of_item(line, ends, bits):
     """What the dissector is to show of an item of a tunnel or radio."""
-    shown = {field: "" for field in USER_PLANE}
+    shown = {field: "" for field in USER_PLANE} | {
+        "splitgnb.ue": line.ue[1:], "splitgnb.bearer": line.bearer[1:], "splitgnb.direction": line.direction, "splitgnb.event": str(line.event), "splitgnb.line": str(line.number),
+        "splitgnb.count": "" if line.count is None else str(line.count)}
     if ends.kind.stands == "PDCP":
         return list((shown | fields_of_pdcp(line.octets, bits)).values())
     packet = packet_reader.read_gtpu(line.octets)
@@ -108,13 +117,13 @@ def fields_of_item(line, ends, bits):
 
 def fields_of_frame(frame):
     if frame[0] >> 4 == 0:
-        return {"splitgnb.nru.number": str(int.from_bytes(frame[2:5], "big"))}
+        return {"nrup.seq_num": str(int.from_bytes(frame[2:5], "big"))}
     at, found = 6, {}
     if frame[0] & 1:
-        found["splitgnb.nru.lost_start"] = ",".join(str(int.from_bytes(frame[7 + 6 * i : 10 + 6 * i], "big")) for i in range(frame[6]))
+        found["nrup.start_num_lost_nru_seq_num"] = ",".join(str(int.from_bytes(frame[7 + 6 * i : 10 + 6 * i], "big")) for i in range(frame[6]))
         at += 1 + 6 * frame[6]
     if frame[0] & 4:
-        found["splitgnb.nru.delivered"] = str(int.from_bytes(frame[at : at + 3], "big"))
+        found["nrup.high_success_delivered_nr_pdcp_sn"] = str(int.from_bytes(frame[at : at + 3], "big"))
     return found
 
 
@@ -139,6 +148,7 @@ def check_items(found, capture):
     told = tshark(capture, *USER_PLANE)
     for values, (path, line, ends, bits) in zip(told, found):
         if not ends.kind.is_control:
+            values = [str(int(value, 0)) if re.fullmatch("0x[0-9a-f]+", value) else value for value in values]
             awaited = fields_of_item(line, ends, bits)
             assert values == awaited, f"{path}, line {line.number}: the dissector reads {values}, not {awaited}"
 
@@ -186,12 +196,12 @@ def main():
     asked.add_argument("--seed", type=int, default=1)
     given = asked.parse_args()
     assert TABLE.read_text() == to_lua.table(), f"{TABLE} isn't what tools/to_lua.py writes"
-    if shutil.which("tshark") is None:
-        print("the dissector's table is the profile's; tshark isn't installed, and the dissector was not run")
+    if not checks.is_here("tshark", "tshark"):
+        print("the dissector's table is the profile's; not looked at: tshark isn't installed, and the dissector was not run")
         return
     paths = [path for path in stories.transcripts() if path.name != "window.out"]
     found = [(path, *entry) for path in paths for entry in endpoints.with_ends(transcripts.read_file(path)) if entry[0].kind == "put"]
-    capture = b"".join(to_pcapng.capture(endpoints.read_with_ends(path), "put") for path in paths)
+    capture = b"".join(to_pcapng.capture([entry for entry in endpoints.read_with_ends(path) if entry[0].kind == "put"], "put") for path in paths)
     check_messages(found, capture)
     check_items(found, capture)
     wrong = check_changed(found, given.seed)

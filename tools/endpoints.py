@@ -154,6 +154,14 @@ class Endpoints:
             raise Wrong(line.number, f"no line before this one says who puts on {link}")
         return found
 
+    def injected_ends(self, line):
+        """Where the octets of an `inject` go; None where it was refused."""
+        if line.refused:
+            return None
+        if "link" in line.fields:
+            return self.tunnels.get(line.link)
+        return Ends(control_kind(line), line.sender, line.receiver)
+
     def radio_ends(self, radio):
         du = self.radios.get((radio.ue, radio.epoch))
         if du is None:
@@ -185,11 +193,12 @@ def told_by(name, elements, receiver):
 
 
 def with_ends(lines):
-    """Each line, where its item or message goes (None for a line of another kind), and how many bits its terminal's sequence numbers have."""
+    """Each line, where its item or message goes, also the octets of an `inject` (None for a line of another kind), and how many bits its terminal's sequence numbers have."""
     known = Endpoints()
     for line in lines:
         known.see(line)
-        yield line, (known.ends(line) if line.kind in ("put", "got") else None), known.bits.get(line.fields.get("ue"))
+        ends = known.ends(line) if line.kind in ("put", "got") else known.injected_ends(line) if line.kind == "event" and line.what == "inject" else None
+        yield line, ends, known.bits.get(line.fields.get("ue"))
 
 
 def read_with_ends(path):

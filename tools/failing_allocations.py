@@ -21,7 +21,7 @@ import subprocess
 import sys
 import tempfile
 
-from examples import call_of, is_input
+from suite import call_of, is_input
 
 TOP = pathlib.Path(__file__).resolve().parents[1]
 PROGRAM = TOP / "crates/scenario_cli/out/scenario_cli"

@@ -4,17 +4,18 @@
 Packets of GTP-U are octet for octet those of the transcript, over UDP port 2152 and IPv4. Control messages stand over UDP at the port number that
 their protocol has for SCTP; radio items stand over UDP in Wireshark's framing of PDCP-NR. Addresses are made from node names and carry them in the
 capture. Event n stands at second n, its lines microseconds after one another. Each packet has a comment with its line and COUNT. docs/lab.md has the tables
-of addresses, ports and interfaces. Bytes of `inject` never stood on a link and are left out.
+of addresses, ports and interfaces. Octets of `inject` never stood on a link: the comment says that they are injected.
 
 Nothing here is proved, and nothing here is a capture of a network: it shows what a transcript says.
 
-Usage: tools/to_pcapng.py [--at sender|receiver] TRANSCRIPT CAPTURE      (`-` is standard input or output)
+Usage: tools/to_pcapng.py [--at sender|receiver] [--events FIRST-LAST] [--ue uU] [--bearer bB] TRANSCRIPT CAPTURE      (`-` is standard input or output)
 """
 
 import struct
 import sys
 
 import endpoints
+import selection
 import transcripts
 from endpoints import KINDS, role
 
@@ -118,6 +119,9 @@ def packet(kind, time, data, comment):
 
 
 def comment_of(line, bits):
+    if line.kind == "event":
+        where = f"at {line.link}" if "link" in line.fields else f"from {line.sender} to {line.receiver}"
+        return f"line {line.number}, event {line.event}: injected {where}"
     words = [f"line {line.number}, event {line.event}: {line.words}"]
     if not line.is_control:
         words += [f"{bits}-bit PDCP SN", "no COUNT" if line.count is None else f"COUNT {line.count}"]
@@ -129,9 +133,9 @@ def packet_of(line, ends, bits):
     return datagram(ends.sender, ends.receiver, ends.kind.port, payload)
 
 
-def capture(found, kind):
-    """The octets of a capture of the lines of a kind, `put` or `got`."""
-    shown = [(line, ends, bits) for line, ends, bits in found if line.kind == kind]
+def capture(found, kind, chosen=selection.ALL):
+    """The octets of a capture of the lines of a kind, `put` or `got`, and of what is injected, that are chosen."""
+    shown = [(line, ends, bits) for line, ends, bits in found if ends and line.kind in (kind, "event") and chosen.has_line(line)]
     nodes = sorted({node for _, ends, _ in shown for node in (ends.sender, ends.receiver)}, key=transcripts.NODES.index)
     blocks = [section_header(), *map(interface, KINDS), names(nodes)]
     for line, ends, bits in shown:
@@ -142,11 +146,13 @@ def capture(found, kind):
 def main():
     asked = transcripts.Asked(__doc__)
     asked.add_argument("--at", choices=("sender", "receiver"), default="sender", help="where the capture is taken: what is put (the default), or what is got")
+    selection.ask(asked)
     asked.add_argument("transcript")
     asked.add_argument("capture")
     given = asked.parse_intermixed_args()
     try:
-        data = capture(endpoints.read_with_ends(given.transcript), "put" if given.at == "sender" else "got")
+        found = endpoints.read_with_ends(given.transcript)
+        data = capture(found, "put" if given.at == "sender" else "got", selection.chosen(given, found))
         transcripts.write_file(given.capture, data)
     except (transcripts.Wrong, OSError) as wrong:
         return transcripts.report("to_pcapng", given.transcript, wrong)

@@ -212,11 +212,16 @@ def read_line(text):
         raise WrongWord(f"{len(form)} words after '{' '.join(words[:skipped])}', and there are {len(rest)}")
     fields = {"what": words[1]} if kind == "event" else {}
     for place, ((name, reader), word) in enumerate(zip(form.items(), rest), skipped + 1):
-        try:
-            fields[name] = reader(word)
-        except WrongWord as wrong:
-            raise WrongWord(f"{wrong} as word {place}, and it is '{shortened(word)}'") from None
+        fields[name] = read_word(reader, word, place)
     return kind, fields
+
+
+def read_word(reader, word, place):
+    """What a word stands for; WrongWord with the word and its place in the line, from 1, where it may not stand there."""
+    try:
+        return reader(word)
+    except WrongWord as wrong:
+        raise WrongWord(f"{wrong} as word {place}, and it is '{shortened(word)}'") from None
 
 
 def shortened(word):

@@ -1,6 +1,6 @@
 -- Dissects in Wireshark what is this project's own in a capture of tools/to_pcapng.py: the messages of the profile (F1AP, E1AP, XnAP, path switch) and
--- the tokens of RRC, by the profile's module as a table; NR-U frames in packets of GTP-U, and PDCP after them and on the radio.
--- GTP-U itself is read by Wireshark's own dissector, and what is shown here stands after it. docs/lab.md says how to install this.
+-- the tokens of RRC, by the profile's module as a table; PDCP in packets of GTP-U and on the radio; whose a packet is, by its comment.
+-- GTP-U and NR-U frames are read by Wireshark's own dissectors, and what is shown here stands after them. docs/lab.md says how to install this.
 -- Nothing here is proved. Octets that are no value of the module are said to be malformed, without the program's reason.
 
 local folder = debug.getinfo(1, "S").source:match("^@(.*[/\\])") or ""
@@ -20,6 +20,10 @@ local UU_PORT, GTPU_PORT = 49152, 2152
 local END_MARKER = 254
 local NR_RAN_CONTAINER, PDCP_PDU_NUMBER, LONG_PDCP_PDU_NUMBER = 0x84, 0xC0, 0x82
 
+-- What a G-PDU carries is what a script offers, which need not be IP: Wireshark's guess by the first four bits is switched off, for this session alone, and what is
+-- IP by its lengths is read below. Before Wireshark 4.0 there is no such call: docs/lab.md has the option.
+if set_preference then set_preference("gtp.dissect_tpdu_as", "none") end
+
 local splitgnb = Proto("splitgnb", "SplitGNB profile")
 splitgnb.prefs.sn_bits = Pref.enum("Length of PDCP SNs where a capture doesn't say it", 12, "bits of a PDCP SN",
   { { 1, "12 bits", 12 }, { 2, "18 bits", 18 } }, false)
@@ -35,22 +39,16 @@ local fields = {
   criticality = ProtoField.string("splitgnb.criticality", "criticality"),
   id = ProtoField.uint16("splitgnb.ie_id", "id of an information element"),
   raw = ProtoField.bytes("splitgnb.raw", "raw octets"),
-  frame = ProtoField.string("splitgnb.nru.frame", "NR-U frame"),
-  polling = ProtoField.bool("splitgnb.nru.polling", "polling"),
-  restart = ProtoField.bool("splitgnb.nru.restart", "restart of numbers"),
-  number = ProtoField.uint24("splitgnb.nru.number", "NR-U number"),
-  room = ProtoField.uint32("splitgnb.nru.desired_buffer_size", "desired buffer size"),
-  lost_start = ProtoField.uint24("splitgnb.nru.lost_start", "start of a lost range"),
-  lost_end = ProtoField.uint24("splitgnb.nru.lost_end", "end of a lost range"),
-  delivered = ProtoField.uint24("splitgnb.nru.delivered", "highest delivered PDCP SN"),
   sn = ProtoField.uint32("splitgnb.pdcp.sn", "PDCP SN"),
   fmc = ProtoField.uint32("splitgnb.pdcp.fmc", "first missing COUNT"),
   bitmap = ProtoField.bytes("splitgnb.pdcp.bitmap", "bitmap"),
   packet = ProtoField.bytes("splitgnb.packet", "packet"),
   link = ProtoField.string("splitgnb.link", "link"),
-  uu_ue = ProtoField.uint16("splitgnb.uu.ue", "ue"),
-  uu_bearer = ProtoField.uint8("splitgnb.uu.bearer", "bearer"),
-  uu_direction = ProtoField.uint8("splitgnb.uu.direction", "direction", base.DEC, { [0] = "uplink", [1] = "downlink" }),
+  direction = ProtoField.string("splitgnb.direction", "direction"),
+  count = ProtoField.uint32("splitgnb.count", "COUNT"),
+  event = ProtoField.uint32("splitgnb.event", "event of the script"),
+  line = ProtoField.uint32("splitgnb.line", "line of the transcript"),
+  injected = ProtoField.bool("splitgnb.injected", "injected by the script"),
 }
 
 local function resolved(form)
@@ -73,9 +71,14 @@ local MAKERS = {
   octets = function(abbreviation, name) return ProtoField.bytes(abbreviation, name) end,
 }
 
+-- the name of a field as Wireshark's own are written: forwardDown is forward_down
+local function written(name)
+  return (name:gsub("%u", function(letter) return "_" .. letter:lower() end))
+end
+
 local function make_field(name, form)
   local maker = MAKERS[resolved(form).form] or function(abbreviation, text) return ProtoField.string(abbreviation, text) end
-  fields["value " .. name] = fields["value " .. name] or maker("splitgnb." .. name, name, resolved(form))
+  fields["value " .. name] = fields["value " .. name] or maker("splitgnb." .. written(name), name, resolved(form))
 end
 
 for _, form in pairs(profile.types) do
@@ -388,7 +391,7 @@ end
 -- what the column of a message says: its name, with the token and the epoch that it has
 local function info_of(told)
   local words = table.concat(told, ", ")
-  if not told.message then return words end
+  if not told.message then return words == "" and "octets of no message" or words end
   return words == "" and told.message or (told.message .. " (" .. words .. ")")
 end
 
@@ -439,49 +442,29 @@ local function dissect_pdcp(tvb, tree, sn_bits)
   return "no PDU of PDCP"
 end
 
--- ---- NR-U (after TS 38.425; the octets are the profile's)
+-- ---- NR-U, in words: Wireshark's own dissector has read the frame
 
-local function dissect_data_frame(tvb, item)
-  local is_polling, number = tvb(0, 1):bitfield(7, 1) == 1, tvb(2, 3):uint()
-  item:add(fields.frame, tvb(0, 1), is_polling and "polling" or "data")
-  item:add(fields.polling, tvb(0, 1), is_polling)
-  item:add(fields.restart, tvb(1, 1), tvb(1, 1):bitfield(7, 1) == 1)
-  item:add(fields.number, tvb(2, 3))
-  local restart = tvb(1, 1):bitfield(7, 1) == 1 and ", restart" or ""
-  return (is_polling and "polling frame" or "data frame") .. ", NR-U " .. number .. restart
+local nru = {}
+for _, name in ipairs({ "pdu_type", "seq_num", "report_polling", "retransmission_flag", "lost_pkt_rpt", "high_success_delivered_nr_pdcp_sn" }) do
+  nru[name] = Field.new("nrup." .. name)
 end
 
-local function dissect_lost(tvb, item, at)
-  for i = 1, tvb(at, 1):uint() do
-    item:add(fields.lost_start, tvb(at + 6 * i - 5, 3))
-    item:add(fields.lost_end, tvb(at + 6 * i - 2, 3))
-  end
-  return at + 1 + 6 * tvb(at, 1):uint()
+-- the number that a field of the frame has, or nil
+local function nru_value(name)
+  local found = nru[name]()
+  if found == nil then return nil end
+  if type(found.value) == "boolean" then return found.value and 1 or 0 end
+  return tonumber(tostring(found.value))
 end
 
-local function dissect_status_frame(tvb, item)
-  local at, words = 6, "delivery status"
-  item:add(fields.frame, tvb(0, 1), "status")
-  item:add(fields.room, tvb(2, 4))
-  if tvb(0, 1):bitfield(7, 1) == 1 then
-    at, words = dissect_lost(tvb, item, at), words .. ", lost ranges"
+local function words_of_frame()
+  if nru_value("pdu_type") == 1 then
+    local delivered = nru_value("high_success_delivered_nr_pdcp_sn")
+    return "delivery status" .. (nru_value("lost_pkt_rpt") == 1 and ", lost ranges" or "") .. (delivered and ", delivered SN " .. delivered or "")
   end
-  if tvb(0, 1):bitfield(5, 1) == 1 then
-    item:add(fields.delivered, tvb(at, 3))
-    words = words .. ", delivered SN " .. tvb(at, 3):uint()
-  end
-  return words
-end
-
-local function dissect_nru(tvb, tree)
-  local item = tree:add(splitgnb, tvb(), "NR-U frame")
-  local ok, words = pcall(tvb(0, 1):bitfield(0, 4) == 0 and dissect_data_frame or dissect_status_frame, tvb, item)
-  if not ok then
-    item:add_proto_expert_info(malformed, "no frame of NR-U")
-    words = "no frame of NR-U"
-  end
-  item:set_text("NR-U " .. words)
-  return words
+  if nru_value("pdu_type") ~= 0 then return "no frame of NR-U" end
+  local kind = nru_value("report_polling") == 1 and "polling frame" or "data frame"
+  return kind .. ", NR-U " .. tostring(nru_value("seq_num")) .. (nru_value("retransmission_flag") == 1 and ", restart" or "")
 end
 
 -- ---- the user plane: after Wireshark's own dissector of GTP-U
@@ -534,9 +517,28 @@ end
 
 local function dissect_f1u(tvb, item, headers, at)
   local words, rest = {}, rest_of(tvb, at)
-  if headers[NR_RAN_CONTAINER] then words[1] = dissect_nru(headers[NR_RAN_CONTAINER]:tvb(), item) end
+  if headers[NR_RAN_CONTAINER] then words[1] = words_of_frame() end
   if rest then words[#words + 1] = dissect_pdcp(rest, item, sn_bits_of()) end
   return table.concat(words, ", ")
+end
+
+local ip, ipv6 = Dissector.get("ip"), Dissector.get("ipv6")
+
+-- the dissector of a packet that is IP by its version and lengths, or nil
+local function dissector_of(packet)
+  local length, version = packet:len(), packet(0, 1):bitfield(0, 4)
+  if version == 4 and length >= 20 and packet(0, 1):bitfield(4, 4) >= 5 and packet(2, 2):uint() == length then return ip end
+  if version == 6 and length >= 40 and packet(4, 2):uint() + 40 == length then return ipv6 end
+end
+
+-- shows a packet that is IP in the tree; the columns keep what they say of the link
+local function show_ip(tvb, pinfo, tree, at)
+  local packet = rest_of(tvb, at)
+  local dissector = packet and dissector_of(packet)
+  if not dissector then return end
+  local src, dst, protocol = pinfo.src, pinfo.dst, tostring(pinfo.cols.protocol)
+  dissector:call(packet, pinfo, tree)
+  pinfo.src, pinfo.dst, pinfo.cols.protocol = src, dst, protocol
 end
 
 local function dissect_packet(tvb, item, headers, at)
@@ -551,6 +553,22 @@ local function dissect_packet(tvb, item, headers, at)
   return words
 end
 
+-- what the comment of a packet says of its line: where it stands, whose it is, whether it was injected
+local function add_context(tree, said)
+  local item, line, event = tree:add(user_plane, "transcript"), said:match("^line (%d+), event (%d+):")
+  item:add(fields.line, tonumber(line)):set_generated()
+  item:add(fields.event, tonumber(event)):set_generated()
+  local ue, bearer, direction = said:match("^[^;]* u(%d+) b(%d+) (%a+) ?[^;]*;")
+  if ue then
+    item:add(fields["value ue"], tonumber(ue)):set_generated()
+    item:add(fields["value bearer"], tonumber(bearer)):set_generated()
+    item:add(fields.direction, direction):set_generated()
+  end
+  local count = said:match("; COUNT (%d+)")
+  if count then item:add(fields.count, tonumber(count)):set_generated() end
+  if said:match("^[^;]*: injected ") then item:add(fields.injected, true):set_generated() end
+end
+
 local function dissect_user_plane(tvb, pinfo, tree)
   local place = teid()
   local link = place and pinfo.dst_port == GTPU_PORT and link_of(tvb)
@@ -562,13 +580,23 @@ local function dissect_user_plane(tvb, pinfo, tree)
   local words = "End Marker"
   if message_type().value ~= END_MARKER then
     words = (link:match("^F1%-U") and dissect_f1u or dissect_packet)(packet, item, headers, at)
+    if not link:match("^F1%-U") then show_ip(packet, pinfo, tree, at) end
   end
   pinfo.cols.info = link .. ", TEID " .. packet(4, 4):uint() .. ": " .. words
+end
+
+local function dissect_context(pinfo, tree)
+  local found = comment()
+  local said = found and tostring(found.value)
+  if not said or not said:match("^line %d+, event %d+:") then return end
+  add_context(tree, said)
+  if said:match("^[^;]*: injected ") then pinfo.cols.info:prepend("injected: ") end
 end
 
 function user_plane.dissector(tvb, pinfo, tree)
   local ok, problem = pcall(dissect_user_plane, tvb, pinfo, tree)
   if not ok then tree:add_proto_expert_info(malformed, tostring(problem)) end
+  dissect_context(pinfo, tree)
 end
 
 register_postdissector(user_plane)
@@ -580,9 +608,6 @@ local uu = Proto("splitgnb_uu", "radio of the SplitGNB profile")
 function uu.dissector(tvb, pinfo, tree)
   if tvb:len() < 18 or tvb(0, 7):string() ~= "pdcp-nr" then return 0 end
   local item = tree:add(uu, tvb())
-  item:add(fields.uu_direction, tvb(11, 1))
-  item:add(fields.uu_bearer, tvb(13, 1))
-  item:add(fields.uu_ue, tvb(15, 2))
   local words = dissect_pdcp(tvb(18):tvb(), item, tvb(9, 1):uint())
   pinfo.cols.protocol = "splitgnb_uu"
   pinfo.cols.info = "Uu, u" .. tvb(15, 2):uint() .. " b" .. tvb(13, 1):uint() .. ": " .. words
