@@ -12,7 +12,7 @@ tools/check_times.py --run TIMES COMMAND..
     (Seconds before the kind are read too.)
     Its exit status is the command's.
 tools/check_times.py --watch TIMES PID
-    the same of a command that runs already, until it ends. What ended before isn't there.
+    the same of a command that runs already, until it ends or this tool is stopped (SIGTERM). What ended before isn't there.
 tools/check_times.py --write TIMES [TIMES..]
     writes the generated part of the page. Of several files the last one that has a crate's check counts.
 Its exit status is 1 where page and repository differ, and 2 where it was called wrongly, or a file of times can't be read: then it says which line.
@@ -24,6 +24,7 @@ import os
 import pathlib
 import platform
 import re
+import signal
 import subprocess
 import sys
 import time
@@ -121,6 +122,8 @@ def look(top, checks):
 def watch(top, is_running):
     """Looks once a second while something runs; gives the seconds by crate and kind."""
     checks = {}
+    # Also where a shell began it in the background, and there it hears nothing else.
+    signal.signal(signal.SIGTERM, signal.default_int_handler)
     try:
         while is_running():
             look(top, checks)

@@ -68,6 +68,7 @@ def kind_of(name):
     return "code"
 
 
+@functools.cache
 def sources(name, part="src"):
     """The files of one part of a crate, src, specs or proofs."""
     suffix = ".rt" if part == "src" else ".antt"
@@ -145,6 +146,23 @@ def without_tests(text):
     return re.sub(r"^#\[cfg\(test\)\]\s*\n(?:pub )?mod \w+;\n", "", text, flags=re.MULTILINE)
 
 
+@functools.cache
+def items_in(path):
+    """The declarations of a file of src/: (indented, public, kind, name, place)."""
+    return [(bool(row[1]), bool(row[2]), row[3], row[4], row.start()) for row in ITEM.finditer(text_of(path))]
+
+
+@functools.cache
+def homes(name):
+    """Where a crate declares each name at the outer level of a file: {name: [(file, kind, public, place)]}."""
+    found = collections.defaultdict(list)
+    for path in sources(name):
+        for indented, public, kind, item, place in items_in(path):
+            if not indented:
+                found[item].append((path, kind, public, place))
+    return found
+
+
 def doc_before(text, at):
     """The first sentence of the doc comment that stands before a place of a text, over attributes."""
     lines = text[:at].splitlines()
@@ -176,7 +194,7 @@ def methods(name):
 
 def methods_of(name, item, top):
     """The public methods of a type that stands in a module of the root; another module with a type of the same name has its own."""
-    others = {top_of(name, path) for path in sources(name) for row in ITEM.finditer(text_of(path)) if row[4] == item and row[3] in ("struct", "enum", "trait")}
+    others = {top_of(name, path) for path, kind, _, _ in homes(name)[item] if kind in ("struct", "enum", "trait")}
     return tuple(method for where, own in methods(name)[item].items() if where == top or where not in others for method in own)
 
 
@@ -235,14 +253,10 @@ def passed_on(words):
 
 def declaration(name, item, below_file):
     """The declaration of a public item in a crate, or in the module of the root that a file is of; or None."""
-    for path in sources(name):
+    for path, kind, public, place in homes(name)[item]:
         top = top_of(name, path)
-        if below_file is not None and top != top_of(name, below_file):
-            continue
-        text = text_of(path)
-        for row in ITEM.finditer(text):
-            if not row[1] and row[2] and row[4] == item and row[3] != "mod":
-                return Item(row[3], item, doc_before(text, row.start()), methods_of(name, item, top))
+        if public and kind != "mod" and (below_file is None or top == top_of(name, below_file)):
+            return Item(kind, item, doc_before(text_of(path), place), methods_of(name, item, top))
     return None
 
 
@@ -266,12 +280,13 @@ def function_count(name):
     return sum(len(re.findall(r"^ *(?:pub(?:\(\w+\))? )?(?:const )?fn \w+", text_of(path), re.MULTILINE)) for path in sources(name))
 
 
+@functools.cache
 def names_in(path):
     """The names that a file of a crate gives: functions, types, clauses and modules of code; definitions, fields and lemmas of the logic."""
     text = text_of(path)
     if path.suffix == ".antt":
         return set(DEFINED.findall(text))
-    found = {row[4] for row in ITEM.finditer(text)}
+    found = {item for _, _, _, item, _ in items_in(path)}
     return found | set(re.findall(r"^ *ensures (\w+) \{", text, re.MULTILINE)) | set(re.findall(r"^    ([A-Z]\w*)\b", text, re.MULTILINE))
 
 

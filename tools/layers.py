@@ -33,6 +33,7 @@ PAST_THE_BOUND = {
 WAYS = 750_000
 # A runtime import or path that goes through a crate, and what is no runtime code of a file: ghost imports, attributes, comments, clauses.
 NOT_RUN = re.compile(r"^ *(?:ghost use [^;]*;|#!?\[.*\]$|//.*$)|\bensures\b[^{]*\{[^{}]*\}|\brequires\b[^{]*\{[^{}]*\}", re.MULTILINE)
+NAMED = re.compile(r"Rattle\.(\w+)|\b(\w+)::|(?<=\buse )(\w+)\b")
 HEAD = re.compile(r"(?:pub )?(?:const )?fn (\w+)")
 
 
@@ -51,14 +52,21 @@ def place_faults():
         before.add(name)
 
 
-def names(name, of):
-    """Whether a crate names another one: in an import, in a clause, or in a path."""
-    word = re.compile(rf"Rattle\.{of}\b|\b{of}::|\buse {of}\b")
-    return any(word.search(text_of(path)) for part in ("src", "specs", "proofs") for path in sources(name, part))
+@functools.cache
+def named(name):
+    """The words by which a crate can name others: in its imports, clauses and paths."""
+    found = set()
+    for part in ("src", "specs", "proofs"):
+        for path in sources(name, part):
+            for words in NAMED.findall(text_of(path)):
+                found.update(words)
+    return found
 
 
-def cites(name, of):
-    return any(f"Rattle.{of}.specs." in text_of(path) for path in sources(name, "specs"))
+@functools.cache
+def cited(name):
+    """The crates whose definitions a crate's definitions cite."""
+    return {of for path in sources(name, "specs") for of in re.findall(r"Rattle\.(\w+)\.specs\.", text_of(path))}
 
 
 def list_faults(name):
@@ -66,11 +74,11 @@ def list_faults(name):
     for use in uses()[name]:
         if use not in uses():
             continue
-        if not names(name, use):
+        if use not in named(name):
             yield f"{name}: lists {use}, which it doesn't name"
         if kind_of(use) == "tests":
             yield f"{name}: lists {use}, a crate of tests"
-        if kind_of(name) == "defs" and not cites(name, use):
+        if kind_of(name) == "defs" and use not in cited(name):
             yield f"{name}: lists {use}, of which its definitions cite nothing"
     if kind_of(name) in ("code", "defs", "tests"):
         for law in sorted(it for it in below(name) if kind_of(it) == "law"):

@@ -3,7 +3,8 @@
 
 - A link leads to a file or a folder, and its anchor to a heading.
 - A word in backquotes that is a path (`crates/..`, `docs/..`, `tools/..`, `examples/..`, or one that ends in .rt, .antt, .py or .md) is one: from the top of the repository,
-  from the page's folder, or, where it is only a file's name, of some file.
+  from the page's folder, or, where it is only a file's name, of some file. One that begins with src/, specs/ or proofs/ may be of a crate that the page names: then it may
+  leave out modules between.
 - A word in backquotes that begins with a crate's name and `::` goes on with names of that crate.
 - A word in backquotes that looks like a crate of a kind (`law_..`, `proof_..`, `tests_..`, `.._defs`) is a crate, or a module or name of one.
 
@@ -58,10 +59,19 @@ def link_fault(page, target):
     return ""
 
 
+@functools.cache
+def crates_named(page):
+    """The crates that a page names."""
+    return set(re.findall(r"\w+", page.read_text())) & facts.uses().keys()
+
+
 def is_path(page, word):
     """Whether a word that looks like a path is one."""
     if any((folder / word).exists() for folder in (facts.TOP, page.parent)):
         return True
+    part, _, rest = word.partition("/")
+    if part in ("src", "specs", "proofs") and facts.CRATES not in page.parents:
+        return any(path.as_posix().endswith(f"/{rest}") for name in crates_named(page) for path in facts.sources(name, part))
     return "/" not in word and word in file_names()
 
 
