@@ -231,7 +231,7 @@ def main():
     asked = transcripts.Asked(__doc__)
     asked.add_argument("--part", type=int, default=1)
     asked.add_argument("--program", default=str(PROGRAM), help="the command that is measured")
-    asked.add_argument("--other", default=f"{sys.executable} {other_reading.OTHER}" if other_reading.OTHER.exists() else "", help="the other reading; '' for none")
+    asked.add_argument("--other", default=other_reading.other_command(), help="the other reading; '' for none")
     given = asked.parse_args()
     if not 1 <= given.part <= LARGEST_PART:
         asked.error(f"--part is a number from 1 to {LARGEST_PART}, and it is {given.part}")

@@ -114,7 +114,7 @@ def main():
     asked.add_argument("--large", type=int, default=100_000)
     asked.add_argument("--runs", type=int, default=5, help="how often the program is run")
     asked.add_argument("--program", default=str(bench.PROGRAM), help="the command that is measured")
-    asked.add_argument("--other", default=f"{sys.executable} {other_reading.OTHER}" if other_reading.OTHER.exists() else "", help="the other reading; '' for none")
+    asked.add_argument("--other", default=other_reading.other_command(), help="the other reading; '' for none")
     given = asked.parse_args()
     if not 1 <= given.small < given.large:
         asked.error("the sizes are two numbers from 1 on, the smaller one first")

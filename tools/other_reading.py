@@ -1,6 +1,7 @@
 """Compares what the program prints with what another reading of the same specification prints.
 
-The other reading is a program that takes the same words and input as ours. Without one this is said, and the comparison passes.
+The other reading is a program that takes the same words and input as ours: `gnb.py` of the folder that the variable GNB_OTHER_READING names, which isn't part of this
+repository. Where it isn't given, nothing is compared: this is the last line (NOT_COMPARED), and the status is 0. Where it names no such file, this is an error.
 """
 
 import argparse
@@ -14,7 +15,26 @@ import sys
 
 TOP = pathlib.Path(__file__).resolve().parents[1]
 PROGRAM = [str(TOP / "gnb")]
-OTHER = TOP / "../shared/oracle/gnb.py"
+VARIABLE = "GNB_OTHER_READING"
+NOT_COMPARED = f"not compared: {VARIABLE} names no other reading of the specification"
+
+
+def other_file(name):
+    """The file of this name of the other reading, or None where the variable isn't given. A folder that lacks it ends the program with status 2."""
+    folder = os.environ.get(VARIABLE)
+    if not folder:
+        return None
+    path = pathlib.Path(folder) / name
+    if not path.is_file():
+        print(f"{VARIABLE}: {path} is no file", file=sys.stderr)
+        sys.exit(2)
+    return path
+
+
+def other_command():
+    """The command of the other reading in one text, '' where there is none."""
+    found = other_file("gnb.py")
+    return f"{sys.executable} {found}" if found else ""
 
 
 def answer(command, words, text):
@@ -31,9 +51,10 @@ def compare(usage, what, count, make, told, plain=None, asks=False, chosen="rand
     asked.add_argument("--seed", type=int, default=1)
     asked.add_argument("command", nargs="*")
     given = asked.parse_args()
-    other = given.command or plain or ([sys.executable, str(OTHER)] if OTHER.exists() else None)
+    found = None if given.command or plain else other_file("gnb.py")
+    other = given.command or plain or (found and [sys.executable, str(found)])
     if other is None:
-        print(f"no other reading is here: {given.count} {chosen} {what} are not compared")
+        print(f"{given.count} {chosen} {what} are left out\n{NOT_COMPARED}")
         return 0
     chances = [random.Random(given.seed * 1_000_003 + number) for number in range(given.count)]
     outcomes = collections.Counter()

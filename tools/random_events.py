@@ -1,8 +1,8 @@
 #!/usr/bin/env python3
 """Reads random event lines, right and spoilt, with `scenario_text` and with another reading of the same grammar, and compares what they say.
 
-The other reading is a Python file with `read_event` and `event_text`, as ../shared/oracle/scenario_text.py. Without one this is said, and the
-check passes. A small program over `scenario_text` is built outside the repository, unproved, by `rt try`.
+The other reading is a Python file with `read_event` and `event_text`: FILE, or `scenario_text.py` of the folder that GNB_OTHER_READING names. Where neither is
+given, nothing is compared, and the last line says so. A small program over `scenario_text` is built outside the repository, unproved, by `rt try`.
 
 Usage: tools/random_events.py [--count N] [--seed S] [FILE]
 """
@@ -16,9 +16,10 @@ import subprocess
 import sys
 import tempfile
 
+import other_reading
+
 TOP = pathlib.Path(__file__).resolve().parents[1]
-OTHER = TOP / "../shared/oracle/scenario_text.py"
-CRATES = ["gnb_types", "script_words", "scenario_text"]
+CRATES = ["gnb_types", "scenario_text"]
 MAIN = """//! Reads an event a line, and prints its text or the reason that it isn't one.
 #![tactic(auto)]
 
@@ -117,12 +118,13 @@ def main():
     asked = argparse.ArgumentParser(description=__doc__, formatter_class=argparse.RawDescriptionHelpFormatter)
     asked.add_argument("--count", type=int, default=5000)
     asked.add_argument("--seed", type=int, default=1)
-    asked.add_argument("file", nargs="?", default=OTHER, type=pathlib.Path)
+    asked.add_argument("file", nargs="?", type=pathlib.Path)
     given = asked.parse_args()
-    if not given.file.exists():
-        print(f"no other reading is here: {given.count} random event lines are not compared")
+    file = given.file or other_reading.other_file("scenario_text.py")
+    if file is None:
+        print(f"{given.count} random event lines are left out\n{other_reading.NOT_COMPARED}")
         return 0
-    spec = importlib.util.spec_from_file_location("other", given.file)
+    spec = importlib.util.spec_from_file_location("other", file)
     other = importlib.util.module_from_spec(spec)
     spec.loader.exec_module(other)
     chance = random.Random(given.seed)

@@ -4,7 +4,8 @@ what another reading of the same specification prints.
 
 Each call has a module of its own with a type T. Of the calls a third gives JSON of values as it may be written (half of it as values are printed, else members in any order, digits in either case, white
 space, names escaped), a third JSON in which something was changed, and a third octets: those that the other reading spells of such values, with bits changed or
-cut off. The other reading is a program that takes the word, a type and an input, as ours does. Without one this is said, and the check passes.
+cut off. The other reading is a program that takes the word, a type and an input, as ours does. Without one nothing is compared, and the last
+line says so (other_reading.py).
 
 Usage: tools/random_json.py [--count N] [--seed S] [COMMAND ..]
 """

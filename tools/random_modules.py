@@ -2,8 +2,8 @@
 """Checks random and mutated module texts with the program and with another reading of the same specification, and
 compares what they print.
 
-The other reading is a program that takes the word `check` and an input, as ours does. Without one this is said, and the
-check passes.
+The other reading is a program that takes the word `check` and an input, as ours does. Without one nothing is
+compared, and the last line says so (other_reading.py).
 
 Usage: tools/random_modules.py [--count N] [--seed S] [COMMAND ..]
 """

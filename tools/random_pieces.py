@@ -3,7 +3,8 @@
 what they answer to each piece, at the end, and to the whole.
 
 The octets are those of random values of the types of random modules, some with bits changed, some cut off and some with others after them, and
-random ones. The other reading is a module `codec.py` in Python. Without one this is said, and the check passes.
+random ones. The other reading is `codec.py`, a module in Python, of the folder that GNB_OTHER_READING names. Where it isn't given, nothing is compared, and the
+last line says so.
 
 Usage: tools/random_pieces.py [--count N] [--seed S] [COMMAND ..]
 """
@@ -17,6 +18,7 @@ import random
 import subprocess
 import sys
 
+import other_reading
 import random_modules
 
 TOP = pathlib.Path(__file__).resolve().parents[1]
@@ -24,14 +26,14 @@ CRATE = TOP / "crates/decode_pieces"
 # What the gate built, or else the sources, interpreted.
 BUILT = CRATE / "out/decode_pieces"
 PROGRAM = [BUILT] if BUILT.exists() else ["rt", "try"]
-OTHER = TOP / "../shared/oracle/codec.py"
 
 
 def codec():
     """The other reading, or None."""
-    if not OTHER.exists():
+    file = other_reading.other_file("codec.py")
+    if file is None:
         return None
-    found = importlib.util.spec_from_file_location("codec", OTHER)
+    found = importlib.util.spec_from_file_location("codec", file)
     made = importlib.util.module_from_spec(found)
     found.loader.exec_module(made)
     return made
@@ -156,7 +158,7 @@ def main():
     given = asked.parse_args()
     other = codec()
     if other is None:
-        print(f"no other reading is here: {given.count} random octets in pieces are not compared")
+        print(f"{given.count} random octets in pieces are left out\n{other_reading.NOT_COMPARED}")
         return 0
     made = cases(random.Random(given.seed), other, given.count)
     ran = subprocess.run(given.command or PROGRAM, cwd=CRATE, input=input_of(made).encode(), stdout=subprocess.PIPE, stderr=subprocess.DEVNULL, check=False)

@@ -5,8 +5,8 @@ A third of them are of one static bearer, with wrong lines, and with the profile
 language. Those are chosen a few at a time by the lines that our own program gave so far, so that most of them find something to act on: which items stand
 on links, and which control messages are in flight. The other reading sees the whole script only.
 
-The other reading is a program that takes the word `run` and a script on its input, as ours does. Without one this is
-said, and the check passes.
+The other reading is a program that takes the word `run` and a script on its input, as ours does. Without one nothing is
+compared, and the last line says so (other_reading.py).
 
 Usage: tools/random_scripts.py [--count N] [--seed S] [COMMAND ..]
 """

@@ -2,7 +2,8 @@
 """Decodes random and spoilt octets of messages by the word `decode` and by another reading of the same specification, and compares what they print.
 
 The octets are those of the control messages in examples/, some with bytes changed and some cut off, as values of the three interfaces' types.
-The other reading is a program that takes the word, a type and an input, as ours does. Without one this is said, and the check passes.
+The other reading is a program that takes the word, a type and an input, as ours does. Without one nothing is compared, and the last
+line says so (other_reading.py).
 
 Usage: tools/random_values.py [--count N] [--seed S] [COMMAND ..]
 """

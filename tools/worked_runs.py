@@ -2,7 +2,8 @@
 """Writes the data of crates/law_worked_runs: for each script of its folder scripts/, its events with the lines that another reading of
 the same specification gives. The crate's law is that the run of the definitions has these lines.
 
-The other reading is a Python program beside this repository. Without one this is said, and nothing is written. With --random COUNT the
+The other reading is a Python program, of the folder that GNB_OTHER_READING names. Where it isn't given, nothing is compared nor written, and the last
+line says so. With --random COUNT the
 scripts are random ones of the whole language, and the data is written to --into FOLDER, a copy of this repository, for a check outside
 the gate.
 
@@ -15,8 +16,10 @@ import random
 import re
 import sys
 
+import other_reading
+
 TOP = pathlib.Path(__file__).resolve().parents[1]
-OTHER = TOP / "../shared/oracle"
+OTHER = other_reading.other_file("world.py")
 CRATE = "law_worked_runs"
 # its laws, and the modules that are written by hand: of a script whose lines are too many to be listed
 LAWS = ["worked_runs", "worked_octet_runs", "old_copy_stops_a_run"]
@@ -26,8 +29,8 @@ EVENTS = "scenario_text.specs.declared.event"
 OPENED = ["tables", "transaction_defs", "pdcp_defs", "unit_defs", "transport_defs", "run_defs", "link_defs", "gtpu", "nr_user_plane",
           "pdcp", "gnb_types"]
 
-if OTHER.exists():
-    sys.path.insert(0, str(OTHER))
+if OTHER:
+    sys.path.insert(0, str(OTHER.parent))
     import scenario_text as S  # noqa: E402
     import world as W  # noqa: E402
 
@@ -415,8 +418,8 @@ def main():
     asked.add_argument("--seed", type=int, default=1)
     asked.add_argument("--into", type=pathlib.Path, default=TOP)
     given = asked.parse_args()
-    if not OTHER.exists():
-        print("no other reading is here: the theorems are left as they are")
+    if OTHER is None:
+        print(f"the theorems are left as they are\n{other_reading.NOT_COMPARED}")
         return 0
     scripts = list(random_scripts(given.random, given.length, given.seed) if given.random else own_scripts())
     write_crate(given.into, scripts)
