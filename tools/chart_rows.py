@@ -2,7 +2,7 @@
 
 A message or packet is an arrow in the row in which it is got; where it was put earlier than one row before, a lane beside the sender's lifeline leads from there to
 the arrow. What a unit does with it (`deliver`, `drop`, `held`, `failed`) is a mark in a row of its own, and what is lost, or in flight at the end, an arrow that
-doesn't arrive.
+doesn't arrive. Rows that repeat are folded into one that says how many they are.
 
 Nothing here is proved.
 """
@@ -14,10 +14,15 @@ import re
 
 import endpoints
 import packet_reader
+import selection
 from endpoints import N3, XNU_DL, XNU_UL, role
 from transcripts import NODES, Message, Radio, Wrong
 
 LANES = 8
+# characters of the column of events
+LABEL = 31
+# so many rows may be a block that repeats, and so many rows at least are folded
+BLOCK, FEWEST = 8, 5
 ROLES = ("ue", "du", "cp", "up", "core")
 NOTES = ("quiet", "busy", "settled", "unsettled", "outstanding", "end", "stop", "module", "differs")
 
@@ -90,6 +95,10 @@ class Chart:
     rows: list
     flights: list
     lanes: list = dataclasses.field(default_factory=list)
+    # the number of rows on the pages before
+    first: int = 0
+    # where the lifelines stand; chart_svg.py makes these
+    columns: list = dataclasses.field(default_factory=list)
 
 
 # ---- words
@@ -116,22 +125,29 @@ def words_of_message(name, elements, token):
     return ", ".join(words)
 
 
-def label_of_message(line, kind):
+def label_of_message(line, kind, is_one):
+    """The label of a control message; with its terminal, where the chart has more than one."""
     name, elements = endpoints.read_message(line, kind)
+    who = "" if is_one or line.ue == "u0" else line.ue
     if name is None:
-        return f"{line.link} {kind.name}, octets that are no message"
-    words = words_of_message(name, elements, endpoints.token_of(kind, name, elements))
+        return f"{line.link} {who + ' ' if who else ''}{kind.name}, octets that are no message"
+    words = ", ".join(filter(None, (who, words_of_message(name, elements, endpoints.token_of(kind, name, elements)))))
     shown = "RRC" if kind is endpoints.RRC else spelled(name)
     return f"{line.link} {shown}" + (f" ({words})" if words else "")
 
 
-def label_of_packet(line, kind, bits):
+def label_of_packet(line, kind, bits, is_one):
     if isinstance(line.link, Radio):
         name = packet_reader.name_of_pdcp(line.octets, bits)
     else:
         name = packet_reader.name_of_packet(line.octets, bits, kind in (N3, XNU_DL))
     count = "" if line.count is None else f"COUNT {line.count}: "
-    return f"{line.bearer} {count}{name}"
+    return f"{who_of(line, is_one)} {count}{name}"
+
+
+def who_of(line, is_one):
+    """The bearer of a line; with its terminal, where the chart has more than one."""
+    return line.bearer if is_one else f"{line.ue} {line.bearer}"
 
 
 def style_of(line, ends):
@@ -170,8 +186,8 @@ def whose(line):
 class Maker:
     """Makes the rows, line after line."""
 
-    def __init__(self):
-        self.rows, self.flights = [], []
+    def __init__(self, is_one=True):
+        self.rows, self.flights, self.is_one = [], [], is_one
         # what stands on each tunnel and radio, oldest first; and each control message ever put
         self.standing, self.messages = collections.defaultdict(collections.deque), {}
         self.of_step = (None, None)
@@ -200,7 +216,7 @@ class Maker:
         self.rows[-1].content, self.rows[-1].content_of = content, of
 
     def put(self, line, ends, bits):
-        label = label_of_message(line, ends.kind) if ends.kind.is_control else label_of_packet(line, ends.kind, bits)
+        label = label_of_message(line, ends.kind, self.is_one) if ends.kind.is_control else label_of_packet(line, ends.kind, bits, self.is_one)
         flight = Flight(line, ends, label, title_of(line, ends, label), style_of(line, ends), len(self.rows) - 1)
         self.flights.append(flight)
         self.ends[line.link] = ends
@@ -259,13 +275,13 @@ class Maker:
         elif line.kind == "failed":
             content, of = Mark(line.node, "failed", f"failed {line.ue}: {line.cause}", line.text), whose(line)
         else:
-            content, of = Mark(line.node, "drop", f"drop: {line.reason}", line.text), self.of_step
+            content, of = Mark(line.node, "drop", f"drop{self.who_of_step()}: {line.reason}", line.text), self.of_step
         self.new_content(line, content, of)
 
     def mark_of_delivery(self, line):
         node = line.ue if line.direction == "dl" else self.rows_receiver(line)
         count = f"{len(line.octets)} octet" + "s" * (len(line.octets) != 1)
-        return Mark(node, "deliver", f"deliver {line.bearer} COUNT {line.count} ({count})", f"{line.words}\n{grouped(line.octets)}")
+        return Mark(node, "deliver", f"deliver {who_of(line, self.is_one)} COUNT {line.count} ({count})", f"{line.words}\n{grouped(line.octets)}")
 
     def rows_receiver(self, line):
         """The CU-UP that delivers an uplink packet: the unit that got something last."""
@@ -273,6 +289,9 @@ class Maker:
             if isinstance(row.content, Arrow) and row.content.end == "arrives":
                 return row.content.flight.ends.receiver
         raise Wrong(line.number, "nothing was got before this delivery")
+
+    def who_of_step(self):
+        return "" if self.is_one or self.of_step[0] is None else f" {self.of_step[0]}"
 
     def mark_of_held(self, line):
         receiver = line.link.ue if isinstance(line.link, Radio) else line.link.node
@@ -296,8 +315,10 @@ class Maker:
 
 
 def label_of_event(line):
+    """An event, with long words and the whole made short enough for its column."""
     words = line.text.removeprefix("> ").split(" ")
-    return " ".join(word if len(word) <= 14 else word[:12] + ".." for word in words)
+    label = " ".join(word if len(word) <= 14 else word[:12] + ".." for word in words)
+    return label if len(label) <= LABEL else label[: LABEL - 2] + ".."
 
 
 def give_lanes(chart):
@@ -344,30 +365,125 @@ def in_order(nodes):
     return sorted(nodes, key=lambda node: (ROLES.index(role(node)), NODES.index(node)))
 
 
-def make(found, first=0, last=None):
-    """The chart of the events from `first` to `last` of a transcript, of which each line is there with its ends."""
-    maker = Maker()
+def make(found, chosen=selection.ALL, folds=True):
+    """The chart of what is chosen of a transcript, of which each line is there with its ends. Where `folds` holds, rows that repeat are folded."""
+    maker = Maker(is_one=len(terminals_of(found, chosen)) < 2)
     for line, ends, bits in found:
         maker.take(line, ends, bits)
-    if last is None:
+    if chosen.last is None:
         maker.finish(found[-1][0])
-    return of_range(maker, first, last if last is not None else found[-1][0].event)
+    rows, flights = chosen_rows(maker.rows, maker.flights, chosen)
+    return laid_out(*(folded(rows, flights) if folds else (rows, flights)))
 
 
-def of_range(maker, first, last):
-    """The chart of a range of events: its rows, and the flights that are seen in them."""
-    begin = next((place for place, row in enumerate(maker.rows) if row.event >= first), len(maker.rows))
-    end = next((place for place, row in enumerate(maker.rows) if row.event > last), len(maker.rows))
-    rows, flights = maker.rows[begin:end], []
-    for flight in maker.flights:
-        flight.put_row -= begin
-        flight.last_row = None if flight.last_row is None else flight.last_row - begin
-        if flight.put_row < len(rows) and (flight.last_row is None or flight.last_row >= 0):
-            flights.append(flight)
+def terminals_of(found, chosen):
+    """The terminals that are named by what is chosen."""
+    return {line.fields.get("ue") for line, _, _ in found if chosen.has_line(line)} - {None, "u0"}
+
+
+def laid_out(rows, flights, first=0):
+    """The chart of these rows, with its lifelines and lanes."""
     nodes = {node for row in rows for node in nodes_of(row)} | {node for flight in flights for node in (flight.ends.sender, flight.ends.receiver)}
-    chart = Chart(in_order(nodes) or ["core"], rows, flights)
+    chart = Chart(in_order(nodes) or ["core"], rows, flights, first=first)
     give_lanes(chart)
     return chart
+
+
+def pages_of(chart, length):
+    """The charts of a chart's pages, of so many rows each. Each page is to be drawn before the next one is taken: they share their flights."""
+    spans = [(flight, flight.put_row, flight.last_row) for flight in chart.flights]
+    for begin in range(0, len(chart.rows), length):
+        for flight, put, last in spans:
+            flight.put_row, flight.last_row, flight.lane = put, last, None
+        rows = chart.rows[begin : begin + length]
+        yield laid_out(rows, moved(chart.flights, {place: place - begin for place in range(begin, begin + len(rows))}, len(chart.rows)), begin)
+
+
+def chosen_rows(rows, flights, chosen):
+    """The rows of what is chosen, and the flights that are seen in them."""
+    kept, places = [], {}
+    for place, row in enumerate(rows):
+        if chosen.has_event(row.event) and has_something(row, chosen):
+            places[place] = len(kept)
+            kept.append(row)
+    return kept, moved([flight for flight in flights if chosen.has(*whose(flight.line))], places, len(rows))
+
+
+def has_something(row, chosen):
+    """Takes from a row what isn't chosen; whether something is left."""
+    row.puts = [flight for flight in row.puts if chosen.has(*whose(flight.line))]
+    if not chosen.has(*row.event_of):
+        row.label = row.refused = ""
+    if not chosen.has(*row.content_of):
+        row.content = None
+    return bool(row.label or row.content or row.puts)
+
+
+def moved(flights, places, count):
+    """The flights that are seen in rows at new places, of so many rows; -1 is before the first of them, and their number after the last."""
+    low, high, size, new = min(places, default=0), max(places, default=-1), len(set(places.values())), []
+    for flight in flights:
+        put, last = flight.put_row, count if flight.last_row is None else flight.last_row
+        if put <= high and last >= low and places:
+            flight.put_row = places.get(put, -1)
+            flight.last_row = None if flight.last_row is None else places.get(last, size if last > high else flight.put_row)
+            new.append(flight)
+    return new
+
+
+# ---- folding
+
+
+# numbers and octets of a label
+NUMBERS = re.compile(r"\b[0-9A-F]{2,}\b|[0-9]+")
+
+
+def shape_of(row):
+    """What a row looks like but for its numbers and octets; two rows of one shape are alike."""
+    event = re.sub("#[0-9]+", "#", row.label)
+    event = event.rsplit(" ", 1)[0] if event.startswith("offer ") else event
+    content = row.content
+    if isinstance(content, Arrow):
+        drawn = (content.end, content.flight.ends, content.flight.style, NUMBERS.sub("", content.label))
+    else:
+        drawn = (content.node, content.sort, NUMBERS.sub("", content.label)) if content else None
+    return event, row.refused, drawn, row.content_of, tuple(NUMBERS.sub("", flight.label) for flight in row.puts)
+
+
+def repeats_at(shapes, place):
+    """The length of the block that repeats from a place on, and how often it stands there; the one that covers most."""
+    best = (1, 1)
+    for length in range(1, BLOCK + 1):
+        count = 1
+        while shapes[place : place + length] == shapes[place + count * length : place + (count + 1) * length]:
+            count += 1
+        if (count - 2) * length >= FEWEST and count > 2 and count * length > best[0] * best[1]:
+            best = (length, count)
+    return best
+
+
+def folded(rows, flights):
+    """The rows with blocks that repeat folded: of each the first and the last stand, and between them a row says how many there are. What arrives in a folded row isn't seen."""
+    shapes, kept, places, hidden, place = [shape_of(row) for row in rows], [], {}, set(), 0
+    while place < len(rows):
+        length, count = repeats_at(shapes, place)
+        middle = range(place + length, place + (count - 1) * length)
+        for row in range(place, place + length):
+            places[row] = len(kept)
+            kept.append(rows[row])
+        if middle:
+            places |= {row: len(kept) for row in middle}
+            hidden |= set(middle)
+            kept.append(fold_of(rows[middle.start : middle.stop], length))
+        place += length + len(middle)
+    return kept, moved([flight for flight in flights if flight.last_row not in hidden], places, len(rows))
+
+
+def fold_of(rows, length):
+    first, last, times = rows[0].event, rows[-1].event, len(rows) // length
+    label = f"{times} more times the {'row' if length == 1 else f'{length} rows'} above, event{f's {first} to' if first < last else ''} {last}"
+    of = {row.content_of for row in rows}
+    return Row(first, content=Mark(None, "fold", label, label), content_of=of.pop() if len(of) == 1 else (None, None))
 
 
 def nodes_of(row):

@@ -10,6 +10,8 @@ from chart_rows import Arrow, Mark, whose
 from endpoints import role
 
 EVENTS_WIDTH, FIRST, SPACING, MARGIN = 206, 262, 116, 76
+# room for a refusal beside its event, and the most that a label may have between two lifelines
+REFUSED_WIDTH, LONGEST = 110, 460
 ROW, HEAD, LANE_FIRST, LANE_STEP = 20, 40, 5, 4
 CHARACTER = 5.6
 TITLES = {"ue": "UE", "du": "gNB-DU", "cp": "gNB-CU-CP", "up": "gNB-CU-UP", "core": "5GC"}
@@ -45,26 +47,67 @@ text { fill: #111; }
 .deliver { fill: #1b6e3c; stroke: none; }
 .held { fill: #fff; stroke: #b06000; stroke-width: 1.4; }
 .note { fill: #f4f4f4; stroke: #999; }
+.fold { fill: #fff; stroke: #999; stroke-dasharray: 2 2; }
 """
 
 # ---- places
 
 
-def gaps(chart):
-    return max(len(chart.nodes) - 1, 1)
+def width_of_text(text, weight=1.0):
+    return len(text) * CHARACTER * weight
 
 
-def spacing(chart):
-    """The room between two lifelines; few lifelines share the width of the legend."""
-    return max(SPACING, (legend_width() - FIRST - MARGIN) // gaps(chart))
+def needs_of(chart):
+    """For each label the first and the last lifeline between which it is to have room, and how much."""
+    found = {}
+    for row in chart.rows:
+        span, room = need_of(chart, row.content)
+        if span:
+            found[span] = max(found.get(span, 0), min(room, LONGEST))
+    return found
 
 
-def width_of(chart):
-    return FIRST + spacing(chart) * gaps(chart) + MARGIN
+def need_of(chart, content):
+    """The lifelines, by number, between which the label of a row stands, and its room; None where it needs none."""
+    if isinstance(content, Arrow):
+        ends = sorted(chart.nodes.index(node) for node in (content.flight.ends.sender, content.flight.ends.receiver))
+        return tuple(ends), width_of_text(content.label, weight_of(content.flight.style)) + 2 * LANE_FIRST + LANE_STEP
+    if content is None or content.node is None:
+        return None, 0
+    at = chart.nodes.index(content.node)
+    is_last = at == len(chart.nodes) - 1
+    return (None, 0) if len(chart.nodes) == 1 else ((at - 1, at) if is_last else (at, at + 1), width_of_text(content.label) + 24)
+
+
+def weight_of(style):
+    return 1.08 if style == "control" else 1
+
+
+def columns_of(chart):
+    """Where the lifelines stand: as far apart as labels between them need, the narrow ones first; few lifelines share the width of the legend."""
+    begin = FIRST + (REFUSED_WIDTH if any(row.refused for row in chart.rows) else 0)
+    gaps = [max(SPACING, (legend_width() - begin - MARGIN) // max(len(chart.nodes) - 1, 1))] * (len(chart.nodes) - 1)
+    for (first, last), room in sorted(needs_of(chart).items(), key=lambda need: (need[0][1] - need[0][0], need[0])):
+        lacking = room - sum(gaps[first:last])
+        for gap in range(first, last):
+            gaps[gap] += max(0, lacking) / (last - first)
+    return [round(begin + sum(gaps[:place])) for place in range(len(chart.nodes))]
 
 
 def place(chart, node):
-    return FIRST + spacing(chart) * chart.nodes.index(node)
+    if not chart.columns:
+        chart.columns = columns_of(chart)
+    return chart.columns[chart.nodes.index(node)]
+
+
+def width_of(chart):
+    return max(place(chart, chart.nodes[-1]) + MARGIN, 0)
+
+
+def fitted(chart, text, first, last, weight=1.0):
+    """A label, shortened where it is longer than the room between two places."""
+    room = int((abs(last - first) - 2 * LANE_FIRST) / (CHARACTER * weight))
+    return text if len(text) <= room or len(chart.nodes) < 2 else text[: max(room - 2, 8)] + ".."
 
 
 def lane_place(chart, node, is_right, number):
@@ -175,9 +218,10 @@ def arrow_elements(chart, row):
         parts.append(tip(end, MIDDLE, sign, flight.style))
     else:
         parts.append(cross(stop, MIDDLE) if arrow.end == "lost" else f'<circle cx="{stop:g}" cy="{MIDDLE}" r="3" class="flies"/>')
-    weight = 1.08 if flight.style == "control" else 1
-    middle = clamped(chart, (start + end) / 2, arrow.label, weight)
-    parts.append(text(middle, MIDDLE - 4, arrow.label, f"halo label-{flight.style}", "middle"))
+    weight = weight_of(flight.style)
+    label = fitted(chart, arrow.label, place(chart, flight.ends.sender), end, weight)
+    middle = clamped(chart, (place(chart, flight.ends.sender) + end) / 2, label, weight)
+    parts.append(text(middle, MIDDLE - 4, label, f"halo label-{flight.style}", "middle"))
     return group(row.content_of, "piece", flight.title or arrow.label, parts)
 
 
@@ -193,9 +237,9 @@ def mark_elements(chart, row):
 
 def note_shape(chart, mark):
     half = len(mark.label) * CHARACTER / 2 + 8
-    middle = (FIRST + max(place(chart, node) for node in chart.nodes)) / 2 if chart.nodes else FIRST + half
+    middle = (place(chart, chart.nodes[0]) + place(chart, chart.nodes[-1])) / 2
     middle = clamped(chart, middle, mark.label)
-    box = f'<rect x="{middle - half:g}" y="3" width="{2 * half:g}" height="{ROW - 5}" rx="3" class="note"/>'
+    box = f'<rect x="{middle - half:g}" y="3" width="{2 * half:g}" height="{ROW - 5}" rx="3" class="{mark.sort}"/>'
     return [box, text(middle, MIDDLE, mark.label, "", "middle")]
 
 

@@ -12,11 +12,13 @@ import re
 import shutil
 import subprocess
 import sys
+import tempfile
 import xml.etree.ElementTree as ElementTree
 
 import chart_rows
 import chart_svg
 import endpoints
+import selection
 import stories
 import to_chart
 import transcripts
@@ -139,9 +141,10 @@ def check_page(chart, text):
 def check_story(path):
     """A transcript's chart in each form; how many rows it has."""
     found = endpoints.read_with_ends(path)
-    chart = chart_rows.make(found)
+    chart = chart_rows.make(found, folds=False)
     check_rows(chart, [line for line, _, _ in found])
     check_lanes(chart)
+    check_room(chart)
     if len(chart.rows) > DRAWN_ROWS:
         return len(chart.rows)
     check_picture(chart, chart_svg.picture(chart, path.name))
@@ -157,10 +160,62 @@ def check_story(path):
 def check_ranges():
     """A range of events has the rows of these events alone, with the lanes that reach into it."""
     found = endpoints.read_with_ends(stories.EXAMPLES / "handover-with-data-in-flight.out")
-    whole, part = chart_rows.make(found), chart_rows.make(found, 14, 19)
+    whole, part = chart_rows.make(found), chart_rows.make(found, selection.Selection(14, 19))
     assert [text_of(row) for row in part.rows] == [text_of(row) for row in whole.rows if 14 <= row.event <= 19]
     assert any(flight.put_row < 0 for flight in part.flights) and "A.up1" in part.nodes
     check_picture(part, chart_svg.picture(part, "a part"))
+
+
+def check_selection():
+    """A terminal and a bearer choose rows in every form: what is of another one is left out, what is of none stays; with one terminal labels don't name it."""
+    found = endpoints.read_with_ends(stories.EXAMPLES / "failed-preparation.out")
+    whole, part = (chart_rows.make(found, chosen) for chosen in (selection.ALL, selection.Selection(ue="u2")))
+    assert any("u1 b2 COUNT 0" in text_of(row) for row in whole.rows) and "2 static u2 B 1 2 12 1 4096" in map(text_of, whole.rows)
+    assert not any("u1" in text_of(row) for row in part.rows) and "18 pump" in map(text_of, part.rows)
+    usual = endpoints.read_with_ends(stories.EXAMPLES / "usual-day.out")
+    rows = [text_of(row) for row in chart_rows.make(usual, selection.Selection(bearer="b2")).rows]
+    assert not any(" b1 " in row for row in rows) and any("deliver b2 COUNT 1 (1 octet)" in row for row in rows) and any("UE Context Setup Request" in row for row in rows)
+    for form in ("--html", "--msc"):
+        ran = stories.run_tool("to_chart", form, "--ue", "u2", str(stories.EXAMPLES / "failed-preparation.out"))
+        assert ran.returncode == 0 and "static u2 B" in ran.stdout and "static u1 A" not in ran.stdout, ran.stderr
+
+
+def check_folding():
+    """Of 2,051 offers the first and the last stand, and a row says how many are between; each block of four rows likewise."""
+    rows = chart_rows.make(endpoints.read_with_ends(stories.EXAMPLES / "window.out")).rows
+    folds = [row.content.label for row in rows if row.content and not isinstance(row.content, chart_rows.Arrow) and row.content.sort == "fold"]
+    assert folds[0] == "2049 more times the row above, events 3 to 2051" and len(rows) < 100, (folds, len(rows))
+    text = BEGIN + "".join(f"> offer u1 b1 ul {n:04X}\nput r/u1/b1/ul/1 u1 b1 ul {n} 8{n:03X}00\n> air u1 b1 ul\ngot r/u1/b1/ul/1 u1 b1 ul {n} 8{n:03X}00\n> tick\n" for n in range(20))
+    found = list(endpoints.with_ends(transcripts.read(text)))
+    rows = [text_of(row) for row in chart_rows.make(found).rows]
+    assert rows[:4] == ["1 static u1 A 1 1 12 1 64", "2 offer u1 b1 ul 0000", "3 air u1 b1 ul | u1 -> A.du1: b1 COUNT 0: PDCP SN 0", "4 tick"], rows
+    assert rows[4] == " | None 18 more times the 3 rows above, events 5 to 58" and rows[5] == "59 offer u1 b1 ul 0013" and len(rows) == 8, rows
+    assert len(chart_rows.make(found, folds=False).rows) == 61
+
+
+def check_pages():
+    """A chart of more rows than a page has is drawn on pages, whose rows together are all of it; standard output takes one page alone."""
+    story = stories.EXAMPLES / "usual-day.out"
+    count = len(chart_rows.make(endpoints.read_with_ends(story)).rows)
+    with tempfile.TemporaryDirectory() as folder:
+        path, pages = pathlib.Path(folder) / "day.svg", -(-count // 20)
+        ran = stories.run_tool("to_chart", "--rows", "20", story, path)
+        assert (ran.returncode, ran.stderr) == (0, f"to_chart: {count} rows on {pages} pages, {path} to {path.with_name(f'day-{pages}.svg')}\n"), ran
+        names = sorted(entry.name for entry in pathlib.Path(folder).iterdir())
+        assert names == sorted(["day.svg", *(f"day-{number}.svg" for number in range(2, pages + 1))])
+        drawn = "".join((path.parent / name).read_text() for name in names)
+        assert all(drawn.count(f">{event}</text>") == 1 for event in range(1, 30))
+    ran = stories.run_tool("to_chart", "--rows", "20", story)
+    assert (ran.returncode, ran.stdout) == (2, "") and ran.stderr == f"to_chart: {story}: {count} rows need {pages} pages: name a file, or choose with --events, --ue, --bearer or --rows\n"
+
+
+def check_room(chart):
+    """Whether each label of an arrow stays between its lifelines, but for those that are shortened."""
+    for row in chart.rows:
+        if isinstance(row.content, chart_rows.Arrow):
+            places = [chart_svg.place(chart, node) for node in (row.content.flight.ends.sender, row.content.flight.ends.receiver)]
+            label = chart_svg.fitted(chart, row.content.label, *places, chart_svg.weight_of(row.content.flight.style))
+            assert chart_svg.width_of_text(label) <= abs(places[0] - places[1]), f"'{label}' runs over the lifelines of its arrow"
 
 
 def check_without_events():
@@ -190,7 +245,8 @@ def check_words():
 def check_wrong_words():
     story = str(stories.EXAMPLES / "lost-on-f1-u.out")
     no_range = "argument --events: '{}' is no range of events, as 3-20"
-    for words, awaited in ((["--events", "0-3"], no_range.format("0-3")), (["--events", "4-2"], no_range.format("4-2")), (["--html", "--msc"], "not allowed with argument --html")):
+    for words, awaited in ((["--ue", "u17"], "argument --ue: awaited a UE, u1 to u16, and it is 'u17'"), (["--bearer", "b0"], "argument --bearer: awaited a bearer, b1 to b8, and it is 'b0'"),
+                           (["--rows", "3"], "argument --rows: '3' is no number from 10 to 999999"), (["--events", "0-3"], no_range.format("0-3")), (["--events", "4-2"], no_range.format("4-2")), (["--html", "--msc"], "not allowed with argument --html")):
         ran = stories.run_tool("to_chart", *words, story)
         assert ran.returncode == 2 and re.fullmatch(f"to_chart: .*{awaited}\n", ran.stderr), ran.stderr
     ran = stories.run_tool("to_chart", "--events", "17-19", story)
@@ -215,6 +271,9 @@ def main():
     check_words()
     check_by_hand()
     check_ranges()
+    check_selection()
+    check_folding()
+    check_pages()
     check_without_events()
     check_odd_messages()
     paths = stories.transcripts()

@@ -2,21 +2,27 @@
 """Draws a transcript of `run`, or a range of its events, as a message sequence chart like those of 3GPP's stage 2: one lifeline a unit, time going down.
 
 The chart is one self-contained SVG (the default), an HTML page that filters by UE and bearer (--html), or the text that mscgen draws (--msc). A name that ends with .html or .msc
-chooses the form too. Octets are shown where a pointer rests. docs/lab.md explains the marks.
+chooses the form too. Octets are shown where a pointer rests. Rows that repeat are folded; a chart of more than 500 rows is drawn on pages: CHART.svg, CHART-2.svg and so on. docs/lab.md
+explains the marks.
 
 Nothing here is proved: a chart shows what a transcript says.
 
-Usage: tools/to_chart.py [--html | --msc] [--events FIRST-LAST] [--title TEXT] TRANSCRIPT [CHART]      (`-` is standard input or output)
+Usage: tools/to_chart.py [--html | --msc] [--events FIRST-LAST] [--ue uU] [--bearer bB] [--all-rows] [--rows N] [--title TEXT] TRANSCRIPT [CHART]      (`-` is standard input or output)
 """
 
 import argparse
+import pathlib
 import re
 import sys
 
 import chart_rows
 import chart_svg
 import endpoints
+import selection
 import transcripts
+
+# the rows of a page: a picture of so many opens at once in a browser
+ROWS = 500
 
 
 def msc(chart):
@@ -45,13 +51,11 @@ def quoted(text):
     return text.replace("\\", "\\\\").replace('"', '\\"')
 
 
-def read_range(word):
-    """`FIRST-LAST`, or one event."""
-    found = re.fullmatch(r"([1-9][0-9]*)(?:-([1-9][0-9]*))?", word)
-    first, last = (int(found[1]), int(found[2] or found[1])) if found else (1, 0)
-    if first > last:
-        raise argparse.ArgumentTypeError(f"'{word}' is no range of events, as 3-20")
-    return first, last
+def rows(word):
+    """How many rows a page has."""
+    if not re.fullmatch("[1-9][0-9]{1,5}", word):
+        raise argparse.ArgumentTypeError(f"'{word}' is no number from 10 to 999999")
+    return int(word)
 
 
 def form_of(given):
@@ -60,17 +64,33 @@ def form_of(given):
     return "msc" if given.msc or given.chart.endswith(".msc") else "svg"
 
 
-def drawn(found, given):
-    """The text of the chart that is asked for."""
-    first, last = given.events or (0, None)
-    events = found[-1][0].event
-    if (last or 0) > events:
-        raise transcripts.Wrong(0, f"there is no event {last}: the transcript has {events}")
-    chart = chart_rows.make(found, first, last)
-    title = given.title or (given.transcript if given.transcript != "-" else "a transcript")
-    if form_of(given) == "msc":
+def drawn(chart, form, title):
+    """The text of a chart in a form."""
+    if form == "msc":
         return msc(chart)
-    return chart_svg.page(chart, title) if form_of(given) == "html" else chart_svg.picture(chart, title)
+    return chart_svg.page(chart, title) if form == "html" else chart_svg.picture(chart, title)
+
+
+def page_name(name, number):
+    """The name of a page's file: that of the chart, with a number from the second page on."""
+    path = pathlib.Path(name)
+    return str(path if number == 1 else path.with_name(f"{path.stem}-{number}{path.suffix}"))
+
+
+def write(found, given):
+    """Draws what is asked for, on as many pages as it needs."""
+    chart = chart_rows.make(found, selection.chosen(given, found), not given.all_rows)
+    title = given.title or (given.transcript if given.transcript != "-" else "a transcript")
+    pages = -(-len(chart.rows) // given.rows)
+    if pages > 1 and given.chart == "-":
+        raise transcripts.Wrong(0, f"{len(chart.rows)} rows need {pages} pages: name a file, or choose with --events, --ue, --bearer or --rows")
+    if not chart.rows:
+        raise transcripts.Wrong(0, "nothing of the transcript is chosen")
+    for number, page in enumerate(chart_rows.pages_of(chart, given.rows), 1):
+        named = title + (f", page {number} of {pages}" if pages > 1 else "")
+        transcripts.write_file(page_name(given.chart, number) if pages > 1 else given.chart, drawn(page, form_of(given), named).encode())
+    if pages > 1:
+        print(f"to_chart: {len(chart.rows)} rows on {pages} pages, {page_name(given.chart, 1)} to {page_name(given.chart, pages)}", file=sys.stderr)
 
 
 def main():
@@ -78,14 +98,15 @@ def main():
     form = asked.add_mutually_exclusive_group()
     form.add_argument("--html", action="store_true", help="an HTML page with a filter")
     form.add_argument("--msc", action="store_true", help="the text that mscgen draws")
-    asked.add_argument("--events", type=read_range, metavar="FIRST-LAST", help="these events alone")
+    selection.ask(asked)
+    asked.add_argument("--all-rows", action="store_true", help="rows that repeat aren't folded")
+    asked.add_argument("--rows", type=rows, default=ROWS, metavar="N", help=f"so many rows a page, {ROWS} where nothing else is said")
     asked.add_argument("--title", help="the title; the transcript's name where none is given")
     asked.add_argument("transcript")
     asked.add_argument("chart", nargs="?", default="-")
     given = asked.parse_intermixed_args()
     try:
-        text = drawn(endpoints.read_with_ends(given.transcript), given)
-        transcripts.write_file(given.chart, text.encode())
+        write(endpoints.read_with_ends(given.transcript), given)
     except (transcripts.Wrong, OSError) as wrong:
         return transcripts.report("to_chart", given.transcript, wrong)
     return 0
