@@ -237,7 +237,7 @@ def main():
         asked.error(f"--part is a number from 1 to {LARGEST_PART}, and it is {given.part}")
     program = shlex.split(given.program)
     if not program or shutil.which(program[0]) is None:
-        print(f"bench: '{given.program}' is no program that can be run; ./gnb builds the one that is measured", file=sys.stderr)
+        print(f"bench: '{given.program}' is no program that can be run; `rt ci` builds the one that is measured", file=sys.stderr)
         return USAGE
     with tempfile.TemporaryDirectory() as folder:
         for line in table(given.part, pathlib.Path(folder), (program, shlex.split(given.other))):

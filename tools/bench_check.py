@@ -56,7 +56,7 @@ def check_table(folder):
 
 def check_wrong(folder):
     ran = stories.run_tool("bench", "--program", str(folder / "none"))
-    said = f"bench: '{folder / 'none'}' is no program that can be run; ./gnb builds the one that is measured\n"
+    said = f"bench: '{folder / 'none'}' is no program that can be run; `rt ci` builds the one that is measured\n"
     assert (ran.returncode, ran.stdout, ran.stderr) == (2, "", said), ran.stderr
     ran = stories.run_tool("bench", "--part", "0")
     assert (ran.returncode, ran.stdout, ran.stderr) == (2, "", "bench: --part is a number from 1 to 10000, and it is 0\n"), ran.stderr

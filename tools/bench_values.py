@@ -122,7 +122,7 @@ def main():
         asked.error("the program is run at least once")
     program = shlex.split(given.program)
     if not program or shutil.which(program[0]) is None:
-        print(f"bench_values: '{given.program}' is no program that can be run; ./gnb builds the one that is measured", file=sys.stderr)
+        print(f"bench_values: '{given.program}' is no program that can be run; `rt ci` builds the one that is measured", file=sys.stderr)
         return bench.USAGE
     with tempfile.TemporaryDirectory() as folder:
         try:

@@ -3,20 +3,48 @@
 //! or encodes and decodes values of its types.
 #![tactic(auto)]
 
+mod awaited;
 #[cfg(test)]
 mod failing_runs;
 mod plain_words;
 pub mod product;
+mod tail;
 #[cfg(test)]
 mod tests;
 pub mod top;
 #[cfg(test)]
 mod value_rows;
 
+use command_defs::Status;
 use gnb_base::standard::{StdSink, StdSource};
+use plain_words::Call;
+use std::alloc::Global;
 use std::env;
 use std::io::ErrorKind;
 use std::process::ExitCode;
+use tail::{Tail, TailSink, TailSource};
+
+/// Says in plain words what the status means, with the line that it names where that is kept.
+fn explain(
+    rt: &impl Eprint,
+    alloc: Global,
+    words: &[String],
+    read: &Tail,
+    written: &Tail,
+    status: Status,
+) {
+    if status.code == 0 {
+        return;
+    }
+    let line = read.line(alloc, status.place);
+    let written = written.before_last(alloc);
+    let call = Call {
+        words,
+        line: line.as_ref().map(|line| line.as_slice()),
+        written: written.as_ref().map(|line| line.as_slice()),
+    };
+    let _ = plain_words::explain(rt, &call, status);
+}
 
 /// Reads the words after the program's name, and calls the program with standard input and output.
 fn main(rt: HostRuntime) -> ExitCode {
@@ -34,9 +62,22 @@ fn main(rt: HostRuntime) -> ExitCode {
         Err(error) if error.kind() == ErrorKind::InvalidData => {}
         Err(_) => return ExitCode::from(9),
     }
-    let mut input = StdSource::new(rt.stdin());
-    let mut output = StdSink::new(rt.stdout());
+    let mut input = TailSource {
+        source: StdSource::new(rt.stdin()),
+        tail: Tail::new(alloc),
+    };
+    let mut output = TailSink {
+        sink: StdSink::new(rt.stdout()),
+        tail: Tail::new(alloc),
+    };
     let status = product::base_station(alloc, words.as_slice(), &mut input, &mut output);
-    let _ = plain_words::explain(&rt, status);
+    explain(
+        &rt,
+        alloc,
+        words.as_slice(),
+        &input.tail,
+        &output.tail,
+        status,
+    );
     ExitCode::from(status.code)
 }
