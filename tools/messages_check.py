@@ -15,6 +15,7 @@ import shlex
 import endpoints
 import other_reading
 import profile_reader
+import program
 import stories
 import transcripts
 
@@ -96,9 +97,9 @@ def check_changed(command, found):
 
 def main():
     asked = argparse.ArgumentParser(description=__doc__, formatter_class=argparse.RawDescriptionHelpFormatter)
-    asked.add_argument("--program", help="a command in place of ./gnb")
+    asked.add_argument("--program", help="a command in place of the program")
     given = asked.parse_args()
-    command = shlex.split(given.program) if given.program else other_reading.PROGRAM
+    command = shlex.split(given.program) if given.program else program.command()
     found = messages()
     check_examples(command, found)
     taken = check_changed(command, found)

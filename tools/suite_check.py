@@ -10,6 +10,7 @@ import sys
 import xml.etree.ElementTree as ElementTree
 
 import checks
+import program
 import stories
 import suite
 
@@ -147,6 +148,20 @@ def test_without_a_program(tmp_path):
     with checks.as_program(tmp_path, "import sys\nprint('gnb: no rt in PATH', file=sys.stderr)\nsys.exit(1)\n"):
         ran = stories.run_tool("suite", tmp_path)
     assert (ran.returncode, ran.stderr) == (2, f"suite: {sys.executable}: status 1, gnb: no rt in PATH\n"), ran
+
+
+def test_the_kept_program(tmp_path):
+    """The program that `./gnb` runs is asked for once, by the tool that knows it; why there is none is said."""
+    write(tmp_path / "tools", {"kept_program.py": "print('/kept/gnb')\n"})
+    assert program.kept(tmp_path) == ["/kept/gnb"] and program.kept(tmp_path / "none") == [str(tmp_path / "none/gnb")]
+    write(tmp_path / "other", {})
+    write(tmp_path / "other/tools", {"kept_program.py": "import sys\nprint('gnb: no rt is in PATH', file=sys.stderr)\nsys.exit(1)\n"})
+    try:
+        program.kept(tmp_path / "other")
+    except program.NoProgram as wrong:
+        assert str(wrong) == "gnb: no rt is in PATH"
+    else:
+        raise AssertionError("a program is told of where there is none")
 
 
 def test_usage():
