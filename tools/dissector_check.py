@@ -4,10 +4,9 @@ and each packet of the stories as the program (tools/control_messages.py) and to
 
 Nothing here is a proof.
 
-Usage: tools/dissector_check.py [--seed S]
+Usage: tools/dissector_check.py
 """
 
-import argparse
 import random
 import re
 import sys
@@ -18,6 +17,7 @@ import control_messages
 import endpoints
 import packet_reader
 import profile_reader
+import program
 import stories
 import to_lua
 import to_pcapng
@@ -30,7 +30,7 @@ SHOWN = ("message", "ue", "instance", "epoch", "teid", "bearer", "mode", "cause"
          "du", "bearers", "container")
 USER_PLANE = ("nrup.seq_num", "nrup.high_success_delivered_nr_pdcp_sn", "nrup.start_num_lost_nru_seq_num", "splitgnb.pdcp.sn", "splitgnb.pdcp.fmc", "splitgnb.packet",
               "splitgnb.ue", "splitgnb.bearer", "splitgnb.direction", "splitgnb.count", "splitgnb.event", "splitgnb.line", "splitgnb.injected")
-CHANGES = 300
+CHANGES, SEED = 300, 1
 
 
 def tshark(capture, *fields):
@@ -194,23 +194,35 @@ def is_refused(name, octets):
     return "octets" in carried and carried["octets"] != "" and "RrcToken" not in carried
 
 
-def main():
-    asked = argparse.ArgumentParser(description=__doc__, formatter_class=argparse.RawDescriptionHelpFormatter)
-    asked.add_argument("--seed", type=int, default=1)
-    given = asked.parse_args()
-    assert TABLE.read_text() == to_lua.table(), f"{TABLE} isn't what tools/to_lua.py writes"
-    if not checks.is_here("tshark", "tshark"):
-        print("the dissector's table is the profile's; not looked at: tshark isn't installed, and the dissector was not run")
-        return
+def items():
+    """Each message and packet that the stories put, and their capture."""
     paths = [path for path in stories.transcripts() if path.name != "window.out"]
     found = [(path, *entry) for path in paths for entry in endpoints.with_ends(transcripts.read_file(path)) if entry[0].kind == "put"]
-    capture = b"".join(to_pcapng.capture([entry for entry in endpoints.read_with_ends(path) if entry[0].kind == "put"], "put") for path in paths)
+    return found, b"".join(to_pcapng.capture([entry for entry in endpoints.read_with_ends(path) if entry[0].kind == "put"], "put") for path in paths)
+
+
+def test_table():
+    assert TABLE.read_text() == to_lua.table(), f"{TABLE} isn't what tools/to_lua.py writes"
+
+
+def test_stories():
+    look_with_tshark()
+    found, capture = items()
     check_messages(found, capture)
     check_items(found, capture)
-    wrong, refused = check_changed(found, given.seed)
+
+
+def test_changed():
+    look_with_tshark()
+    wrong, refused = check_changed(items()[0], SEED)
     assert wrong * 2 > refused, f"of {CHANGES} changed messages the program refuses {refused}, and the dissector finds but {wrong} malformed"
-    print(f"the dissector reads {len(found)} messages and packets as the program and the reader of packets do; of {CHANGES} changed messages the program refuses {refused}, {wrong} of which it finds malformed")
+
+
+def look_with_tshark():
+    if not checks.is_here("tshark", "tshark"):
+        checks.not_looked_at("tshark isn't installed, and the dissector was not run")
 
 
 if __name__ == "__main__":
-    sys.exit(main())
+    program.prepare()
+    sys.exit(checks.run(__file__))
