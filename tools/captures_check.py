@@ -140,7 +140,7 @@ def is_injected(line):
     return line.kind == "event" and line.what == "inject" and not line.refused
 
 
-def check_injected():
+def test_injected():
     """What examples/foreign-octets.script injects: ten of its fifteen are given to a unit."""
     _, _, packets = read_capture(to_pcapng.capture(endpoints.read_with_ends(stories.EXAMPLES / "foreign-octets.out"), "put"))
     injected = [(name, octets[28:].hex().upper(), comment) for name, _, octets, comment in packets if "injected" in comment]
@@ -149,7 +149,7 @@ def check_injected():
     assert injected[3] == ("N3", "40FF000000000001", "line 12, event 7: injected at A.up1/1")
 
 
-def check_chosen():
+def test_chosen():
     """A range of events, a terminal and a bearer choose packets."""
     found = endpoints.read_with_ends(stories.EXAMPLES / "usual-day.out")
     for chosen, pattern in ((selection.Selection(first=7, last=9), r"line \d+, event [789]:"), (selection.Selection(bearer="b2"), r".* (u1 b2 .*|u[01])(;|$)"),
@@ -158,7 +158,7 @@ def check_chosen():
         assert comments and all(re.match(pattern, comment) for comment in comments), f"{chosen}: {comments}"
 
 
-def check_by_hand():
+def test_by_hand():
     _, names, packets = read_capture(to_pcapng.capture(endpoints.read_with_ends(stories.EXAMPLES / "first-packet.out"), "put"))
     assert packets[0] == ("N3", 2_000_001, FIRST, "line 3, event 2: put A.up1/1 u1 b1 dl -; 12-bit PDCP SN; no COUNT"), packets[0]
     assert names[bytes([10, 3, 0, 1])] == "u1" and names[bytes([10, 1, 3, 1])] == "A.du1"
@@ -214,19 +214,19 @@ def check_with_tshark(paths):
             assert values == fields_of(line, ends), f"{at}: tshark reads {values}, not {fields_of(line, ends)}"
 
 
-def main():
-    check_by_hand()
-    check_injected()
-    check_chosen()
-    paths = stories.transcripts()
-    packets = sum(check_story(path) for path in paths)
+def test_captures():
+    assert sum(map(check_story, stories.transcripts())) > 2000
+
+
+def test_wrong_inputs():
     stories.check_wrong_inputs("to_pcapng", WRONG, "-")
+
+
+def test_with_tshark():
     if not checks.is_here("tshark", "tshark"):
-        print(f"captures of {len(paths)} transcripts have their {packets} packets; not looked at: tshark isn't installed, and Wireshark was not asked")
-        return
-    check_with_tshark(paths)
-    print(f"captures of {len(paths)} transcripts have their {packets} packets, and tshark reads every packet of GTP-U")
+        checks.not_looked_at("tshark isn't installed, and Wireshark was not asked")
+    check_with_tshark(stories.transcripts())
 
 
 if __name__ == "__main__":
-    sys.exit(main())
+    sys.exit(checks.run(__file__))

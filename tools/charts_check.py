@@ -17,7 +17,9 @@ import xml.etree.ElementTree as ElementTree
 
 import chart_rows
 import chart_svg
+import checks
 import endpoints
+import program
 import selection
 import stories
 import to_chart
@@ -84,7 +86,7 @@ def text_of(row):
     return f"{chart_svg.text_of_event(row) if row.label else ''} | {drawn}"
 
 
-def check_by_hand():
+def test_by_hand():
     chart = chart_rows.make(endpoints.read_with_ends(stories.EXAMPLES / "lost-on-f1-u.out"))
     assert chart.nodes == ["u1", "A.du1", "A.up1", "core"], chart.nodes
     for row, awaited in zip(chart.rows, ROWS):
@@ -157,7 +159,7 @@ def check_story(path):
     return len(chart.rows)
 
 
-def check_ranges():
+def test_ranges():
     """A range of events has the rows of these events alone, with the lanes that reach into it."""
     found = endpoints.read_with_ends(stories.EXAMPLES / "handover-with-data-in-flight.out")
     whole, part = chart_rows.make(found), chart_rows.make(found, selection.Selection(14, 19))
@@ -166,7 +168,7 @@ def check_ranges():
     check_picture(part, chart_svg.picture(part, "a part"))
 
 
-def check_selection():
+def test_selection():
     """A terminal and a bearer choose rows in every form: what is of another one is left out, what is of none stays; with one terminal labels don't name it."""
     found = endpoints.read_with_ends(stories.EXAMPLES / "failed-preparation.out")
     whole, part = (chart_rows.make(found, chosen) for chosen in (selection.ALL, selection.Selection(ue="u2")))
@@ -180,7 +182,7 @@ def check_selection():
         assert ran.returncode == 0 and "static u2 B" in ran.stdout and "static u1 A" not in ran.stdout, ran.stderr
 
 
-def check_folding():
+def test_folding():
     """Of 2,051 offers the first and the last stand, and a row says how many are between; each block of four rows likewise."""
     rows = chart_rows.make(endpoints.read_with_ends(stories.EXAMPLES / "window.out")).rows
     folds = [row.content.label for row in rows if row.content and not isinstance(row.content, chart_rows.Arrow) and row.content.sort == "fold"]
@@ -193,7 +195,7 @@ def check_folding():
     assert len(chart_rows.make(found, folds=False).rows) == 61
 
 
-def check_pages():
+def test_pages():
     """A chart of more rows than a page has is drawn on pages, whose rows together are all of it; standard output takes one page alone."""
     story = stories.EXAMPLES / "usual-day.out"
     count = len(chart_rows.make(endpoints.read_with_ends(story)).rows)
@@ -218,14 +220,14 @@ def check_room(chart):
             assert chart_svg.width_of_text(label) <= abs(places[0] - places[1]), f"'{label}' runs over the lifelines of its arrow"
 
 
-def check_without_events():
+def test_without_events():
     """A transcript of a script whose module is refused has no event and no unit; its lines are drawn."""
     chart = chart_rows.make(list(endpoints.with_ends(transcripts.read("differs Quota\nstop 3 0 20\n"))))
     assert [row.content.label for row in chart.rows] == ["differs Quota", "stop 3 0 20"]
     check_picture(chart, chart_svg.picture(chart, "no event"))
 
 
-def check_odd_messages():
+def test_odd_messages():
     """Messages that no unit of ours puts: an alternative past the root, an unknown procedure, an unknown mode, and no message."""
     odd = ["8000", "8003AAAAAA", "0063000100", "000300260000060001000100000200020001000B0001A00000"]
     text = BEGIN + "".join(f"put #{number} A.cp A.du1 u1 {octets}\n" for number, octets in enumerate(odd, 1))
@@ -235,14 +237,14 @@ def check_odd_messages():
     check_picture(chart, chart_svg.picture(chart, "odd"))
 
 
-def check_words():
+def test_words():
     names = {"DLRRCMessageTransfer": "DL RRC Message Transfer", "UEContextSetupRequest": "UE Context Setup Request", "SNStatusTransfer": "SN Status Transfer",
              "F1SetupRequest": "F1 Setup Request", "HandoverRequestAcknowledge": "Handover Request Acknowledge"}
     for name, spelled in names.items():
         assert chart_rows.spelled(name) == spelled, chart_rows.spelled(name)
 
 
-def check_wrong_words():
+def test_wrong_words():
     story = str(stories.EXAMPLES / "lost-on-f1-u.out")
     no_range = "argument --events: '{}' is no range of events, as 3-20"
     for words, awaited in ((["--ue", "u17"], "argument --ue: awaited a UE, u1 to u16, and it is 'u17'"), (["--bearer", "b0"], "argument --bearer: awaited a bearer, b1 to b8, and it is 'b0'"),
@@ -267,22 +269,20 @@ def check_docs(is_to_write):
         assert path.exists() and path.read_text() == text, f"{path} isn't what tools/to_chart.py draws: tools/charts_check.py --write draws it anew"
 
 
-def main():
-    check_words()
-    check_by_hand()
-    check_ranges()
-    check_selection()
-    check_folding()
-    check_pages()
-    check_without_events()
-    check_odd_messages()
-    paths = stories.transcripts()
-    rows = sum(check_story(pathlib.Path(path)) for path in paths)
+def test_charts():
+    assert sum(map(check_story, stories.transcripts())) > 4000
+
+
+def test_wrong_inputs():
     stories.check_wrong_inputs("to_chart", WRONG, "-")
-    check_wrong_words()
-    check_docs(sys.argv[1:] == ["--write"])
-    print(f"charts of {len(paths)} transcripts have their {rows} rows")
+
+
+def test_docs():
+    check_docs(is_to_write=False)
 
 
 if __name__ == "__main__":
-    sys.exit(main())
+    program.prepare()
+    if sys.argv[1:] == ["--write"]:
+        check_docs(is_to_write=True)
+    sys.exit(checks.run(__file__))

@@ -19,6 +19,10 @@ import tempfile
 HAS_HYPOTHESIS = importlib.util.find_spec("hypothesis") is not None
 
 
+class NotLookedAt(Exception):
+    """Why a test didn't look, where pytest isn't installed."""
+
+
 def pytest_command():
     """The words that start pytest, or None where it isn't installed."""
     if importlib.util.find_spec("pytest"):
@@ -27,23 +31,36 @@ def pytest_command():
     return [found] if found else None
 
 
+def not_looked_at(why):
+    """Ends a test that can't look here: pytest calls it skipped and says why, and so does the plain run."""
+    try:
+        import pytest
+    except ImportError:
+        raise NotLookedAt(why) from None
+    pytest.skip(f"not looked at: {why}")
+
+
 def run(path):
     """Runs the tests of a file; the status to end with. REPORTS is a folder for pytest's report as JUnit's XML."""
     command, name = pytest_command(), pathlib.Path(path).stem
     if command is None:
         return run_plainly(path, name)
-    words = ["-q", "-p", "no:cacheprovider", "--rootdir", str(pathlib.Path(path).parent)]
+    words = ["-q", "-rs", "-p", "no:cacheprovider", "--rootdir", str(pathlib.Path(path).parent)]
     reports = os.environ.get("REPORTS")
     words += [f"--junit-xml={reports}/{name}.xml"] if reports else []
     return subprocess.run([*command, *words, str(path)], check=False, env={**os.environ, "PYTHONDONTWRITEBYTECODE": "1"}).returncode
 
 
 def run_plainly(path, name):
-    tests = {key: value for key, value in runpy.run_path(str(path)).items() if key.startswith("test_")}
-    for test in tests.values():
+    tests, passed = {key: value for key, value in runpy.run_path(str(path)).items() if key.startswith("test_")}, 0
+    for key, test in tests.items():
         with tempfile.TemporaryDirectory() as folder:
-            test(*[pathlib.Path(folder)] * ("tmp_path" in inspect.signature(test).parameters))
-    print(f"{name}: {len(tests)} tests passed; pytest isn't installed, so they were run plainly")
+            try:
+                test(*[pathlib.Path(folder)] * ("tmp_path" in inspect.signature(test).parameters))
+                passed += 1
+            except NotLookedAt as why:
+                print(f"{name}: {key} not looked at: {why}")
+    print(f"{name}: {passed} of {len(tests)} tests passed; pytest isn't installed, so they were run plainly")
     return 0
 
 

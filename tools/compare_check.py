@@ -9,7 +9,7 @@ import re
 import sys
 
 import checks
-import profile_reader
+import control_messages
 import stories
 import transcripts
 from captures_check import WRONG
@@ -49,20 +49,20 @@ def shifted(value):
     return [shifted(part) for part in value] if isinstance(value, list) else value
 
 
+def changed_at(octets, place):
+    return octets[:place] + bytes([(octets[place] + SHIFT) % 256]) + octets[place + 1 :]
+
+
 def with_other_teids(name, octets):
-    """The octets of a message with other TEIDs, of one octet each: each is looked for by a change of it that the reader sees."""
-    wanted, found = shifted(profile_reader.decode(name, octets)), bytearray(octets)
-    for place in range(len(found)):
-        before = teids(profile_reader.decode(name, bytes(found)))
-        changed = found[:place] + bytes([(found[place] + SHIFT) % 256]) + found[place + 1 :]
-        try:
-            after = teids(profile_reader.decode(name, bytes(changed)))
-        except (profile_reader.Malformed, ValueError):
-            continue
+    """The octets of a message with other TEIDs, of one octet each: those whose change the program reads as another TEID."""
+    value, found = control_messages.read(name, octets), octets
+    control_messages.read_all([(name, changed_at(octets, place)) for place in range(len(octets) if teids(value) else 0)])
+    for place in range(len(octets) if teids(value) else 0):
+        before, after = teids(value), teids(control_messages.read(name, changed_at(octets, place)) or {})
         if len(before) == len(after) and [late - early for early, late in zip(before, after) if late != early] == [SHIFT]:
-            found = changed
-    assert profile_reader.decode(name, bytes(found)) == wanted
-    return bytes(found)
+            found = changed_at(found, place)
+    assert control_messages.read(name, found) == shifted(value)
+    return found
 
 
 def teids(value):

@@ -1,22 +1,23 @@
 #!/usr/bin/env python3
 """Checks the dissector in tools/wireshark: that its table is what tools/to_lua.py makes of the profile's module, and, where tshark is installed, that it reads each message
-and each packet of the stories as tools/profile_reader.py and tools/packet_reader.py do, and that both find the same changed octets malformed.
+and each packet of the stories as the program (tools/control_messages.py) and tools/packet_reader.py do, and that what it finds malformed of changed octets the program refuses.
 
 Nothing here is a proof.
 
-Usage: tools/dissector_check.py [--seed S]
+Usage: tools/dissector_check.py
 """
 
-import argparse
 import random
 import re
 import sys
 
 import captures_check
 import checks
+import control_messages
 import endpoints
 import packet_reader
 import profile_reader
+import program
 import stories
 import to_lua
 import to_pcapng
@@ -29,7 +30,7 @@ SHOWN = ("message", "ue", "instance", "epoch", "teid", "bearer", "mode", "cause"
          "du", "bearers", "container")
 USER_PLANE = ("nrup.seq_num", "nrup.high_success_delivered_nr_pdcp_sn", "nrup.start_num_lost_nru_seq_num", "splitgnb.pdcp.sn", "splitgnb.pdcp.fmc", "splitgnb.packet",
               "splitgnb.ue", "splitgnb.bearer", "splitgnb.direction", "splitgnb.count", "splitgnb.event", "splitgnb.line", "splitgnb.injected")
-CHANGES = 300
+CHANGES, SEED = 300, 1
 
 
 def tshark(capture, *fields):
@@ -165,48 +166,63 @@ def changed(chance, octets):
 
 
 def check_changed(found, seed):
-    """Whether both readers call the same changed messages malformed."""
+    """Whether the program refuses each changed message that the dissector calls malformed, or finds no token in its container; how many those are, and how many the program refuses. It refuses more: it
+    has rules for which elements a message has, in which order, and how short a number is."""
     chance = random.Random(seed)
     controls = [(line, ends.kind) for _, line, ends, _ in found if ends.kind.is_control]
-    blocks, awaited = [to_pcapng.section_header(), *map(to_pcapng.interface, endpoints.KINDS)], []
+    blocks, changes = [to_pcapng.section_header(), *map(to_pcapng.interface, endpoints.KINDS)], []
     for number in range(CHANGES):
         line, kind = chance.choice(controls)
         octets = changed(chance, line.octets) or b"\0"
         blocks.append(to_pcapng.packet(kind, number, to_pcapng.datagram(line.sender, line.receiver, kind.port, octets), octets.hex()))
-        awaited.append((octets, kind, is_malformed(kind.stands, octets)))
+        changes.append((kind.stands, octets))
+    control_messages.read_all(changes)
     told = tshark(b"".join(blocks), "splitgnb.malformed", "_ws.lua.error")
-    for (malformed, error), (octets, kind, is_wrong) in zip(told, awaited, strict=True):
+    for (malformed, error), (name, octets) in zip(told, changes, strict=True):
         assert not error, f"{octets.hex()}: {error}"
-        assert (malformed != "") == is_wrong, f"{kind.stands} {octets.hex()}: the dissector says '{malformed}', and the reader {is_wrong}"
-    return sum(is_wrong for _, _, is_wrong in awaited)
+        assert not malformed or is_refused(name, octets), f"{name} {octets.hex()}: the dissector says '{malformed}', and the program reads it"
+    return sum(malformed != "" for malformed, _ in told), sum(is_refused(*change) for change in changes)
 
 
-def is_malformed(name, octets):
+def is_refused(name, octets):
     """Whether octets are no value of a type, or have a container without a token."""
-    try:
-        [elements] = profile_reader.decode(name, octets).values()
-    except (profile_reader.Malformed, ValueError):
+    value = control_messages.read(name, octets)
+    if value is None:
         return True
+    [elements] = value.values()
     carried = elements.get("container", {}) if isinstance(elements, dict) else {}
     return "octets" in carried and carried["octets"] != "" and "RrcToken" not in carried
 
 
-def main():
-    asked = argparse.ArgumentParser(description=__doc__, formatter_class=argparse.RawDescriptionHelpFormatter)
-    asked.add_argument("--seed", type=int, default=1)
-    given = asked.parse_args()
-    assert TABLE.read_text() == to_lua.table(), f"{TABLE} isn't what tools/to_lua.py writes"
-    if not checks.is_here("tshark", "tshark"):
-        print("the dissector's table is the profile's; not looked at: tshark isn't installed, and the dissector was not run")
-        return
+def items():
+    """Each message and packet that the stories put, and their capture."""
     paths = [path for path in stories.transcripts() if path.name != "window.out"]
     found = [(path, *entry) for path in paths for entry in endpoints.with_ends(transcripts.read_file(path)) if entry[0].kind == "put"]
-    capture = b"".join(to_pcapng.capture([entry for entry in endpoints.read_with_ends(path) if entry[0].kind == "put"], "put") for path in paths)
+    return found, b"".join(to_pcapng.capture([entry for entry in endpoints.read_with_ends(path) if entry[0].kind == "put"], "put") for path in paths)
+
+
+def test_table():
+    assert TABLE.read_text() == to_lua.table(), f"{TABLE} isn't what tools/to_lua.py writes"
+
+
+def test_stories():
+    look_with_tshark()
+    found, capture = items()
     check_messages(found, capture)
     check_items(found, capture)
-    wrong = check_changed(found, given.seed)
-    print(f"the dissector reads {len(found)} messages and packets as the readers do, and of {CHANGES} changed messages it finds the same {wrong} malformed")
+
+
+def test_changed():
+    look_with_tshark()
+    wrong, refused = check_changed(items()[0], SEED)
+    assert wrong * 2 > refused, f"of {CHANGES} changed messages the program refuses {refused}, and the dissector finds but {wrong} malformed"
+
+
+def look_with_tshark():
+    if not checks.is_here("tshark", "tshark"):
+        checks.not_looked_at("tshark isn't installed, and the dissector was not run")
 
 
 if __name__ == "__main__":
-    sys.exit(main())
+    program.prepare()
+    sys.exit(checks.run(__file__))

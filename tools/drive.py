@@ -179,6 +179,7 @@ class Drive:
     def see(self, printed):
         lines = [transcripts.Line(0, self.count, place, *transcripts.read_line(text)[:1], text, transcripts.read_line(text)[1]) for place, text in enumerate(printed)]
         lines[0].refused = len(lines) > 1 and lines[1].kind == "refused"
+        endpoints.read_messages(lines)
         for line in lines:
             self.network.see(line)
         self.held = [(what, pattern) for what, pattern in self.held if pattern is None or not any(map(pattern.matches, self.lines))]

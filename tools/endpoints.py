@@ -9,7 +9,7 @@ Nothing here is proved.
 
 import dataclasses
 
-import profile_reader
+import control_messages
 import transcripts
 from transcripts import Message, Radio, Tunnel, Wrong
 
@@ -65,11 +65,22 @@ def control_kind(line):
 
 def read_message(line, kind):
     """What a control message says: its name and its elements; none where its octets say nothing."""
-    try:
-        [(name, elements)] = profile_reader.decode(kind.stands, line.octets).items()
-    except (profile_reader.Malformed, ValueError):
+    value = control_messages.read(kind.stands, line.octets)
+    if value is None:
         return None, {}
+    [(name, elements)] = value.items()
     return name, elements if isinstance(elements, dict) else {}
+
+
+def read_messages(lines):
+    """Reads all control messages of lines at once, so that the program is called but a few times."""
+    control_messages.read_all([(kind.stands, line.octets) for line, kind in map(with_kind, lines) if kind])
+
+
+def with_kind(line):
+    """A line, and the interface of the control message that it puts or injects; None where it does neither."""
+    is_message = line.is_control and line.kind == "put" or line.kind == "event" and line.what == "inject" and "sender" in line.fields and not line.refused
+    return line, CONTROL_KINDS.get(frozenset((role(line.sender), role(line.receiver)))) if is_message else None
 
 
 def token_of(kind, name, elements):
@@ -194,7 +205,8 @@ def told_by(name, elements, receiver):
 
 def with_ends(lines):
     """Each line, where its item or message goes, also the octets of an `inject` (None for a line of another kind), and how many bits its terminal's sequence numbers have."""
-    known = Endpoints()
+    known, lines = Endpoints(), list(lines)
+    read_messages(lines)
     for line in lines:
         known.see(line)
         ends = known.ends(line) if line.kind in ("put", "got") else known.injected_ends(line) if line.kind == "event" and line.what == "inject" else None

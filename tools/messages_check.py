@@ -1,26 +1,30 @@
 #!/usr/bin/env python3
-"""Compares tools/profile_reader.py, by which the tools of docs/lab.md read control messages, with what `gnb decode` prints: of each control message of the examples, and of some with an
-octet changed that the program takes (the reader refuses less than the program, which tells the first wrong field).
+"""Checks tools/control_messages.py: what it says of messages of the worked rows, of each control message of the examples beside a search through its JSON, and of octets that are no message.
 
-Nothing here is a proof.
-
-Usage: tools/messages_check.py [--program COMMAND]
+Usage: tools/messages_check.py
 """
 
-import argparse
 import json
-import random
-import shlex
+import sys
 
+import checks
+import control_messages
 import endpoints
-import other_reading
-import profile_reader
+import program
 import stories
 import transcripts
 
-CHANGES = 60
-HEADER = "module builtin 2"
-NOT_A_VALUE = 8
+# worked by hand, after docs/definitions/messages.md and aper.md
+ROWS = [
+    ("F1AP-PDU", "000600150000030001000100000700040340000200634001AA",
+     {"ULRRCMessageTransfer": {"ue": 1, "container": {"octets": "400002", "RrcToken": {"reestablish": {"ue": 1, "epoch": 2}}}, "#99": {"criticality": "ignore", "raw": "AA"}}}),
+    ("F1AP-PDU", "000200250000060001000100000200020001000300020001000500030000020009000100000C000100",
+     {"UEContextSetupRequest": {"ue": 1, "instance": 1, "epoch": 1, "uplinks": [{"bearer": 1, "teid": 2}], "sn": "len12", "peer": {"gnb": "a", "up": 1}}}),
+    ("F1AP-PDU", "0006", None), ("F1AP-PDU", "000600150000030001000100000700040340000200634001AA00", None), ("RrcToken", "FF", None),
+    ("RrcToken", "400002", {"reestablish": {"ue": 1, "epoch": 2}}),
+    # a procedure that the profile doesn't have
+    ("F1AP-PDU", "006300020000", {"initiatingMessage of procedure 99": {"raw": "0000"}}),
+]
 
 
 def messages():
@@ -33,77 +37,36 @@ def messages():
     return list(found)
 
 
-def printed(command, name, listed):
-    """The status of `decode`, and the values that it prints of these octets."""
-    status, output = other_reading.answer(command, ["decode", name], "\n".join([HEADER, *(octets.hex() for octets in listed), ""]))
-    return status, [json.loads(line) for line in output.decode().splitlines() if line.startswith("{")]
+def test_by_hand():
+    for of_type, octets, value in ROWS:
+        assert control_messages.read(of_type, bytes.fromhex(octets)) == value, octets
 
 
-def by_names(name, value):
-    """A printed value as the reader tells it: of a message its name, and its elements by name."""
-    [(outcome, body)] = value.items()
-    form = profile_reader.profile()[name]
-    if form["form"] != "pdu" or outcome == "...":
-        return value
-    rows = [row for row in profile_reader.profile()[form["set"]]["rows"] if row["code"] == body["procedureCode"]]
-    message = rows[0]["messages"][profile_reader.OUTCOMES.index(outcome)] if rows else None
-    if message is None:
-        return {f"{outcome} of procedure {body['procedureCode']}": {"raw": body["raw"]}}
-    return {message: dict(named_element(element) for element in body["value"]["protocolIEs"])}
-
-
-def named_element(element):
-    if "raw" in element:
-        return f"#{element['id']}", {"criticality": element["criticality"], "raw": element["raw"]}
-    return profile_reader.ELEMENTS[element["id"]], element["value"]
-
-
-def without_tokens(value):
-    """What the reader tells, with a container as its octets alone."""
-    if isinstance(value, dict):
-        return value["octets"] if "octets" in value else {name: without_tokens(part) for name, part in value.items()}
-    return [without_tokens(part) for part in value] if isinstance(value, list) else value
-
-
-def check_same(name, octets, value):
-    ours, theirs = without_tokens(profile_reader.decode(name, octets)), by_names(name, value)
-    assert ours == theirs, f"{name} {octets.hex()}: the reader tells {ours}, and 'gnb decode' {theirs}"
-
-
-def check_examples(command, found):
-    for name in sorted({name for name, _ in found}):
-        listed = [octets for its, octets in found if its == name]
-        status, values = printed(command, name, listed)
-        assert status == 0 and len(values) == len(listed), f"'gnb decode {name}' ends with status {status} after {len(values)} of {len(listed)} messages of the examples"
-        for octets, value in zip(listed, values):
-            check_same(name, octets, value)
-
-
-def check_changed(command, found):
-    """Messages with an octet changed: how many of them the program takes."""
-    chance, taken = random.Random(1), 0
-    for _ in range(CHANGES):
-        name, octets = chance.choice(found)
-        place = chance.randrange(len(octets))
-        octets = octets[:place] + bytes([octets[place] ^ 1 << chance.randrange(8)]) + octets[place + 1 :]
-        status, values = printed(command, name, [octets])
-        assert status in (0, NOT_A_VALUE), f"'gnb decode {name}' of {octets.hex()} ends with status {status}"
-        if status == 0 and "..." not in json.dumps(values[0]):
-            check_same(name, octets, values[0])
-            taken += 1
-    return taken
-
-
-def main():
-    asked = argparse.ArgumentParser(description=__doc__, formatter_class=argparse.RawDescriptionHelpFormatter)
-    asked.add_argument("--program", help="a command in place of ./gnb")
-    given = asked.parse_args()
-    command = shlex.split(given.program) if given.program else other_reading.PROGRAM
+def test_examples():
+    """Each message of the examples is one; its elements are as many as the list in its JSON has, with the same values."""
     found = messages()
-    check_examples(command, found)
-    taken = check_changed(command, found)
-    print(f"'gnb decode' and the reader of the tools read {len(found)} messages of the examples alike, and {taken} changed ones")
+    assert len(found) > 100
+    for of_type in sorted({of_type for of_type, _ in found}):
+        listed = [octets for its, octets in found if its == of_type]
+        ran = program.call(["decode", of_type], "\n".join(["module builtin 2", *(octets.hex() for octets in listed), ""]).encode())
+        assert ran.returncode == 0
+        for octets, line in zip(listed, ran.stdout.decode().splitlines(), strict=True):
+            [(name, elements)] = control_messages.read(of_type, octets).items()
+            if of_type != "RrcToken":
+                [body] = json.loads(line).values()
+                values = [element["value"] for element in body["value"]["protocolIEs"]]
+                assert [part["octets"] if isinstance(part, dict) and "octets" in part else part for part in elements.values()] == values, (name, line)
+
+
+def test_without_a_program(tmp_path):
+    """A tool that has a control message to read says in one line that the program can't be run; one without messages needs no program."""
+    story = stories.EXAMPLES / "usual-day.out"
+    with checks.as_program(tmp_path, "import sys\nprint('gnb: no rt is in PATH', file=sys.stderr)\nsys.exit(1)\n"):
+        ran = stories.run_tool("to_chart", story)
+        assert (ran.returncode, ran.stdout, ran.stderr) == (2, "", f"to_chart: {story}: its control messages can't be read: no rt is in PATH\n"), ran
+        assert stories.run_tool("to_chart", stories.EXAMPLES / "lost-on-f1-u.out").returncode == 0
 
 
 if __name__ == "__main__":
-    main()
+    program.prepare()
+    sys.exit(checks.run(__file__))

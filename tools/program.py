@@ -1,12 +1,14 @@
-"""Calls the program for the tools: `./gnb` of this repository, or the command in the variable GNB_PROGRAM, as one that was built without proofs.
+"""Calls the program for the tools: the one that `./gnb` of this repository runs, or the command in the variable GNB_PROGRAM, as one that was built without proofs.
 
 Nothing here is proved.
 """
 
+import functools
 import os
 import pathlib
 import shlex
 import subprocess
+import sys
 
 TOP = pathlib.Path(__file__).resolve().parents[1]
 TIMED_OUT = 124
@@ -19,7 +21,21 @@ class NoProgram(Exception):
 def command():
     """The words that start the program."""
     given = os.environ.get("GNB_PROGRAM")
-    return shlex.split(given) if given else [str(TOP / "gnb")]
+    return shlex.split(given) if given else kept(TOP)
+
+
+@functools.cache
+def kept(top):
+    """The words that start the program of a repository. Where tools/kept_program.py is there, it is asked once for the program that `./gnb` runs, so that not every call looks at all sources;
+    what it says of that program, as that nothing of it is proved, is said once. NoProgram where there is none."""
+    tool = top / "tools/kept_program.py"
+    if not tool.exists():
+        return [str(top / "gnb")]
+    ran = subprocess.run([sys.executable, tool], stdin=subprocess.DEVNULL, capture_output=True, text=True, check=False)
+    if ran.returncode or not ran.stdout.strip():
+        raise NoProgram((ran.stderr.strip().splitlines() or [f"{tool}: status {ran.returncode}"])[-1])
+    sys.stderr.write(ran.stderr)
+    return [ran.stdout.strip()]
 
 
 def call(words, given=b"", seconds=None):

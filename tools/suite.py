@@ -176,13 +176,16 @@ def judged_remarks(path, events, printed):
                 rest = rest[places[0] + 1 :]
             elif must_come or places:
                 came = f"not '{pattern.text}'" if must_come else f"'{lines[places[0]]}', which must not come"
-                problems.append(f"{path}:{number}: '{event.text}' prints {came}; it prints {listed(lines)}")
+                problems.append(f"{path}:{number}: '{event.text}' prints {came}; it prints {listed(lines, pattern.text)}")
     return problems
 
 
-def listed(lines):
-    shown = ", ".join(f"'{transcripts.shortened(line)}'" for line in lines[:SHOWN])
-    return (shown or "nothing") + (f" and {len(lines) - SHOWN} more lines" if len(lines) > SHOWN else "")
+def listed(lines, awaited):
+    """Some lines: those of the awaited kind, or else the first ones; and how many others there are."""
+    near = [line for line in lines if line.split(" ")[0] == awaited.split(" ")[0]] or lines
+    shown = [f"'{transcripts.shortened(line)}'" for line in near[:SHOWN]]
+    others = len(lines) - len(shown)
+    return (", ".join(shown) or "nothing") + (f" and {others} other line{'s' * (others > 1)}" if others else "")
 
 
 def first_difference(path, stored, printed, lines):

@@ -10,6 +10,7 @@ import sys
 import xml.etree.ElementTree as ElementTree
 
 import checks
+import program
 import stories
 import suite
 
@@ -44,15 +45,15 @@ CASES = {
     "small.script": (HEAD + "tick\n;> > tick\n;> deliver u1 b1 dl 0 4F\n;= deliver u1 b1 dl 0 4f\n;> end 1\n", "pass", ""),
     "number.script": (HEAD + "tick\n;> > tick\n;> got #12 A.cp A.du1 u1 00\n;= got #? A.cp A.du? u1 *\n;> end 1\n", "pass", ""),
     "star-no-octets.script": (HEAD + "tick\n;= deliver u1 b1 dl 0 *\n;> > tick\n;> deliver u1 b1 dl 0 4\n;> end 1\n", "fail",
-                              ":3: 'tick' prints not 'deliver u1 b1 dl 0 *'; it prints 'deliver u1 b1 dl 0 4', 'end 1'"),
+                              ":3: 'tick' prints not 'deliver u1 b1 dl 0 *'; it prints 'deliver u1 b1 dl 0 4' and 1 other line"),
     "absent.script": (HEAD + "tick\n;> > tick\n;= settled 3\n;> end 1\n", "fail", ":4: 'tick' prints not 'settled 3'; it prints 'end 1'"),
     "forbidden.script": (HEAD + "tick\n;> > tick\n;> refused Empty\n;! refused ?\n;> end 1\n", "fail",
-                         ":5: 'tick' prints 'refused Empty', which must not come; it prints 'refused Empty', 'end 1'"),
+                         ":5: 'tick' prints 'refused Empty', which must not come; it prints 'refused Empty' and 1 other line"),
     "not-forbidden.script": (HEAD + "tick\n;! refused ?\nask u1 b1\n;> > tick\n;> > ask u1 b1\n;> refused Empty\n;= refused Empty\n;> end 2\n", "pass", ""),
     "order.script": (HEAD + "tick\n;> > tick\n;> settled 1\n;> busy u1 b1\n;= busy u1 b1\n;= settled 1\n;> end 1\n", "fail",
-                     ":7: 'tick' prints not 'settled 1'; it prints 'settled 1', 'busy u1 b1', 'end 1'"),
+                     ":7: 'tick' prints not 'settled 1'; it prints 'settled 1' and 2 other lines"),
     "twice.script": (HEAD + "tick\n;> > tick\n;> busy u1 b1\n;= busy u1 b1\n;= busy u1 b1\n;> end 1\n", "fail",
-                     ":6: 'tick' prints not 'busy u1 b1'; it prints 'busy u1 b1', 'end 1'"),
+                     ":6: 'tick' prints not 'busy u1 b1'; it prints 'busy u1 b1' and 1 other line"),
     "stop.script": (HEAD + "tick\ntock\n;= stop 4 3 1\n;> > tick\n;> stop 4 3 1\n;status 4\n;error gnb: a word\n", "pass", ""),
     "no-stop.script": (HEAD + "tick\n;= stop 4 3 1\ntock\n;> > tick\n;> stop 4 4 1\n;status 4\n;error gnb: a word\n", "fail",
                        ":3: 'tick' prints not 'stop 4 3 1'; it prints nothing"),
@@ -147,6 +148,20 @@ def test_without_a_program(tmp_path):
     with checks.as_program(tmp_path, "import sys\nprint('gnb: no rt in PATH', file=sys.stderr)\nsys.exit(1)\n"):
         ran = stories.run_tool("suite", tmp_path)
     assert (ran.returncode, ran.stderr) == (2, f"suite: {sys.executable}: status 1, gnb: no rt in PATH\n"), ran
+
+
+def test_the_kept_program(tmp_path):
+    """The program that `./gnb` runs is asked for once, by the tool that knows it; why there is none is said."""
+    write(tmp_path / "tools", {"kept_program.py": "print('/kept/gnb')\n"})
+    assert program.kept(tmp_path) == ["/kept/gnb"] and program.kept(tmp_path / "none") == [str(tmp_path / "none/gnb")]
+    write(tmp_path / "other", {})
+    write(tmp_path / "other/tools", {"kept_program.py": "import sys\nprint('gnb: no rt is in PATH', file=sys.stderr)\nsys.exit(1)\n"})
+    try:
+        program.kept(tmp_path / "other")
+    except program.NoProgram as wrong:
+        assert str(wrong) == "gnb: no rt is in PATH"
+    else:
+        raise AssertionError("a program is told of where there is none")
 
 
 def test_usage():
