@@ -8,7 +8,6 @@ ghost use Rattle.gnb_types.specs.declared.names.SnBits.{SnBits};
 ghost use Rattle.gnb_types.specs.declared.names.UeId.{UeId};
 ghost use Rattle.gnb_types.specs.declared.plans.SnStatus.{SnStatus};
 ghost use Rattle.law_terminals_are_isolated.specs.own_steps.Own.{IsActed};
-ghost use Rattle.proof_bearer_refinement.specs.tied_runs.Steps.{IsPassed};
 ghost use Rattle.proof_cu_up_orders.specs.context_orders.Orders.{UpOrder, UpPart};
 ghost use Rattle.law_handover_delivers.specs.down_report_frames.Sent.{FramesAreTrue, OrderIsTrue};
 ghost use Rattle.law_handover_delivers.specs.down_report_frames.Statuses.{AllOweStatus, BitsAreTrue, UpCameAbout};
@@ -21,6 +20,7 @@ ghost use Rattle.proof_bearer_refinement.specs.run_bearers.Bearers.{contexts_of,
 ghost use Rattle.proof_bearer_refinement.specs.law_run_units.Happenings.{UpRecord};
 ghost use Rattle.proof_bearer_refinement.specs.tie_facts.Asked.{AreTied, IsUpStep, RunCause};
 ghost use Rattle.proof_bearer_refinement.specs.tie_facts.Ties.{RunState};
+ghost use Rattle.proof_bearer_refinement.specs.tied_runs.Fair.{IsFair};
 ghost use Rattle.proof_cu_up_orders.specs.orders.Up.{IsUp};
 ghost use Rattle.bearer_defs.specs.uplink_defs.Guards.{AreKept};
 ghost use Rattle.bearer_defs.specs.uplink_defs.Orders.{knows, switches};
@@ -75,7 +75,7 @@ pub fn a_cu_up_keeps_reports_true()
         (input : Input Token Pdu) (outputs : List (Output (Message Token) Pdu)) (v : UpRecord)
         (beside : Beside) (d : down_parts.Part) (u : Part)
         → IsUpStep reading s t gnb number cause input outputs v
-        → IsPassed reading s → IsPassed reading t
+        → IsFair s → IsFair t
         → IsActed (plain_world reading) event s cause (map (written_put (sn_of s)) outputs)
         (with_up s.units gnb number v)
         → AreTied n ue bearer sn quota s d u

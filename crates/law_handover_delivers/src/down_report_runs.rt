@@ -9,18 +9,19 @@ ghost use Rattle.gnb_types.specs.declared.names.SnBits.{SnBits};
 ghost use Rattle.gnb_types.specs.declared.names.UeId.{UeId};
 ghost use Rattle.law_handover_delivers.specs.down_report_frames.Statuses.{UpCameAbout};
 ghost use Rattle.law_handover_delivers.specs.down_report_runs.Steps.{OwesStatuses, ReportsDownAreTrueAt, Step, Steps};
-ghost use Rattle.law_handover_delivers.specs.fresh_uplinks.Later.{Comes};
 ghost use Rattle.law_handover_delivers.specs.first_runs.First.{DeliverInOrder};
 ghost use Rattle.proof_bearer_refinement.specs.first_ties.First.{start};
-ghost use Rattle.proof_bearer_refinement.specs.tied_runs.Steps.{IsPassed, Point};
+ghost use Rattle.proof_bearer_refinement.specs.tied_runs.Steps.{Point};
 ghost use Rattle.proof_bearer_refinement.specs.put_ties.Worked.{bearer, terminal};
 ghost use Rattle.proof_bearer_refinement.specs.run_bearers.Bearers.{Numbering};
+ghost use Rattle.proof_bearer_refinement.specs.tied_runs.Fair.{IsFair};
 ghost use Rattle.law_handover_delivers.specs.owed_runs.Owing.{NoneIsZero};
 ghost use Rattle.law_handover_delivers.specs.whole_runs.Whole as whole;
 ghost use Rattle.law_handover_delivers.specs.whole_runs.Whole.{IsWhole};
 ghost use Rattle.run_defs.specs.Runs.{Reading};
 ghost use Rattle.std.specs.Prelude.{ℕ};
 ghost use Rattle.unit_defs.specs.UpRecords.{Downlink};
+ghost use Rattle.proof_run_steps.specs.teids.Given.{GiveOnce};
 
 /// In a state in which all is so that laws of runs carry (`IsWhole`), where the uplink's part came about by orders that asked what they do,
 /// and each status report that stands on a DU's tunnel of the bearer, or on its terminal's radio down, reports only what was carried up: both
@@ -28,7 +29,7 @@ ghost use Rattle.unit_defs.specs.UpRecords.{Downlink};
 pub fn each_step_keeps_reports_true()
     ensures { (reading : Reading) (n : Numbering) (ue : UeId) (bearer : BearerId) (sn : SnBits)
         (quota : ℕ) (p q : Point) → NoneIsZero n
-        → IsPassed reading p.state → IsPassed reading q.state → Comes reading p.state q.state
+        → IsFair p.state → IsFair q.state → GiveOnce p.state.units q.state.units
         → IsWhole reading n ue bearer sn quota p → UpCameAbout p.up
         → ReportsDownAreTrueAt reading n ue bearer sn quota p
         → (step : whole.Step reading n ue bearer sn quota p q)
@@ -40,7 +41,7 @@ pub fn each_step_keeps_reports_true()
 pub fn nothing_is_owed_of_reports()
     ensures { (reading : Reading) (n : Numbering) (ue : UeId) (bearer : BearerId) (sn : SnBits)
         (quota : ℕ) (p q : Point) → NoneIsZero n
-        → IsPassed reading p.state → IsPassed reading q.state → Comes reading p.state q.state
+        → IsFair p.state → IsFair q.state → GiveOnce p.state.units q.state.units
         → IsWhole reading n ue bearer sn quota p → UpCameAbout p.up
         → ReportsDownAreTrueAt reading n ue bearer sn quota p
         → Step reading n ue bearer sn quota p q

@@ -12,11 +12,11 @@ ghost use Rattle.law_terminals_are_isolated.specs.own_steps.Own.{IsActed};
 ghost use Rattle.proof_bearer_refinement.specs.put_ties.Puts.{IsDuStep};
 ghost use Rattle.proof_bearer_refinement.specs.radio_ties.Radio.{RunCause, RunState};
 ghost use Rattle.proof_bearer_refinement.specs.law_run_units.Happenings.{DuRecord};
-ghost use Rattle.proof_bearer_refinement.specs.tied_runs.Steps.{IsPassed};
 ghost use Rattle.law_handover_delivers.specs.down_report_ties.Nodes.{PutsNoReport};
 ghost use Rattle.law_handover_delivers.specs.down_report_ties.Owed.{OwedArrivals, OwedBesides, OwedReport};
 ghost use Rattle.law_handover_delivers.specs.down_reports.Reports.{ReportsDownAreTrue, RunPut};
 ghost use Rattle.proof_bearer_refinement.specs.radio_downs.Heard.{OwedHeard, OwedRest};
+ghost use Rattle.proof_bearer_refinement.specs.tied_runs.Fair.{IsFair};
 ghost use Rattle.proof_run_steps.specs.steps.Causes.{count_of, first_of, given_of, node_of, Stands};
 ghost use Rattle.proof_node_orders.specs.terminal_inputs.Inputs.{Parts};
 ghost use Rattle.message_types.specs.declared.rrc.Token.{Token};
@@ -34,14 +34,14 @@ ghost use Rattle.unit_defs.specs.Core.{CorePath, CoreRecord};
 ghost use Rattle.unit_defs.specs.Ue.{UeNode};
 ghost use Rattle.unit_defs.specs.Ways.{Input, Message, Output, Pdu};
 
-/// In each state that a run from the first one passes, within events too: where each status report that stands on the tunnels of a bearer, in
-/// a frame, or on its terminal's radio down reports only what was carried up, it does so after each step of a CU-CP or of a terminal, this one
-/// or another: these put no report for a terminal.
+/// In each fair state, such as a run passes: where each status report that stands on the tunnels of a bearer, in a frame, or on its
+/// terminal's radio down reports only what was carried up, it does so after each step of a CU-CP or of a terminal, this one or another:
+/// these put no report for a terminal.
 pub fn units_that_put_no_report_keep_them_true()
     ensures { (reading : Reading) (ue : UeId) (bearer : BearerId) (reached : ℕ) (s t : RunState)
         (event : Event) (cause : RunCause) (outputs : List RunPut) (units : Units (Message Token) Token)
         (lines : List (RunLine (Message Token)))
-        → IsPassed reading s → IsActed (plain_world reading) event s cause outputs units
+        → IsFair s → IsActed (plain_world reading) event s cause outputs units
         → PutsNoReport (node_of cause)
         → carried_out (plain_world reading) (node_of cause) (count_of cause)
         (first_of (plain_world reading) cause) outputs units s ≡ goes lines t
@@ -54,7 +54,7 @@ pub fn a_du_keeps_reports_true()
     ensures { (reading : Reading) (event : Event) (s t : RunState) (ue : UeId) (bearer : BearerId)
         (reached : ℕ) (gnb : Gnb) (number : ℕ) (cause : RunCause) (input : Input Token Pdu)
         (outputs : List (Output (Message Token) Pdu)) (left : DuRecord)
-        → IsPassed reading s
+        → IsFair s
         → IsActed (plain_world reading) event s cause (map (written_put (sn_of s)) outputs)
         (with_du s.units gnb number left)
         → IsDuStep reading s t gnb number cause input outputs left
@@ -65,7 +65,7 @@ pub fn a_du_keeps_reports_true()
 pub fn the_core_keeps_reports_true()
     ensures messages { (reading : Reading) (s t : RunState) (ue : UeId) (bearer : BearerId) (reached : ℕ)
         (number : ℕ) (l : Letter (Message Token)) (outputs : List (Output (Message Token) Pdu))
-        (core : CoreRecord (Message Token) Token) → IsPassed reading s
+        (core : CoreRecord (Message Token) Token) → IsFair s
         → IsCoreStep reading s t number l outputs core
         → ReportsDownAreTrue ue bearer reached s → ReportsDownAreTrue ue bearer reached t }
     ensures offers { (reading : Reading) (s t : RunState) (ue : UeId) (bearer : BearerId) (reached : ℕ)
@@ -94,7 +94,7 @@ pub fn all_else_keeps_reports_true()
 pub fn a_report_that_is_taken_is_true()
     ensures taken { (reading : Reading) (event : Event) (s : RunState) (ue : UeId) (bearer : BearerId)
         (u : UeNode) (b : Parts) (cause : RunCause) (input : Input Token Pdu)
-        → IsPassed reading s → node_of cause ≡ Ue ue.0
+        → IsFair s → node_of cause ≡ Ue ue.0
         → input_of reading (given_of cause) ≡ Some input → Stands event s cause
         → ReportsDownAreTrue ue bearer b.up.reached s → OwedReport u b bearer input }
     ensures rest { (u : UeNode) (b : Parts) (bearer : BearerId) (to : Option ℕ) (input : Input Token Pdu)

@@ -7,26 +7,28 @@ ghost use Rattle.gnb_types.specs.declared.names.SnBits.{SnBits};
 ghost use Rattle.gnb_types.specs.declared.names.UeId.{UeId};
 ghost use Rattle.law_handover_delivers.specs.first_runs.First.{AreFirst, DeliverInOrder};
 ghost use Rattle.proof_bearer_refinement.specs.first_ties.First.{start};
-ghost use Rattle.law_handover_delivers.specs.fresh_uplinks.Later.{AreFresh, Comes, Step, Steps};
+ghost use Rattle.law_handover_delivers.specs.fresh_uplinks.Later.{AreFresh, Step, Steps};
 ghost use Rattle.proof_bearer_refinement.specs.tie_facts.Ties.{RunState};
 ghost use Rattle.bearer_defs.specs.uplink_defs.Parts as up_parts;
 ghost use Rattle.proof_bearer_refinement.specs.run_bearers.Bearers.{Numbering};
 ghost use Rattle.proof_bearer_refinement.specs.tied_runs.Steps as tied;
-ghost use Rattle.proof_bearer_refinement.specs.tied_runs.Steps.{IsPassed, IsTied, Point};
+ghost use Rattle.proof_bearer_refinement.specs.tied_runs.Steps.{IsTied, Point};
 ghost use Rattle.proof_bearer_refinement.specs.put_ties.Worked.{bearer, terminal};
+ghost use Rattle.proof_bearer_refinement.specs.tied_runs.Fair.{IsFair};
 ghost use Rattle.run_defs.specs.Runs.{Reading};
 ghost use Rattle.std.specs.Prelude.{◌≡◌, ℕ};
 ghost use Rattle.unit_defs.specs.UpRecords.{Downlink};
+ghost use Rattle.proof_run_steps.specs.teids.Given.{GiveOnce};
 
-/// A bearer's parts at their start have nothing on uplinks. And where in a state that a run passes the part has nothing on uplinks whose
-/// TEIDs were not given yet, a step to a later state of the run is one that `proof_bearer_refinement::tied_runs` takes, and it is so then: each TEID is given
-/// once, a CU-UP puts nothing on its uplinks, and a DU puts on open ones.
+/// A bearer's parts at their start have nothing on uplinks. And where in a fair state the part has nothing on uplinks whose TEIDs were not
+/// given yet, a step to a later state of the run is one that `proof_bearer_refinement::tied_runs` takes, and it is so then: each TEID is
+/// given once, a CU-UP puts nothing on its uplinks, and a DU puts on open ones.
 pub fn each_step_keeps_uplinks_fresh()
     ensures first { (n : Numbering) (s : RunState) (u : up_parts.Part) (first teid : ℕ)
         → u ≡ up_parts.start first teid → AreFresh n s u }
     ensures goes_on { (reading : Reading) (n : Numbering) (ue : UeId) (bearer : BearerId) (sn : SnBits)
         (quota : ℕ) (p q : Point)
-        → IsPassed reading p.state → IsPassed reading q.state → Comes reading p.state q.state
+        → IsFair p.state → IsFair q.state → GiveOnce p.state.units q.state.units
         → IsTied reading n ue bearer sn quota p → AreFresh n p.state p.up
         → Step reading n ue bearer sn quota p q
         → tied.Step reading n ue bearer sn quota p q × AreFresh n q.state q.up }

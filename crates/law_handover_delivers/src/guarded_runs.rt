@@ -13,7 +13,6 @@ ghost use Rattle.gnb_types.specs.declared.names.SnBits.{SnBits};
 ghost use Rattle.gnb_types.specs.declared.names.UeId.{UeId};
 ghost use Rattle.law_handover_delivers.specs.first_runs.First.{AreFirst, DeliverInOrder};
 ghost use Rattle.proof_bearer_refinement.specs.first_ties.First.{first, start};
-ghost use Rattle.law_handover_delivers.specs.fresh_uplinks.Later.{Comes};
 ghost use Rattle.law_handover_delivers.specs.owed_orders.Steady.{IsOld};
 ghost use Rattle.law_handover_delivers.specs.owed_runs.Owing.{NoneIsZero};
 ghost use Rattle.law_handover_delivers.specs.path_ties.Paths.{LeadsAt};
@@ -21,7 +20,8 @@ ghost use Rattle.proof_bearer_refinement.specs.put_ties.Worked.{bearer, terminal
 ghost use Rattle.proof_bearer_refinement.specs.radio_ties.Radio.{IsAtTerminal};
 ghost use Rattle.law_handover_delivers.specs.report_runs.Steps.{IsKnownAt, ReportsAreTrueAt};
 ghost use Rattle.proof_bearer_refinement.specs.run_bearers.Bearers.{Numbering};
-ghost use Rattle.proof_bearer_refinement.specs.tied_runs.Steps.{IsPassed, IsTied, Point};
+ghost use Rattle.proof_bearer_refinement.specs.tied_runs.Steps.{IsTied, Point};
+ghost use Rattle.proof_bearer_refinement.specs.tied_runs.Fair.{IsFair};
 ghost use Rattle.gnb_types.specs.declared.names.Gnb.TheVariants.{A};
 ghost use Rattle.gnb_types.specs.declared.names.NodeId.TheVariants.{Du};
 ghost use Rattle.message_types.specs.declared.rrc.Token.{Token};
@@ -35,12 +35,47 @@ ghost use Rattle.law_handover_delivers.specs.whole_runs.Whole.{both};
 ghost use Rattle.run_defs.specs.Runs.{Reading};
 ghost use Rattle.std.specs.Prelude.{ℕ};
 ghost use Rattle.unit_defs.specs.UpRecords.{Downlink};
+ghost use Rattle.proof_run_steps.specs.teids.Given.{GiveOnce};
+ghost use Rattle.law_handover_delivers.specs.guarded_runs.Passed.{PassedSteps};
+ghost use Rattle.law_handover_delivers.specs.fresh_uplinks.Later as later;
+ghost use Rattle.law_handover_delivers.specs.owed_runs.Owing as owed;
+ghost use Rattle.law_handover_delivers.specs.path_ties.Paths as paths;
+ghost use Rattle.law_handover_delivers.specs.report_runs.Steps as reports;
+ghost use Rattle.law_handover_delivers.specs.down_report_runs.Steps as down_reports;
+ghost use Rattle.law_handover_delivers.specs.guarded_runs.Runs as guarded;
+
+/// All laws of this crate speak of steps between fair states, of which each has all TEIDs that the one before gave. Steps of a run are such
+/// steps: over states that runs from the first one pass, within events too, each of which comes from the one before (`PassedSteps`), so
+/// much of each module's steps is so.
+pub fn steps_of_a_run_are_fair()
+    ensures fresh { (reading : Reading) (n : Numbering) (ue : UeId) (bearer : BearerId) (sn : SnBits)
+        (quota : ℕ) (p q : Point) → PassedSteps reading (later.Step reading n ue bearer sn quota) p q
+        → later.Steps reading n ue bearer sn quota p q }
+    ensures owed { (reading : Reading) (n : Numbering) (ue : UeId) (bearer : BearerId) (sn : SnBits)
+        (quota : ℕ) (p q : Point) → PassedSteps reading (owed.Step reading n ue bearer sn quota) p q
+        → owed.Steps reading n ue bearer sn quota p q }
+    ensures paths { (reading : Reading) (n : Numbering) (ue : UeId) (bearer : BearerId) (sn : SnBits)
+        (quota : ℕ) (p q : Point) → PassedSteps reading (paths.Step reading n ue bearer sn quota) p q
+        → paths.Steps reading n ue bearer sn quota p q }
+    ensures reports { (reading : Reading) (n : Numbering) (ue : UeId) (bearer : BearerId) (sn : SnBits)
+        (quota : ℕ) (p q : Point) → PassedSteps reading (reports.Step reading n ue bearer sn quota) p q
+        → reports.Steps reading n ue bearer sn quota p q }
+    ensures whole { (reading : Reading) (n : Numbering) (ue : UeId) (bearer : BearerId) (sn : SnBits)
+        (quota : ℕ) (p q : Point) → PassedSteps reading (whole.Step reading n ue bearer sn quota) p q
+        → whole.Steps reading n ue bearer sn quota p q }
+    ensures down_reports { (reading : Reading) (n : Numbering) (ue : UeId) (bearer : BearerId) (sn : SnBits)
+        (quota : ℕ) (p q : Point) → PassedSteps reading (down_reports.Step reading n ue bearer sn quota) p q
+        → down_reports.Steps reading n ue bearer sn quota p q }
+    ensures guarded { (reading : Reading) (n : Numbering) (ue : UeId) (bearer : BearerId) (sn : SnBits)
+        (quota : ℕ) (p q : Point) → PassedSteps reading (guarded.Step reading n ue bearer sn quota) p q
+        → guarded.Steps reading n ue bearer sn quota p q }
+{}
 
 /// Where all is so that laws of runs carry (`IsCarried`), each step is one of `whole_runs`, and all is so then.
 pub fn each_step_keeps_all()
     ensures { (reading : Reading) (n : Numbering) (ue : UeId) (bearer : BearerId) (sn : SnBits)
         (quota : ℕ) (p q : Point) → NoneIsZero n
-        → IsPassed reading p.state → IsPassed reading q.state → Comes reading p.state q.state
+        → IsFair p.state → IsFair q.state → GiveOnce p.state.units q.state.units
         → IsCarried reading n ue bearer sn quota p → Step reading n ue bearer sn quota p q
         → whole.Step reading n ue bearer sn quota p q × IsCarried reading n ue bearer sn quota q }
 {}

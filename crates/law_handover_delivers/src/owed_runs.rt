@@ -8,15 +8,17 @@ ghost use Rattle.gnb_types.specs.declared.names.UeId.{UeId};
 ghost use Rattle.law_handover_delivers.specs.first_runs.First.{AreFirst, DeliverInOrder};
 ghost use Rattle.proof_bearer_refinement.specs.first_ties.First.{start};
 ghost use Rattle.law_handover_delivers.specs.fresh_uplinks.Later as later;
-ghost use Rattle.law_handover_delivers.specs.fresh_uplinks.Later.{AreFresh, Comes};
+ghost use Rattle.law_handover_delivers.specs.fresh_uplinks.Later.{AreFresh};
 ghost use Rattle.law_handover_delivers.specs.owed_orders.Steady.{IsOld};
 ghost use Rattle.law_handover_delivers.specs.owed_runs.Owing.{IsSteadyAt, NoneIsZero, Step, Steps};
 ghost use Rattle.proof_bearer_refinement.specs.run_bearers.Bearers.{Numbering};
-ghost use Rattle.proof_bearer_refinement.specs.tied_runs.Steps.{IsPassed, IsTied, Point};
+ghost use Rattle.proof_bearer_refinement.specs.tied_runs.Steps.{IsTied, Point};
 ghost use Rattle.proof_bearer_refinement.specs.put_ties.Worked.{bearer, terminal};
+ghost use Rattle.proof_bearer_refinement.specs.tied_runs.Fair.{IsFair};
 ghost use Rattle.run_defs.specs.Runs.{Reading};
 ghost use Rattle.std.specs.Prelude.{ℕ};
 ghost use Rattle.unit_defs.specs.UpRecords.{Downlink};
+ghost use Rattle.proof_run_steps.specs.teids.Given.{GiveOnce};
 
 /// Where the bearer's contexts are steady, a step to a later state of the run, of which of a CU-UP's orders only what is owed is asked, is
 /// one that `fresh_uplinks` takes, and they are steady then: a hop, once a freeze gave it, leads to the same other context, by the same
@@ -24,7 +26,7 @@ ghost use Rattle.unit_defs.specs.UpRecords.{Downlink};
 pub fn each_step_keeps_contexts_steady()
     ensures { (reading : Reading) (n : Numbering) (ue : UeId) (bearer : BearerId) (sn : SnBits)
         (quota : ℕ) (p q : Point) → NoneIsZero n
-        → IsPassed reading p.state → IsPassed reading q.state → Comes reading p.state q.state
+        → IsFair p.state → IsFair q.state → GiveOnce p.state.units q.state.units
         → IsTied reading n ue bearer sn quota p → IsSteadyAt reading n ue bearer sn quota p
         → Step reading n ue bearer sn quota p q
         → later.Step reading n ue bearer sn quota p q × IsSteadyAt reading n ue bearer sn quota q }

@@ -11,7 +11,7 @@ ghost use Rattle.gnb_types.specs.declared.names.UeId.{UeId};
 ghost use Rattle.gnb_types.specs.declared.plans.Plan.{Plan};
 ghost use Rattle.law_handover_delivers.specs.first_runs.First.{AreFirst, DeliverInOrder};
 ghost use Rattle.proof_bearer_refinement.specs.first_ties.First.{start};
-ghost use Rattle.law_handover_delivers.specs.fresh_uplinks.Later.{AreFresh, Comes};
+ghost use Rattle.law_handover_delivers.specs.fresh_uplinks.Later.{AreFresh};
 ghost use Rattle.law_handover_delivers.specs.owed_orders.Steady.{IsOld};
 ghost use Rattle.law_handover_delivers.specs.owed_runs.Owing as owed;
 ghost use Rattle.law_handover_delivers.specs.owed_runs.Owing.{IsSteadyAt, NoneIsZero};
@@ -23,9 +23,11 @@ ghost use Rattle.proof_bearer_refinement.specs.tie_facts.Ties.{RunItem, RunState
 ghost use Rattle.proof_bearer_refinement.specs.run_bearers.Bearers.{Numbering};
 ghost use Rattle.proof_bearer_refinement.specs.run_bearers.Things.{PlainUnits};
 ghost use Rattle.proof_run_steps.specs.steps.Reached.{reached};
-ghost use Rattle.proof_bearer_refinement.specs.tied_runs.Steps.{IsPassed, IsTied, Point};
+ghost use Rattle.proof_run_steps.specs.teids.Given.{GiveOnce};
+ghost use Rattle.proof_bearer_refinement.specs.tied_runs.Steps.{IsTied, Point};
 ghost use Rattle.proof_bearer_refinement.specs.core_ties.Worked.{switched_run};
 ghost use Rattle.proof_bearer_refinement.specs.put_ties.Worked.{bearer, terminal};
+ghost use Rattle.proof_bearer_refinement.specs.tied_runs.Fair.{IsFair};
 ghost use Rattle.message_types.specs.declared.rrc.Token.{Token};
 ghost use Rattle.run_defs.specs.Conditions.{statically};
 ghost use Rattle.run_defs.specs.Lines.{RunLine};
@@ -70,7 +72,7 @@ pub fn all_else_leaves_the_path()
 pub fn each_step_keeps_the_path()
     ensures { (reading : Reading) (n : Numbering) (ue : UeId) (bearer : BearerId) (sn : SnBits)
         (quota : ℕ) (p q : Point) → NoneIsZero n
-        → IsPassed reading p.state → IsPassed reading q.state → Comes reading p.state q.state
+        → IsFair p.state → IsFair q.state → GiveOnce p.state.units q.state.units
         → IsTied reading n ue bearer sn quota p → AreFresh n p.state p.up
         → IsSteadyAt reading n ue bearer sn quota p → CameAbout sn quota p.down
         → LeadsAt reading n ue bearer sn quota p → Step reading n ue bearer sn quota p q

@@ -17,13 +17,14 @@ ghost use Rattle.law_handover_delivers.specs.owed_runs.Owing.{IsSteadyAt, NoneIs
 ghost use Rattle.law_handover_delivers.specs.fresh_uplinks.Later.{AreFresh};
 ghost use Rattle.law_handover_delivers.specs.first_runs.First.{AreFirst, DeliverInOrder};
 ghost use Rattle.proof_bearer_refinement.specs.first_ties.First.{start};
-ghost use Rattle.proof_bearer_refinement.specs.tied_runs.Steps.{IsPassed, IsTied, Point};
+ghost use Rattle.proof_bearer_refinement.specs.tied_runs.Steps.{IsTied, Point};
 ghost use Rattle.proof_bearer_refinement.specs.put_ties.Worked.{bearer, terminal};
 ghost use Rattle.law_handover_delivers.specs.owed_orders.Steady.{IsOld};
 ghost use Rattle.law_handover_delivers.specs.path_ties.Paths as path;
 ghost use Rattle.law_handover_delivers.specs.path_ties.Paths.{CameAbout, LeadsAt};
 ghost use Rattle.proof_bearer_refinement.specs.radio_ties.Radio.{RunState};
 ghost use Rattle.proof_bearer_refinement.specs.run_bearers.Bearers.{Numbering};
+ghost use Rattle.proof_bearer_refinement.specs.tied_runs.Fair.{IsFair};
 ghost use Rattle.law_handover_delivers.specs.report_links.Reports.{ReportsAreTrue};
 ghost use Rattle.law_handover_delivers.specs.report_runs.Steps.{CoreReads, IsKnownAt, ReportsAreTrueAt, OtherActs, Step, Steps};
 ghost use Rattle.run_defs.specs.Conditions.{statically};
@@ -32,14 +33,14 @@ ghost use Rattle.std.specs.Prelude.{ℕ};
 ghost use Rattle.unit_defs.specs.UpRecords.{Downlink};
 
 /// Where all that stands on a bearer's tunnels and on its radio up reports only what its terminal received, it does so where a terminal is
-/// set up without messages, where the core is given octets from outside, and, in each state that a run passes, after a step of another terminal.
+/// set up without messages, where the core is given octets from outside, and, in each fair state, after a step of another terminal.
 pub fn all_else_keeps_reports_true()
     ensures set_up { (ue : UeId) (bearer : BearerId) (deliv : ℕ) (plan : Plan) (s : RunState)
         → ReportsAreTrue ue bearer deliv s → ReportsAreTrue ue bearer deliv (statically plan s) }
     ensures octets { (reading : Reading) (ue : UeId) (bearer : BearerId) (deliv : ℕ) (s t : RunState)
         → CoreReads reading s t → ReportsAreTrue ue bearer deliv s → ReportsAreTrue ue bearer deliv t }
     ensures others { (reading : Reading) (ue : UeId) (bearer : BearerId) (deliv : ℕ) (s t : RunState)
-        → IsPassed reading s → OtherActs reading ue bearer s t
+        → IsFair s → OtherActs reading ue bearer s t
         → ReportsAreTrue ue bearer deliv s → ReportsAreTrue ue bearer deliv t }
 {}
 
@@ -48,7 +49,7 @@ pub fn all_else_keeps_reports_true()
 /// orders all but what an item reports is asked is one that `path_ties` takes, and both are so then.
 pub fn each_step_keeps_reports_true()
     ensures { (reading : Reading) (n : Numbering) (ue : UeId) (bearer : BearerId) (sn : SnBits)
-        (quota : ℕ) (p q : Point) → IsPassed reading p.state → CameAbout sn quota p.down
+        (quota : ℕ) (p q : Point) → IsFair p.state → CameAbout sn quota p.down
         → ReportsAreTrueAt reading n ue bearer sn quota p → IsKnownAt reading n ue bearer sn quota p
         → Step reading n ue bearer sn quota p q
         → path.Step reading n ue bearer sn quota p q × ReportsAreTrueAt reading n ue bearer sn quota q

@@ -12,8 +12,8 @@ ghost use Rattle.proof_bearer_refinement.specs.known_airs.Known.{AreKnown};
 ghost use Rattle.proof_bearer_refinement.specs.radio_downs.Down.{down_key};
 ghost use Rattle.proof_bearer_refinement.specs.radio_ties.Radio.{RunCause, RunState};
 ghost use Rattle.proof_bearer_refinement.specs.law_run_units.Happenings.{DuRecord};
+ghost use Rattle.proof_bearer_refinement.specs.tied_runs.Fair.{IsFair};
 ghost use Rattle.proof_run_steps.specs.steps.Causes.{count_of, first_of, node_of};
-ghost use Rattle.proof_bearer_refinement.specs.tied_runs.Steps.{IsPassed};
 ghost use Rattle.law_handover_delivers.specs.report_links.Reports.{ReportsAreTrue, RunPut};
 ghost use Rattle.message_types.specs.declared.rrc.Token.{Token};
 ghost use Rattle.run_defs.specs.Lines.{RunLine};
@@ -28,13 +28,13 @@ ghost use Rattle.std.specs.Prelude.{List, map, ◌≡◌, ℕ};
 ghost use Rattle.unit_defs.specs.Core.{CorePath, CoreRecord};
 ghost use Rattle.unit_defs.specs.Ways.{Input, Message, Output, Pdu};
 
-/// In each state that a run from the first one passes, within events too: where all that stands on a bearer's tunnels and on its radio up
-/// reports only what its terminal received, it does so after each step of a CU-CP or a CU-UP: these put no such report.
+/// In each fair state, such as a run passes: where all that stands on a bearer's tunnels and on its radio up reports only what its terminal
+/// received, it does so after each step of a CU-CP or a CU-UP: these put no such report.
 pub fn units_without_a_radio_keep_reports_true()
     ensures { (reading : Reading) (ue : UeId) (bearer : BearerId) (deliv : ℕ) (s t : RunState)
         (event : Event) (cause : RunCause) (outputs : List RunPut) (units : Units (Message Token) Token)
         (lines : List (RunLine (Message Token)))
-        → IsPassed reading s → IsActed (plain_world reading) event s cause outputs units
+        → IsFair s → IsActed (plain_world reading) event s cause outputs units
         → HasNoRadio (node_of cause)
         → carried_out (plain_world reading) (node_of cause) (count_of cause)
         (first_of (plain_world reading) cause) outputs units s ≡ goes lines t
@@ -47,7 +47,7 @@ pub fn a_du_keeps_reports_true()
     ensures { (reading : Reading) (event : Event) (s t : RunState) (ue : UeId) (bearer : BearerId)
         (deliv : ℕ) (gnb : Gnb) (number : ℕ) (cause : RunCause) (input : Input Token Pdu)
         (outputs : List (Output (Message Token) Pdu)) (left : DuRecord)
-        → IsPassed reading s
+        → IsFair s
         → IsActed (plain_world reading) event s cause (map (written_put (sn_of s)) outputs)
         (with_du s.units gnb number left)
         → IsDuStep reading s t gnb number cause input outputs left
@@ -59,7 +59,7 @@ pub fn a_du_keeps_reports_true()
 pub fn the_core_keeps_reports_true()
     ensures messages { (reading : Reading) (s t : RunState) (ue : UeId) (bearer : BearerId) (deliv : ℕ)
         (number : ℕ) (l : Letter (Message Token)) (outputs : List (Output (Message Token) Pdu))
-        (core : CoreRecord (Message Token) Token) → IsPassed reading s
+        (core : CoreRecord (Message Token) Token) → IsFair s
         → IsCoreStep reading s t number l outputs core
         → ReportsAreTrue ue bearer deliv s → ReportsAreTrue ue bearer deliv t }
     ensures offers { (reading : Reading) (s t : RunState) (ue : UeId) (bearer : BearerId) (deliv : ℕ)

@@ -15,8 +15,8 @@ ghost use Rattle.proof_run_steps.specs.steps.Causes.{count_of, first_of, node_of
 ghost use Rattle.proof_bearer_refinement.specs.law_run_units.Happenings.{DuRecord};
 ghost use Rattle.proof_run_steps.specs.tunnel_steps.Standing.{after_taking, standing};
 ghost use Rattle.proof_bearer_refinement.specs.tie_facts.Ties.{RunItem};
+ghost use Rattle.proof_bearer_refinement.specs.tied_runs.Fair.{IsFair};
 ghost use Rattle.law_terminals_are_isolated.specs.own_steps.Own.{IsActed};
-ghost use Rattle.proof_bearer_refinement.specs.tied_runs.Steps.{IsPassed};
 ghost use Rattle.law_handover_delivers.specs.way_links.Links.{IsFrom, IsNoCuUp, IsNoDu, Waits};
 ghost use Rattle.message_types.specs.declared.rrc.Token.{Token};
 ghost use Rattle.run_defs.specs.Lines.{RunLine};
@@ -32,13 +32,13 @@ ghost use Rattle.std.specs.Prelude.{List, Some, ◌≡◌, ℕ};
 ghost use Rattle.tables.specs.Tables.{find};
 ghost use Rattle.unit_defs.specs.Ways.{Message, Pdu};
 
-/// In each state that a run passes: after a step of any node but a CU-UP, on a tunnel of a DU that is open then stands what stood there, less
-/// the item that the step takes, or nothing.
+/// In each fair state, such as a run passes: after a step of any node but a CU-UP, on a tunnel of a DU that is open then stands what stood
+/// there, less the item that the step takes, or nothing.
 pub fn others_put_nothing_there()
     ensures { (reading : Reading) (event : Event) (s t : RunState) (gnb : Gnb) (number teid : ℕ)
         (cause : RunCause) (outputs : Puts) (units : Units (Message Token) Token)
         (lines : List (RunLine (Message Token)))
-        → IsPassed reading s → IsActed (plain_world reading) event s cause outputs units
+        → IsFair s → IsActed (plain_world reading) event s cause outputs units
         → carried_out (plain_world reading) (node_of cause) (count_of cause)
         (first_of (plain_world reading) cause) outputs units s ≡ goes lines t
         → IsNoCuUp (node_of cause) → let end = du_end gnb number teid in
@@ -51,7 +51,7 @@ pub fn others_put_nothing_there()
 pub fn the_same_waits_there()
     ensures waits { (reading : Reading) (event : Event) (s t : RunState) (ue : UeId) (bearer : BearerId)
         (d : Part) (cause : RunCause) (outputs : Puts) (units : Units (Message Token) Token)
-        → IsPassed reading s → IsActed (plain_world reading) event s cause outputs units
+        → IsFair s → IsActed (plain_world reading) event s cause outputs units
         → Stays (down_key ue bearer) cause → IsBeside reading s t ue bearer cause outputs units
         → IsNoDu (node_of cause) → (h : IsDown (on_air s (down_key ue bearer)) d)
         → Waits (on_air t (down_key ue bearer)) d h.waits (on_air s (down_key ue bearer)).epoch }

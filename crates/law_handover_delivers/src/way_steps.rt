@@ -6,19 +6,20 @@ ghost use Rattle.gnb_types.specs.declared.names.BearerId.{BearerId};
 ghost use Rattle.gnb_types.specs.declared.names.Gnb.{Gnb};
 ghost use Rattle.gnb_types.specs.declared.names.SnBits.{SnBits};
 ghost use Rattle.gnb_types.specs.declared.names.UeId.{UeId};
-ghost use Rattle.law_handover_delivers.specs.fresh_uplinks.Later.{Comes};
 ghost use Rattle.law_handover_delivers.specs.owed_runs.Owing.{IsSteadyAt};
 ghost use Rattle.law_handover_delivers.specs.path_ties.Paths.{CameAbout, CoreOffers, CoreTakes};
 ghost use Rattle.proof_bearer_refinement.specs.put_ties.Puts.{IsDuStep};
 ghost use Rattle.proof_bearer_refinement.specs.radio_downs.Down.{down_key, IsDown};
 ghost use Rattle.proof_bearer_refinement.specs.radio_downs.Heard.{heard_by, OwedHeard};
 ghost use Rattle.proof_run_steps.specs.radio_steps.Radios.{on_air};
+ghost use Rattle.proof_run_steps.specs.teids.Given.{GiveOnce};
 ghost use Rattle.proof_bearer_refinement.specs.radio_ties.Radio.{IsAtTerminal, IsUeStep, RunCause};
 ghost use Rattle.law_handover_delivers.specs.report_runs.Steps.{CuUpActs, ReportsAreTrueAt};
 ghost use Rattle.proof_bearer_refinement.specs.run_bearers.Bearers.{Numbering};
 ghost use Rattle.proof_bearer_refinement.specs.law_run_units.Happenings.{DuRecord};
 ghost use Rattle.law_terminals_are_isolated.specs.own_steps.Own.{IsActed};
-ghost use Rattle.proof_bearer_refinement.specs.tied_runs.Steps.{IsPassed, IsTied, Point, StaysBeside};
+ghost use Rattle.proof_bearer_refinement.specs.tied_runs.Steps.{IsTied, Point, StaysBeside};
+ghost use Rattle.proof_bearer_refinement.specs.tied_runs.Fair.{IsFair};
 ghost use Rattle.law_handover_delivers.specs.way_steps.Way.{IsOnItsWay, OwesFrame, OwesSwitches};
 ghost use Rattle.law_handover_delivers.specs.whole_runs.Whole.{both, CoreIsGiven, CuCpStep, Lands, Loses, OtherStep, SetsUp};
 ghost use Rattle.message_types.specs.declared.rrc.Token.{Token};
@@ -35,35 +36,35 @@ ghost use Rattle.unit_defs.specs.Ways.{Input, Message, Output, Pdu};
 /// the way as it is to be: of these nothing is owed.
 pub fn others_keep_the_way()
     ensures cu_cp { (reading : Reading) (n : Numbering) (ue : UeId) (bearer : BearerId) (sn : SnBits)
-        (quota : ℕ) (p q : Point) → IsPassed reading p.state → Comes reading p.state q.state
+        (quota : ℕ) (p q : Point) → IsFair p.state → GiveOnce p.state.units q.state.units
         → IsOnItsWay n ue bearer p → CuCpStep reading n ue bearer sn quota p q
         → IsOnItsWay n ue bearer q }
     ensures other { (reading : Reading) (n : Numbering) (ue : UeId) (bearer : BearerId) (sn : SnBits)
-        (quota : ℕ) (p q : Point) → IsPassed reading p.state → Comes reading p.state q.state
+        (quota : ℕ) (p q : Point) → IsFair p.state → GiveOnce p.state.units q.state.units
         → IsOnItsWay n ue bearer p → OtherStep reading n ue bearer sn quota p q
         → IsOnItsWay n ue bearer q }
     ensures offer { (reading : Reading) (n : Numbering) (ue : UeId) (bearer : BearerId) (sn : SnBits)
-        (quota : ℕ) (p q : Point) → IsPassed reading p.state → Comes reading p.state q.state
+        (quota : ℕ) (p q : Point) → IsFair p.state → GiveOnce p.state.units q.state.units
         → IsOnItsWay n ue bearer p → CoreOffers reading n ue bearer sn quota p q
         → IsOnItsWay n ue bearer q }
     ensures message { (reading : Reading) (n : Numbering) (ue : UeId) (bearer : BearerId) (sn : SnBits)
-        (quota : ℕ) (p q : Point) → IsPassed reading p.state → Comes reading p.state q.state
+        (quota : ℕ) (p q : Point) → IsFair p.state → GiveOnce p.state.units q.state.units
         → IsOnItsWay n ue bearer p → CoreTakes reading n ue bearer sn quota p q
         → IsOnItsWay n ue bearer q }
     ensures octets { (reading : Reading) (n : Numbering) (ue : UeId) (bearer : BearerId) (sn : SnBits)
-        (quota : ℕ) (p q : Point) → IsPassed reading p.state → Comes reading p.state q.state
+        (quota : ℕ) (p q : Point) → IsFair p.state → GiveOnce p.state.units q.state.units
         → IsOnItsWay n ue bearer p → CoreIsGiven reading n ue bearer sn quota p q
         → IsOnItsWay n ue bearer q }
     ensures set_up { (reading : Reading) (n : Numbering) (ue : UeId) (bearer : BearerId) (sn : SnBits)
-        (quota : ℕ) (p q : Point) → IsPassed reading p.state → Comes reading p.state q.state
+        (quota : ℕ) (p q : Point) → IsFair p.state → GiveOnce p.state.units q.state.units
         → IsOnItsWay n ue bearer p → SetsUp reading n ue bearer sn quota p q
-        → IsPassed reading q.state → IsOnItsWay n ue bearer q }
+        → IsFair q.state → IsOnItsWay n ue bearer q }
     ensures lost { (reading : Reading) (n : Numbering) (ue : UeId) (bearer : BearerId) (sn : SnBits)
-        (quota : ℕ) (p q : Point) → IsPassed reading p.state → Comes reading p.state q.state
+        (quota : ℕ) (p q : Point) → IsFair p.state → GiveOnce p.state.units q.state.units
         → IsOnItsWay n ue bearer p → Loses reading n ue bearer sn quota p q
         → IsOnItsWay n ue bearer q }
     ensures lands { (reading : Reading) (n : Numbering) (ue : UeId) (bearer : BearerId) (sn : SnBits)
-        (quota : ℕ) (p q : Point) → IsPassed reading p.state → Comes reading p.state q.state
+        (quota : ℕ) (p q : Point) → IsFair p.state → GiveOnce p.state.units q.state.units
         → IsOnItsWay n ue bearer p → Lands reading n ue bearer sn quota p q
         → IsOnItsWay n ue bearer q }
 {}
@@ -73,7 +74,7 @@ pub fn others_keep_the_way()
 /// nothing: a tunnel that begins was not given before.
 pub fn a_du_keeps_the_way()
     ensures { (reading : Reading) (n : Numbering) (ue : UeId) (bearer : BearerId) (p q : Point)
-        → IsPassed reading p.state → Comes reading p.state q.state → IsOnItsWay n ue bearer p
+        → IsFair p.state → GiveOnce p.state.units q.state.units → IsOnItsWay n ue bearer p
         → (gnb : Gnb) (number : ℕ) (event : Event) (cause : RunCause) (input : Input Token Pdu)
         (outputs : List (Output (Message Token) Pdu)) (left : DuRecord)
         → IsDuStep reading p.state q.state gnb number cause input outputs left
@@ -86,7 +87,7 @@ pub fn a_du_keeps_the_way()
 /// switched yet.
 pub fn the_terminal_keeps_the_way()
     ensures { (reading : Reading) (n : Numbering) (ue : UeId) (bearer : BearerId) (sn : SnBits)
-        (quota : ℕ) (p q : Point) → IsPassed reading p.state → Comes reading p.state q.state
+        (quota : ℕ) (p q : Point) → IsFair p.state → GiveOnce p.state.units q.state.units
         → IsOnItsWay n ue bearer p → IsTied reading n ue bearer sn quota p
         → CameAbout sn quota p.down → (event : Event)
         (tie : IsAtTerminal reading ue bearer p.state (both p)) (left : UeNode) (cause : RunCause)
@@ -105,8 +106,8 @@ pub fn the_terminal_keeps_the_way()
 /// sends; and one for the present radio, a tunnel that its DU gave, on which nothing came yet (`OwesSwitches`).
 pub fn a_cu_up_keeps_the_way()
     ensures { (reading : Reading) (n : Numbering) (ue : UeId) (bearer : BearerId) (sn : SnBits)
-        (quota : ℕ) (p q : Point) → IsPassed reading p.state → IsPassed reading q.state
-        → Comes reading p.state q.state → IsOnItsWay n ue bearer p
+        (quota : ℕ) (p q : Point) → IsFair p.state → IsFair q.state
+        → GiveOnce p.state.units q.state.units → IsOnItsWay n ue bearer p
         → IsTied reading n ue bearer sn quota p → IsSteadyAt reading n ue bearer sn quota p
         → CameAbout sn quota p.down → ReportsAreTrueAt reading n ue bearer sn quota p
         → (a : CuUpActs reading n ue bearer sn quota p q)

@@ -18,23 +18,24 @@ ghost use Rattle.law_handover_delivers.specs.report_runs.Steps as reports;
 ghost use Rattle.law_handover_delivers.specs.report_runs.Steps.{IsKnownAt, ReportsAreTrueAt};
 ghost use Rattle.law_handover_delivers.specs.path_ties.Paths.{LeadsAt};
 ghost use Rattle.law_handover_delivers.specs.owed_runs.Owing.{NoneIsZero};
-ghost use Rattle.law_handover_delivers.specs.fresh_uplinks.Later.{Comes};
 ghost use Rattle.law_handover_delivers.specs.first_runs.First.{AreFirst, DeliverInOrder};
 ghost use Rattle.proof_bearer_refinement.specs.first_ties.First.{start};
-ghost use Rattle.proof_bearer_refinement.specs.tied_runs.Steps.{IsPassed, IsTied, Point};
+ghost use Rattle.proof_bearer_refinement.specs.tied_runs.Steps.{IsTied, Point};
 ghost use Rattle.proof_bearer_refinement.specs.put_ties.Worked.{bearer, terminal};
+ghost use Rattle.proof_bearer_refinement.specs.tied_runs.Fair.{IsFair};
 ghost use Rattle.law_handover_delivers.specs.owed_orders.Steady.{IsOld};
 ghost use Rattle.law_handover_delivers.specs.whole_runs.Whole.{both, IsWhole, Step, Steps};
 ghost use Rattle.run_defs.specs.Runs.{Reading};
 ghost use Rattle.std.specs.Prelude.{ℕ};
 ghost use Rattle.unit_defs.specs.UpRecords.{Downlink};
+ghost use Rattle.proof_run_steps.specs.teids.Given.{GiveOnce};
 
 /// Where the parts are tied to a state of a run, and its terminal shows them, with all that laws of runs carry beside, each step is one of
 /// `report_runs`, and all is so then.
 pub fn each_step_keeps_all()
     ensures { (reading : Reading) (n : Numbering) (ue : UeId) (bearer : BearerId) (sn : SnBits)
         (quota : ℕ) (p q : Point) → NoneIsZero n
-        → IsPassed reading p.state → IsPassed reading q.state → Comes reading p.state q.state
+        → IsFair p.state → IsFair q.state → GiveOnce p.state.units q.state.units
         → IsWhole reading n ue bearer sn quota p → Step reading n ue bearer sn quota p q
         → reports.Step reading n ue bearer sn quota p q × IsWhole reading n ue bearer sn quota q }
 {}

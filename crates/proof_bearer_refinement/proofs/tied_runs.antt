@@ -1,4 +1,4 @@
-pub mod Sound
+pub mod Fair
 pub mod Ups
 pub mod Rest
 pub mod Runs

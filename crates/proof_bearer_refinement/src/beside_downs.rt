@@ -10,8 +10,8 @@ ghost use Rattle.law_terminals_are_isolated.specs.own_steps.Own.{IsActed};
 ghost use Rattle.proof_bearer_refinement.specs.radio_downs.Down.{down_key, IsDown, Puts, Stays};
 ghost use Rattle.proof_run_steps.specs.radio_steps.Radios.{on_air};
 ghost use Rattle.proof_bearer_refinement.specs.radio_ties.Radio.{RunCause, RunState};
+ghost use Rattle.proof_bearer_refinement.specs.tied_runs.Fair.{IsFair};
 ghost use Rattle.proof_run_steps.specs.steps.Causes.{count_of, first_of, node_of};
-ghost use Rattle.proof_bearer_refinement.specs.tied_runs.Steps.{IsPassed};
 ghost use Rattle.message_types.specs.declared.rrc.Token.{Token};
 ghost use Rattle.run_defs.specs.Lines.{RunLine};
 ghost use Rattle.run_defs.specs.Runs.{plain_world, Reading};
@@ -23,14 +23,13 @@ ghost use Rattle.std.specs.List.{AllByRecursion};
 ghost use Rattle.std.specs.Prelude.{List, ◌≡◌};
 ghost use Rattle.unit_defs.specs.Ways.{Message};
 
-/// In each state that a run from the first one passes, within events too: a step of a CU-CP or a CU-UP, but the release of the terminal,
-/// leaves what waits on a terminal's radio down as it is to be, whatever orders of the part come with it that begin no other radio and
-/// carry nothing.
+/// In each fair state, such as a run passes: a step of a CU-CP or a CU-UP, but the release of the terminal, leaves what waits on a
+/// terminal's radio down as it is to be, whatever orders of the part come with it that begin no other radio and carry nothing.
 pub fn units_without_a_radio_keep_it()
     ensures { (reading : Reading) (ue : UeId) (bearer : BearerId) (s t : RunState) (event : Event)
         (cause : RunCause) (outputs : Puts) (units : Units (Message Token) Token)
         (lines : List (RunLine (Message Token))) (d : Part)
-        → IsPassed reading s → IsActed (plain_world reading) event s cause outputs units
+        → IsFair s → IsActed (plain_world reading) event s cause outputs units
         → HasNoRadio (node_of cause) → Stays (down_key ue bearer) cause
         → carried_out (plain_world reading) (node_of cause) (count_of cause)
         (first_of (plain_world reading) cause) outputs units s ≡ goes lines t

@@ -5,8 +5,8 @@ ghost use Rattle.gnb_types.specs.declared.names.UeId.{UeId};
 ghost use Rattle.proof_bearer_refinement.specs.beside_ties.Nodes.{IsNoTerminal};
 ghost use Rattle.law_terminals_are_isolated.specs.own_steps.Own.{IsActed};
 ghost use Rattle.proof_bearer_refinement.specs.radio_ties.Radio.{IsBeside, RunCause, RunState};
+ghost use Rattle.proof_bearer_refinement.specs.tied_runs.Fair.{IsFair};
 ghost use Rattle.proof_run_steps.specs.steps.Causes.{count_of, first_of, node_of};
-ghost use Rattle.proof_bearer_refinement.specs.tied_runs.Steps.{IsPassed};
 ghost use Rattle.message_types.specs.declared.rrc.Token.{Token};
 ghost use Rattle.run_defs.specs.Lines.{RunLine};
 ghost use Rattle.run_defs.specs.Runs.{plain_world, Reading};
@@ -18,14 +18,13 @@ ghost use Rattle.scenario_text.specs.declared.event.Event.{Event};
 ghost use Rattle.std.specs.Prelude.{List, ◌≡◌};
 ghost use Rattle.unit_defs.specs.Ways.{Load, Message, Pdu, Put};
 
-/// In each state that a run from the first one passes, within events too: a step of a CU-CP, a CU-UP or a DU changes no terminal, and
-/// puts nothing on a radio up.
+/// In each fair state, such as a run passes: a step of a CU-CP, a CU-UP or a DU changes no terminal, and puts nothing on a radio up.
 pub fn steps_of_other_units_are_beside()
     ensures { (reading : Reading) (ue : UeId) (bearer : BearerId) (s t : RunState) (event : Event)
         (cause : RunCause)
         (outputs : List (Put (Message Token) (Written (Load Pdu)) (Written Pdu)))
         (units : Units (Message Token) Token) (lines : List (RunLine (Message Token)))
-        → IsPassed reading s → IsActed (plain_world reading) event s cause outputs units
+        → IsFair s → IsActed (plain_world reading) event s cause outputs units
         → IsNoTerminal (node_of cause)
         → carried_out (plain_world reading) (node_of cause) (count_of cause)
         (first_of (plain_world reading) cause) outputs units s ≡ goes lines t

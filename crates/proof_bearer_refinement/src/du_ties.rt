@@ -10,7 +10,8 @@ ghost use Rattle.proof_bearer_refinement.specs.radio_ties.Radio.{Leaves, RunCaus
 ghost use Rattle.bearer_defs.specs.uplink_defs.Orders as up;
 ghost use Rattle.proof_bearer_refinement.specs.run_bearers.Bearers.{Numbering};
 ghost use Rattle.proof_bearer_refinement.specs.law_run_units.Happenings.{DuRecord};
-ghost use Rattle.proof_bearer_refinement.specs.tied_runs.Steps.{DuActs, IsPassed, Point};
+ghost use Rattle.proof_bearer_refinement.specs.tied_runs.Steps.{DuActs, Point};
+ghost use Rattle.proof_bearer_refinement.specs.tied_runs.Fair.{IsFair};
 ghost use Rattle.message_types.specs.declared.rrc.Token.{Token};
 ghost use Rattle.run_defs.specs.Runs.{plain_world, Reading};
 ghost use Rattle.run_defs.specs.States.{sn_of};
@@ -20,14 +21,14 @@ ghost use Rattle.scenario_text.specs.declared.event.Event.{Event};
 ghost use Rattle.std.specs.Prelude.{List, map, ◌≡◌, ℕ};
 ghost use Rattle.unit_defs.specs.Ways.{Input, Message, Output, Pdu};
 
-/// Between two states that runs from the first one pass: a step of a DU, whatever it is given but a PDU of the bearer's radio up, is one
-/// that `tied_runs` takes, and owes nothing: a tunnel of the bearer that it puts on is one of its uplinks, and its orders, End
-/// Markers, ask nothing.
+/// Between two fair states, such as a run passes: a step of a DU, whatever it is given but a PDU of the bearer's radio up, is one that
+/// `tied_runs` takes, and owes nothing: a tunnel of the bearer that it puts on is one of its uplinks, and its orders, End Markers, ask
+/// nothing.
 pub fn other_steps_of_a_du_owe_nothing()
     ensures { (reading : Reading) (n : Numbering) (ue : UeId) (bearer : BearerId) (sn : SnBits)
         (quota : ℕ) (p q : Point) (event : Event) (gnb : Gnb) (number : ℕ) (cause : RunCause)
         (input : Input Token Pdu) (outputs : List (Output (Message Token) Pdu)) (left : DuRecord)
-        → IsPassed reading p.state → IsPassed reading q.state
+        → IsFair p.state → IsFair q.state
         → IsActed (plain_world reading) event p.state cause
         (map (written_put (sn_of p.state)) outputs) (with_du p.state.units gnb number left)
         → IsDuStep reading p.state q.state gnb number cause input outputs left

@@ -14,7 +14,8 @@ ghost use Rattle.proof_bearer_refinement.specs.terminal_ties.Owed.{both, OwedSti
 ghost use Rattle.bearer_defs.specs.chain_defs.Orders as down;
 ghost use Rattle.bearer_defs.specs.uplink_defs.Orders as up;
 ghost use Rattle.proof_bearer_refinement.specs.run_bearers.Bearers.{Numbering};
-ghost use Rattle.proof_bearer_refinement.specs.tied_runs.Steps.{IsPassed, Point, StaysBeside};
+ghost use Rattle.proof_bearer_refinement.specs.tied_runs.Steps.{Point, StaysBeside};
+ghost use Rattle.proof_bearer_refinement.specs.tied_runs.Fair.{IsFair};
 ghost use Rattle.message_types.specs.declared.rrc.Token.{Token};
 ghost use Rattle.run_defs.specs.Runs.{plain_world, Reading};
 ghost use Rattle.run_defs.specs.States.{sn_of};
@@ -25,18 +26,17 @@ ghost use Rattle.std.specs.Prelude.{List, map, Option, ◌≡◌, ◌<◌, ℕ};
 ghost use Rattle.unit_defs.specs.Ue.{UeNode};
 ghost use Rattle.unit_defs.specs.Ways.{Input, Message, Output, Pdu};
 
-/// Where a terminal shows a bearer's parts and its radio up is the part's, in a state that a run passes, and the part down came there by
-/// kept orders, each step of the terminal's own is one of those that `tied_runs` takes, by the orders of its input; and it is so
-/// afterwards. Owed of a packet that it takes is that none before it is missing, and that it was put for the present radio or received
-/// before: others may stand before it on the part's radio, those that were lost on F1-U. That it is the first there, as
-/// `terminal_ties` asks, is more. And where what waits on its radio down was put so and has no gap, nothing is owed of a packet, and
-/// it goes on so.
+/// Where a terminal shows a bearer's parts and its radio up is the part's, in a fair state, and the part down came there by kept orders,
+/// each step of the terminal's own is one of those that `tied_runs` takes, by the orders of its input; and it is so afterwards. Owed of a
+/// packet that it takes is that none before it is missing, and that it was put for the present radio or received before: others may stand
+/// before it on the part's radio, those that were lost on F1-U. That it is the first there, as `terminal_ties` asks, is more. And where
+/// what waits on its radio down was put so and has no gap, nothing is owed of a packet, and it goes on so.
 pub fn steps_of_a_terminal_owe_less()
     ensures steps { (reading : Reading) (n : Numbering) (ue : UeId) (bearer : BearerId) (sn : SnBits)
         (quota : ℕ) (p q : Point) (event : Event)
         (tie : IsAtTerminal reading ue bearer p.state (both p)) (v : UeNode) (cause : RunCause)
         (input : Input Token Pdu) (outputs : List (Output (Message Token) Pdu)) (to : Option ℕ)
-        → IsPassed reading p.state
+        → IsFair p.state
         → IsUeStep reading event p.state q.state ue tie.terminal v cause input outputs
         → IsActed (plain_world reading) event p.state cause
         (map (written_put (sn_of p.state)) outputs) (with_ue p.state.units ue v)
@@ -52,7 +52,7 @@ pub fn steps_of_a_terminal_owe_less()
         (quota : ℕ) (p q : Point) (event : Event)
         (tie : IsAtTerminal reading ue bearer p.state (both p)) (v : UeNode) (cause : RunCause)
         (input : Input Token Pdu) (outputs : List (Output (Message Token) Pdu)) (to : Option ℕ)
-        → IsPassed reading p.state
+        → IsFair p.state
         → IsUeStep reading event p.state q.state ue tie.terminal v cause input outputs
         → IsActed (plain_world reading) event p.state cause
         (map (written_put (sn_of p.state)) outputs) (with_ue p.state.units ue v)

@@ -14,7 +14,8 @@ ghost use Rattle.proof_bearer_refinement.specs.terminal_ties.Owed.{both};
 ghost use Rattle.bearer_defs.specs.uplink_defs.Orders as up;
 ghost use Rattle.proof_bearer_refinement.specs.run_bearers.Bearers.{Numbering};
 ghost use Rattle.proof_bearer_refinement.specs.law_run_units.Happenings.{DuRecord};
-ghost use Rattle.proof_bearer_refinement.specs.tied_runs.Steps.{DuActs, IsPassed, IsTied, Point};
+ghost use Rattle.proof_bearer_refinement.specs.tied_runs.Steps.{DuActs, IsTied, Point};
+ghost use Rattle.proof_bearer_refinement.specs.tied_runs.Fair.{IsFair};
 ghost use Rattle.message_types.specs.declared.rrc.Token.{Token};
 ghost use Rattle.run_defs.specs.Runs.{plain_world, Reading};
 ghost use Rattle.run_defs.specs.States.{sn_of};
@@ -24,16 +25,16 @@ ghost use Rattle.scenario_text.specs.declared.event.Event.{Event};
 ghost use Rattle.std.specs.Prelude.{List, map, ◌≡◌, ℕ};
 ghost use Rattle.unit_defs.specs.Ways.{Input, Message, Output, Pdu};
 
-/// Where the parts are tied to a run, the terminal shows them, and its radio up is the part's, a step by which a DU takes what stands next
-/// on that radio is one of those that `tied_runs` takes, and the radio is the part's afterwards. Owed is where the DU puts it
-/// (`HomeLeads`), and nothing else: that a packet is the first of the part's list, and that its tunnel is open, is shown.
+/// Where the parts are tied to a fair state of a run, the terminal shows them, and its radio up is the part's, a step by which a DU takes
+/// what stands next on that radio is one of those that `tied_runs` takes, and the radio is the part's afterwards. Owed is where the DU puts
+/// it (`HomeLeads`), and nothing else: that a packet is the first of the part's list, and that its tunnel is open, is shown.
 pub fn a_home_carries_what_stands_next()
     ensures { (reading : Reading) (n : Numbering) (ue : UeId) (bearer : BearerId) (sn : SnBits)
         (quota : ℕ) (p q : Point) (event : Event)
         (tie : IsAtTerminal reading ue bearer p.state (both p)) (gnb : Gnb) (number : ℕ)
         (item : OnRadio) (input : Input Token Pdu) (outputs : List (Output (Message Token) Pdu))
         (left : DuRecord)
-        → IsPassed reading p.state → IsTied reading n ue bearer sn quota p
+        → IsFair p.state → IsTied reading n ue bearer sn quota p
         → IsActed (plain_world reading) event p.state
         (by_air (up_key ue bearer) (Du gnb number) item)
         (map (written_put (sn_of p.state)) outputs) (with_du p.state.units gnb number left)

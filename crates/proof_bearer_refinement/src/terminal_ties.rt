@@ -10,7 +10,8 @@ ghost use Rattle.proof_bearer_refinement.specs.terminal_ties.Owed.{both, OwedSti
 ghost use Rattle.bearer_defs.specs.chain_defs.Orders as down;
 ghost use Rattle.bearer_defs.specs.uplink_defs.Orders as up;
 ghost use Rattle.proof_bearer_refinement.specs.run_bearers.Bearers.{Numbering};
-ghost use Rattle.proof_bearer_refinement.specs.tied_runs.Steps.{IsPassed, Point, StaysBeside};
+ghost use Rattle.proof_bearer_refinement.specs.tied_runs.Steps.{Point, StaysBeside};
+ghost use Rattle.proof_bearer_refinement.specs.tied_runs.Fair.{IsFair};
 ghost use Rattle.message_types.specs.declared.rrc.Token.{Token};
 ghost use Rattle.run_defs.specs.Runs.{plain_way, plain_world, Reading};
 ghost use Rattle.run_defs.specs.States.{sn_of};
@@ -21,16 +22,16 @@ ghost use Rattle.std.specs.Prelude.{List, map, Option, ◌≡◌, ℕ};
 ghost use Rattle.unit_defs.specs.Ue.{UeNode};
 ghost use Rattle.unit_defs.specs.Ways.{Input, Message, Output, Pdu};
 
-/// Where a terminal shows a bearer's parts and its radio up is the part's, in a state that a run passes, each step of its own is one of
-/// those that `tied_runs` takes: it leaves the bearer's contexts and tunnels, and is the orders of its input, each of which asks what
-/// it does; and it is so afterwards. Owed is what stands first on the radio down, that a report says what was carried, and that an
-/// arrival may lead where it leads; nothing of the radio up.
+/// Where a terminal shows a bearer's parts and its radio up is the part's, in a fair state, each step of its own is one of those that
+/// `tied_runs` takes: it leaves the bearer's contexts and tunnels, and is the orders of its input, each of which asks what it does; and it
+/// is so afterwards. Owed is what stands first on the radio down, that a report says what was carried, and that an arrival may lead where
+/// it leads; nothing of the radio up.
 pub fn steps_of_a_terminal_are_its_orders()
     ensures { (reading : Reading) (n : Numbering) (ue : UeId) (bearer : BearerId) (sn : SnBits)
         (quota : ℕ) (p q : Point) (event : Event)
         (tie : IsAtTerminal reading ue bearer p.state (both p)) (v : UeNode) (cause : RunCause)
         (input : Input Token Pdu) (outputs : List (Output (Message Token) Pdu)) (to : Option ℕ)
-        → IsPassed reading p.state
+        → IsFair p.state
         → IsUeStep reading event p.state q.state ue tie.terminal v cause input outputs
         → IsActed (plain_world reading) event p.state cause
         (map (written_put (sn_of p.state)) outputs) (with_ue p.state.units ue v)

@@ -11,17 +11,22 @@ ghost use Rattle.proof_bearer_refinement.specs.tie_facts.Asked.{AreSound};
 ghost use Rattle.proof_bearer_refinement.specs.tie_facts.Ties.{RunState};
 ghost use Rattle.proof_bearer_refinement.specs.run_bearers.Bearers.{Numbering};
 ghost use Rattle.run_defs.specs.Runs.{Reading};
-ghost use Rattle.proof_bearer_refinement.specs.tied_runs.Steps.{AreOrders, IsPassed, IsTied, Point, Step, Steps};
+ghost use Rattle.proof_bearer_refinement.specs.tied_runs.Steps.{AreOrders, IsTied, Point, Step, Steps};
+ghost use Rattle.proof_bearer_refinement.specs.tied_runs.Fair.{Comes, IsFair, IsPassed};
+ghost use Rattle.proof_run_steps.specs.teids.Given.{GiveOnce};
 ghost use Rattle.law_uplink_order.specs.uplink.Words as up_words;
 ghost use Rattle.std.specs.Prelude.{◌≡◌, ℕ};
 ghost use Rattle.bearer_defs.specs.uplink_defs.Orders as up;
 ghost use Rattle.bearer_defs.specs.uplink_defs.Parts as up_parts;
 
-/// In each two states that runs from the first one pass, within events too, open TEIDs have owners, tunnels stand where they are open, and
-/// hold their owner's items: so all that the laws of single steps ask of a run is so.
-pub fn states_of_a_run_are_sound()
-    ensures { (reading : Reading) (s t : RunState)
-        → IsPassed reading s → IsPassed reading t → AreSound s t }
+/// The laws of a run's steps speak of fair states (`IsFair`): links and units hold their own there, and items and messages name what the
+/// units gave. Each state that a run from the first one passes, within events too, is fair; a TEID that its units gave stays given in each
+/// state that comes after. And of two fair states all is so that the laws of single steps ask of a run: open TEIDs have owners, tunnels
+/// stand where they are open, and hold their owner's items.
+pub fn states_of_a_run_are_fair()
+    ensures passed { (reading : Reading) (s : RunState) → IsPassed reading s → IsFair s }
+    ensures later { (reading : Reading) (s t : RunState) → Comes reading s t → GiveOnce s.units t.units }
+    ensures sound { (s t : RunState) → IsFair s → IsFair t → AreSound s t }
 {}
 
 /// Over any steps of a run, of CU-UPs, DUs, the core and all else: where the parts have the contexts of the CU-UPs, and their lists are the

@@ -32,14 +32,14 @@ use Rattle.proof_bearer_refinement.specs.law_run_units.Happenings.{UpRecord}
 use Rattle.proof_bearer_refinement.specs.run_bearers.Bearers.{Numbering, contexts_of}
 use Rattle.proof_bearer_refinement.specs.tie_facts.Ties.{RunState}
 use Rattle.proof_bearer_refinement.specs.tie_facts.Asked.{RunCause, IsUpStep, context_at, AreTied, AreSound, beside_of}
+use Rattle.proof_bearer_refinement.specs.tied_runs.Fair.{IsFair}
 use Rattle.law_handover_delivers.specs.owed_orders.Steady.{AreSteady}
 use Rattle.law_handover_delivers.specs.owed_orders.Owed.{OwesIn, AllOwe, final_asks}
 use Rattle.law_handover_delivers.proofs.owed_orders.Steps.{cs_here, comes_then, step_asked}
 use Rattle.proof_bearer_refinement.proofs.up_ties.Ups.{up_kept}
 use Rattle.law_terminals_are_isolated.specs.own_steps.Own.{IsActed}
-use Rattle.proof_bearer_refinement.specs.tied_runs.Steps.{IsPassed}
-use Rattle.proof_bearer_refinement.proofs.tied_runs.Sound.{passed_sound}
-use Rattle.law_handover_delivers.proofs.down_report_ties.Quiet.{puts_fit}
+use Rattle.proof_bearer_refinement.proofs.tied_runs.Fair.{fair_sound}
+use Rattle.proof_bearer_refinement.proofs.tied_runs.Fair.{puts_fit}
 use Rattle.law_handover_delivers.specs.down_reports.Reports.{ReportsDownAreTrue}
 use Rattle.law_handover_delivers.proofs.down_reports.Airs.{told_then}
 use Rattle.law_handover_delivers.specs.down_report_frames.Sent.{OrderIsTrue}
@@ -49,7 +49,7 @@ use Rattle.law_handover_delivers.proofs.down_report_frames.Rows.{Outs, Row, RowI
 
 module _ (reading : Reading) (n : Numbering) (ue : UeId) (bearer : BearerId) (sn : SnBits) (quota : ℕ) (event : Event) (s t : RunState) (gnb : Gnb)
     (number : ℕ) (cause : RunCause) (input : Input Token Pdu) (outputs : Outs) (v : UpRecord) (b0 : Beside)
-    (step : IsUpStep reading s t gnb number cause input outputs v) (before : IsPassed reading s) (after : IsPassed reading t) (d : down_parts.Part)
+    (step : IsUpStep reading s t gnb number cause input outputs v) (before : IsFair s) (after : IsFair t) (d : down_parts.Part)
     (u : up_parts.Part) (tied : AreTied n ue bearer sn quota s d u) (steady : AreSteady n ue bearer s.units d u (contexts_of n ue bearer s.units))
     (came : UpCameAbout u) where
   abbrev r : UpRecord
@@ -74,10 +74,10 @@ module _ (reading : Reading) (n : Numbering) (ue : UeId) (bearer : BearerId) (sn
   happens os = map (λ (order : UpOrder Pdu). asks x order b) os
 
   sound : AreSound s t
-  sound = passed_sound reading s t before after
+  sound = fair_sound s t before after
 
   here : cs x ≡ p
-  here = cs_here reading n ue bearer s t gnb number cause input outputs v step sound (passed_sound reading s s before before).own
+  here = cs_here reading n ue bearer s t gnb number cause input outputs v step sound (fair_sound s s before before).own
 
   -- ---- the first order
 
@@ -134,7 +134,7 @@ module _ (reading : Reading) (n : Numbering) (ue : UeId) (bearer : BearerId) (sn
     pub orders_kept : up_guards.AreKept u (ups.all_orders plain_way ue bearer cs (final_asks n ue bearer s gnb number cause input b0))
     orders_kept =
         up_kept reading n ue bearer sn quota s t gnb number cause input outputs v (record b0 { final = is_final input }) step sound d u tied
-        (step_asked reading n ue bearer s t gnb number cause input outputs v step sound (passed_sound reading s s before before).own sn quota d u tied b0
+        (step_asked reading n ue bearer s t gnb number cause input outputs v step sound (fair_sound s s before before).own sn quota d u tied b0
         steady owes)
 
     all_report : AllTrue u.reached ue bearer orders p
@@ -143,7 +143,7 @@ module _ (reading : Reading) (n : Numbering) (ue : UeId) (bearer : BearerId) (sn
     bearer_tells : AllDownTrue u.reached (on_bearer ue bearer outputs)
     bearer_tells =
         by (carried plain_way ue bearer orders p) (all_true u.reached ue bearer orders p all_report)
-        (comes_then reading n ue bearer s t gnb number cause input outputs v step sound (passed_sound reading s s before before).own)
+        (comes_then reading n ue bearer s t gnb number cause input outputs v step sound (fair_sound s s before before).own)
       where
         by : (a : Row) → RowIsTrue u.reached a → Comes ue bearer outputs v a → AllDownTrue u.reached (on_bearer ue bearer outputs)
         by (gives more q) all comes = subst (AllDownTrue u.reached) (sym comes.0) (filtered u.reached ue bearer more all)

@@ -12,25 +12,24 @@ use Rattle.run_defs.specs.States.{new_state, sn_of}
 use Rattle.run_defs.specs.Runs.{Reading}
 use Rattle.proof_run_steps.specs.steps.Causes.{by_air}
 use Rattle.proof_run_steps.specs.radio_steps.Radios.{on_air}
+use Rattle.proof_run_steps.specs.teids.Given.{GiveOnce}
 use Rattle.proof_bearer_refinement.specs.radio_downs.Down.{down_key}
 use Rattle.proof_bearer_refinement.specs.radio_ties.Radio.{RunState, up_key}
 use Rattle.bearer_defs.specs.uplink_defs.Parts as up_parts
 use Rattle.proof_bearer_refinement.specs.run_bearers.Bearers.{Numbering}
 use Rattle.proof_bearer_refinement.specs.tie_facts.Asked.{AreSound}
-use Rattle.law_handover_delivers.specs.owed_runs.Owing.{NoneIsZero, IsSteadyAt}
+use Rattle.law_handover_delivers.specs.owed_runs.Owing.{NoneIsZero}
 use Rattle.law_handover_delivers.specs.owed_runs.Owing as owed
-use Rattle.law_handover_delivers.specs.fresh_uplinks.Later.{AreFresh, Comes}
 use Rattle.law_handover_delivers.specs.fresh_uplinks.Later as later
 use Rattle.proof_bearer_refinement.specs.first_ties.First as first_run
 use Rattle.law_handover_delivers.specs.first_runs.First.{DeliverInOrder}
-use Rattle.proof_bearer_refinement.specs.tied_runs.Steps.{Point, IsPassed, IsTied, AreOrders}
+use Rattle.proof_bearer_refinement.specs.tied_runs.Steps.{Point, AreOrders}
 use Rattle.proof_bearer_refinement.specs.tied_runs.Steps as tied
 use Rattle.proof_bearer_refinement.specs.put_ties.Worked.{terminal, bearer as its_bearer, plan}
-use Rattle.law_handover_delivers.specs.path_ties.Paths.{CameAbout}
+use Rattle.proof_bearer_refinement.specs.tied_runs.Fair.{IsFair}
 use Rattle.law_handover_delivers.specs.path_ties.Paths as path
 use Rattle.law_handover_delivers.specs.report_runs.Steps as reports
-use Rattle.law_handover_delivers.specs.report_runs.Steps.{ReportsAreTrueAt, IsKnownAt}
-use Rattle.proof_bearer_refinement.proofs.tied_runs.Sound.{passed_sound}
+use Rattle.proof_bearer_refinement.proofs.tied_runs.Fair.{fair_sound}
 use Rattle.proof_bearer_refinement.proofs.tied_runs.Runs.{step_then}
 use Rattle.proof_bearer_refinement.proofs.first_ties.Start.{starts, tied as tied_there}
 use Rattle.law_handover_delivers.proofs.first_runs.Runs.{begins}
@@ -63,9 +62,9 @@ module _ (reading : Reading) (n : Numbering) (ue : UeId) (bearer : BearerId) (sn
   abbrev Told : Point → Type 0
   Told p = ReportsDownAreTrueAt reading n ue bearer sn quota p
 
-  module _ (p q : Point) (before : IsPassed reading p.state) (after : IsPassed reading q.state) (comes : Comes reading p.state q.state) (all : Whole p) where
+  module _ (p q : Point) (before : IsFair p.state) (after : IsFair q.state) (comes : GiveOnce p.state.units q.state.units) (all : Whole p) where
     sound : AreSound p.state q.state
-    sound = passed_sound reading p.state q.state before after
+    sound = fair_sound p.state q.state before after
 
     -- ---- what the parts do meanwhile is orders, each of which asks what it does
 
@@ -99,7 +98,7 @@ module _ (reading : Reading) (n : Numbering) (ue : UeId) (bearer : BearerId) (sn
           cu_up_keeps reading n ue bearer sn quota a.event p.state q.state a.gnb a.number a.cause a.input a.outputs a.left a.beside a.acts before after
           p.down p.up all.ties all.steady came
           (all_owed reading n ue bearer sn quota p.state q.state a.gnb a.number a.cause a.input a.outputs a.left a.acts
-          (passed_sound reading p.state p.state before before).own a.beside p.down p.up all.told a.owes)
+          (fair_sound p.state p.state before before).own a.beside p.down p.up all.told a.owes)
           statuses a.acted told
       leaves (whole.a_du a) statuses =
           du_keeps reading a.event p.state q.state ue bearer reached a.gnb a.number a.cause a.input a.outputs a.left before a.acted a.acts told

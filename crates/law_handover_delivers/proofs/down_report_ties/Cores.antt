@@ -24,20 +24,20 @@ use Rattle.law_tunnels_are_owned.proofs.link_items.Names.{link_items}
 use Rattle.law_tunnels_are_owned.proofs.link_items.Links.{items_keep}
 use Rattle.proof_bearer_refinement.proofs.put_ties.Stands.{Ends, after_told, and_no_more}
 use Rattle.proof_bearer_refinement.specs.core_ties.Core.{IsCoreStep, IsOffer}
-use Rattle.proof_bearer_refinement.specs.tied_runs.Steps.{IsPassed}
 use Rattle.proof_bearer_refinement.specs.radio_ties.Radio.{RunState}
+use Rattle.proof_bearer_refinement.specs.tied_runs.Fair.{IsFair}
 use Rattle.law_handover_delivers.specs.down_reports.Reports.{ReportsDownAreTrue, RunPut}
 use Rattle.law_handover_delivers.proofs.down_reports.Airs.{told_put}
-use Rattle.law_handover_delivers.proofs.down_report_ties.Quiet.{held_past, none_tell}
+use Rattle.law_handover_delivers.proofs.down_report_ties.Quiet.{none_tell}
 
 -- ---- a message
 
 pub message_keeps : (reading : Reading) (s t : RunState) (ue : UeId) (bearer : BearerId) (reached : ℕ) (number : ℕ) (l : Letter (Message Token))
-    (outputs : List (Output (Message Token) Pdu)) (core : CoreRecord (Message Token) Token) → IsPassed reading s
+    (outputs : List (Output (Message Token) Pdu)) (core : CoreRecord (Message Token) Token) → IsFair s
     → IsCoreStep reading s t number l outputs core → ReportsDownAreTrue ue bearer reached s → ReportsDownAreTrue ue bearer reached t
-message_keeps reading s t ue bearer reached number l outputs core passed step told =
+message_keeps reading s t ue bearer reached number l outputs core fair step told =
     let puts : List RunPut = map (written_put (sn_of s)) outputs in
-    let holds : Hold (written_facts link_items) s = held_past reading passed.events passed.event passed.before passed.there s passed.passes in
+    let holds : Hold (written_facts link_items) s = fair.items in
     let fit : PutsFit (written_facts link_items) Core None puts
     = ((plain_kept link_items items_keep reading).core_answers (sn_of s) s.core core (letter_for l.from l.message) puts holds.core (0, tt)
     (ap (core_done reading (sn_of s) s.core) step.answers)).1 in

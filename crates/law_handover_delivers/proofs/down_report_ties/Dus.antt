@@ -39,7 +39,6 @@ use Rattle.law_tunnels_are_owned.proofs.link_items.Names.{link_items}
 use Rattle.law_tunnels_are_owned.specs.run_tunnels.Own.{IsOwnAt, TunnelsHoldTheirOwn}
 use Rattle.law_terminals_are_isolated.specs.own_steps.Own.{IsActed}
 use Rattle.law_terminals_are_isolated.proofs.own_steps.Steps.{Sound}
-use Rattle.law_terminals_are_isolated.proofs.own_events.Passed.{sound_past}
 use Rattle.proof_bearer_refinement.specs.law_run_units.Happenings.{DuRecord}
 use Rattle.proof_node_orders.specs.du_inputs.Changes.{DuPart, Change, takes, renews, sets_up, ends, stays, part_of, of_frame, of_tunnel, of_modification, if_own, of_setup, of_request, if_new, of_kind, of_letter, change_by}
 use Rattle.proof_node_orders.specs.du_inputs.Puts.{is_of, radio_put, carried_if, of_part, carried_of, Puts}
@@ -47,10 +46,10 @@ use Rattle.law_downlink_order.specs.path.Paths.{gap_after}
 use Rattle.proof_node_orders.specs.du_puts.Inputs.{ups_by}
 use Rattle.proof_node_orders.proofs.du_puts.Letters.{input_puts}
 use Rattle.proof_bearer_refinement.specs.put_ties.Puts.{IsDuStep}
-use Rattle.proof_bearer_refinement.specs.tied_runs.Steps.{IsPassed}
 use Rattle.proof_bearer_refinement.specs.radio_downs.Down.{down_key}
 use Rattle.proof_bearer_refinement.specs.radio_ties.Radio.{RunState, RunCause}
-use Rattle.law_handover_delivers.proofs.down_report_ties.Quiet.{puts_fit}
+use Rattle.proof_bearer_refinement.specs.tied_runs.Fair.{IsFair}
+use Rattle.proof_bearer_refinement.proofs.tied_runs.Fair.{puts_fit}
 use Rattle.law_handover_delivers.specs.down_reports.Reports.{PduIsTrue, PayloadIsTrue, LoadIsTrue, RunItem, StandingIsTrue, ReportsDownAreTrue, PutsAreTrue}
 use Rattle.law_handover_delivers.proofs.down_reports.Airs.{told_then}
 
@@ -283,13 +282,13 @@ module _ (reached : ℕ) where
     input_true reading input (by_letter k l to) at given stands = so (control_input l.from l.message) input given tt
 
 pub du_keeps : (reading : Reading) (event : Event) (s t : RunState) (ue : UeId) (bearer : BearerId) (reached : ℕ) (gnb : Gnb) (number : ℕ) (cause : RunCause)
-    (input : Input Token Pdu) (outputs : Outs) (left : DuRecord) → IsPassed reading s
+    (input : Input Token Pdu) (outputs : Outs) (left : DuRecord) → IsFair s
     → IsActed (plain_world reading) event s cause (map (written_put (sn_of s)) outputs) (with_du s.units gnb number left)
     → IsDuStep reading s t gnb number cause input outputs left
     → ReportsDownAreTrue ue bearer reached s → ReportsDownAreTrue ue bearer reached t
 unfolding Puts
-du_keeps reading event s t ue bearer reached gnb number cause input outputs left passed acted step told =
-    let sound : Sound s = sound_past reading passed.events passed.event passed.before passed.there s passed.passes in
+du_keeps reading event s t ue bearer reached gnb number cause input outputs left fair acted step told =
+    let sound : Sound s = fair.sound in
     let r : DuRecord = du_of s.units gnb number in
     let change : Change = change_by plain_way ue bearer r input in
     let listed : radio_put ue bearer outputs ≡ of_part (carried_of change) (part_of r ue bearer)
@@ -305,4 +304,4 @@ du_keeps reading event s t ue bearer reached gnb number cause input outputs left
     acted.stands step.goes_on told
     (outputs_tell reached ue bearer gnb number (sn_of s) (count_of cause) outputs
     (subst (λ (n : NodeId). PutsFit (written_facts link_items) n (count_of cause) (map (written_put (sn_of s)) outputs)) step.node
-    (puts_fit reading s event cause (map (written_put (sn_of s)) outputs) (with_du s.units gnb number left) passed acted)) tells)
+    (puts_fit reading s event cause (map (written_put (sn_of s)) outputs) (with_du s.units gnb number left) fair acted)) tells)

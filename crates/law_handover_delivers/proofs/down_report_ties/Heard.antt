@@ -25,9 +25,8 @@ use Rattle.proof_node_orders.specs.terminal_inputs.Inputs.{Parts}
 use Rattle.proof_run_steps.proofs.facts.Steps.{nth_has}
 use Rattle.proof_bearer_refinement.specs.radio_downs.Down.{down_key}
 use Rattle.proof_bearer_refinement.specs.radio_downs.Heard.{OwedHeard, OwedRest}
-use Rattle.law_terminals_are_isolated.proofs.own_events.Passed.{sound_past}
-use Rattle.proof_bearer_refinement.specs.tied_runs.Steps.{IsPassed}
 use Rattle.proof_bearer_refinement.specs.radio_ties.Radio.{RunState, RunCause, OnRadio}
+use Rattle.proof_bearer_refinement.specs.tied_runs.Fair.{IsFair}
 use Rattle.law_handover_delivers.specs.down_reports.Reports.{PduIsTrue, RadioIsTrue, ReportsDownAreTrue}
 use Rattle.law_handover_delivers.specs.down_report_ties.Owed.{OwedReport, OwedArrivals, OwedBesides}
 
@@ -112,8 +111,8 @@ module _ (u : UeNode) (b : Parts) (bearer : BearerId) where
     report_owed input (by_letter k l to) at given stands = so (control_input l.from l.message) input given tt
 
 pub taken_owed : (reading : Reading) (event : Event) (s : RunState) (ue : UeId) (bearer : BearerId) (u : UeNode) (b : Parts) (cause : RunCause)
-    (input : Input Token Pdu) → IsPassed reading s → node_of cause ≡ Ue ue.0 → input_of reading (given_of cause) ≡ Some input → Stands event s cause
+    (input : Input Token Pdu) → IsFair s → node_of cause ≡ Ue ue.0 → input_of reading (given_of cause) ≡ Some input → Stands event s cause
     → ReportsDownAreTrue ue bearer b.up.reached s → OwedReport u b bearer input
-taken_owed reading event s ue bearer u b cause input passed at given stands told =
+taken_owed reading event s ue bearer u b cause input fair at given stands told =
     report_owed u b bearer reading event s ue
-    (sound_past reading passed.events passed.event passed.before passed.there s passed.passes).radios told input cause at given stands
+    fair.sound.radios told input cause at given stands

@@ -1,5 +1,5 @@
 -- The core, CU-CPs and terminals put no status report for a terminal.
-use Rattle.std.proofs.Common.{◌≡◌, ℕ, true, List, [], ◌∷◌, Option, Some, ap, ◌∙◌}
+use Rattle.std.proofs.Common.{◌≡◌, ℕ, true, List, [], ◌∷◌, Option, ap, ◌∙◌}
 use Rattle.std.specs.Ordering.{eq_by_cmp}
 use Rattle.std.specs.Cmp.{Equal-is}
 use Rattle.gnb_types.specs.declared.names.NodeId.{NodeId}
@@ -16,45 +16,22 @@ use Rattle.scenario_text.specs.declared.event.Event.{Event}
 use Rattle.unit_defs.specs.Ways.{Message, Pdu, Load, fresh, numbered, frame, uplink, status, end_marker, control, packet, radio, deliver, dropped, held, opened, closed, failed, no}
 use Rattle.run_defs.specs.Lines.{RunLine}
 use Rattle.run_defs.specs.Units.{Units}
-use Rattle.run_defs.specs.States.{new_state, entity, goes, sn_of}
+use Rattle.run_defs.specs.States.{entity, goes}
 use Rattle.run_defs.specs.Steps.{carried_out}
 use Rattle.run_defs.specs.Runs.{Reading, plain_world}
-use Rattle.proof_run_steps.specs.steps.Causes.{node_of, given_of, count_of, first_of}
-use Rattle.proof_run_steps.specs.steps.Reached.{reached as runs_to}
-use Rattle.proof_run_steps.specs.facts.Facts.{Hold, PutsFit}
+use Rattle.proof_run_steps.specs.steps.Causes.{node_of, count_of, first_of}
+use Rattle.proof_run_steps.specs.facts.Facts.{PutsFit}
 use Rattle.proof_run_steps.specs.facts.UnitFacts.{written_facts}
 use Rattle.law_tunnels_are_owned.specs.link_items.Items.{MayPut, IsOfN3}
 use Rattle.law_tunnels_are_owned.proofs.link_items.Names.{link_items}
-use Rattle.law_tunnels_are_owned.proofs.link_items.Links.{items_keep}
-use Rattle.proof_run_steps.proofs.facts.Steps.{taken_has}
-use Rattle.proof_run_steps.proofs.facts.Runs.{made_holds}
-use Rattle.proof_run_steps.proofs.facts.Plain.{plain_kept, plain_run_holds}
-use Rattle.law_terminals_are_isolated.specs.own_events.Passed.{Passes, not_yet, further}
 use Rattle.law_terminals_are_isolated.specs.own_steps.Own.{IsActed}
-use Rattle.proof_bearer_refinement.specs.tied_runs.Steps.{IsPassed}
 use Rattle.proof_bearer_refinement.specs.radio_downs.Down.{down_key}
 use Rattle.proof_bearer_refinement.specs.radio_ties.Radio.{RunState, RunCause}
+use Rattle.proof_bearer_refinement.specs.tied_runs.Fair.{IsFair}
+use Rattle.proof_bearer_refinement.proofs.tied_runs.Fair.{puts_fit}
 use Rattle.law_handover_delivers.specs.down_reports.Reports.{LoadIsTrue, ReportsDownAreTrue, RunPut, PutsAreTrue}
 use Rattle.law_handover_delivers.proofs.down_reports.Airs.{told_then}
 use Rattle.law_handover_delivers.specs.down_report_ties.Nodes.{PutsNoReport}
-
--- ---- what each unit puts is of its links, in a state that a run passes
-
-module _ (reading : Reading) where
-  pub held_past : (events : List Event) (event : Event) (before : RunState) → runs_to (plain_world reading) events new_state ≡ Some before
-      → (t : RunState) → Passes (plain_world reading) event before t → Hold (written_facts link_items) t
-  held_past events event before there t (not_yet x) = plain_run_holds link_items items_keep reading events before there
-  held_past events event before there t (further x y u told p made) =
-      made_holds (plain_world reading) (written_facts link_items) (plain_kept link_items items_keep reading) event y (goes told u) made
-      (held_past events event before there y p)
-
-  pub puts_fit : (s : RunState) (event : Event) (cause : RunCause) (outputs : List RunPut) (units : Units (Message Token) Token)
-      → IsPassed reading s → IsActed (plain_world reading) event s cause outputs units
-      → PutsFit (written_facts link_items) (node_of cause) (count_of cause) outputs
-  puts_fit s event cause outputs units passed acted =
-      let holds : Hold (written_facts link_items) s = held_past passed.events passed.event passed.before passed.there s passed.passes in
-      ((plain_kept link_items items_keep reading).answers (sn_of s) s.units units (node_of cause) (count_of cause) (given_of cause) outputs holds.units
-      (taken_has (plain_world reading) (written_facts link_items) event cause s holds acted.stands) acted.answers).1
 
 -- ---- and no report for a terminal
 
@@ -108,9 +85,9 @@ module _ (reached : ℕ) where
 
 pub quiet_keeps : (reading : Reading) (ue : UeId) (bearer : BearerId) (reached : ℕ) (s t : RunState) (event : Event) (cause : RunCause)
     (outputs : List RunPut) (units : Units (Message Token) Token) (lines : List (RunLine (Message Token)))
-    → IsPassed reading s → IsActed (plain_world reading) event s cause outputs units → PutsNoReport (node_of cause)
+    → IsFair s → IsActed (plain_world reading) event s cause outputs units → PutsNoReport (node_of cause)
     → carried_out (plain_world reading) (node_of cause) (count_of cause) (first_of (plain_world reading) cause) outputs units s ≡ goes lines t
     → ReportsDownAreTrue ue bearer reached s → ReportsDownAreTrue ue bearer reached t
-quiet_keeps reading ue bearer reached s t event cause outputs units lines passed acted none is told =
+quiet_keeps reading ue bearer reached s t event cause outputs units lines fair acted none is told =
     told_then ue bearer reached reading event s t cause outputs units lines acted.stands is told
-    (none_tell reached ue bearer (node_of cause) (count_of cause) outputs none (puts_fit reading s event cause outputs units passed acted))
+    (none_tell reached ue bearer (node_of cause) (count_of cause) outputs none (puts_fit reading s event cause outputs units fair acted))

@@ -6,18 +6,12 @@ use Rattle.gnb_types.specs.declared.names.SnBits.{SnBits}
 use Rattle.gnb_types.specs.declared.names.SnBits.TheVariants.{Len12}
 use Rattle.gnb_types.specs.declared.names.UeId.{UeId}
 use Rattle.gnb_types.specs.declared.names.BearerId.{BearerId}
-use Rattle.message_types.specs.declared.rrc.Token.{Token}
-use Rattle.scenario_text.specs.declared.event.Event.{Event}
-use Rattle.unit_defs.specs.Ways.{Message, Pdu}
+use Rattle.unit_defs.specs.Ways.{Pdu}
 use Rattle.unit_defs.specs.UpRecords.{Downlink}
 use Rattle.run_defs.specs.Units.{up_of}
-use Rattle.run_defs.specs.States.{goes, RunStep}
-use Rattle.run_defs.specs.Runs.{Reading, plain_world, plain_way}
-use Rattle.proof_run_steps.specs.steps.Made.{Made}
-use Rattle.proof_run_steps.proofs.steps.Frames.{made_relates}
+use Rattle.run_defs.specs.Runs.{Reading, plain_way}
 use Rattle.proof_run_steps.specs.teids.Given.{below, GiveOnce}
-use Rattle.proof_run_steps.proofs.teids.Runs.{give_same, give_then, placed_gives, answer_gives}
-use Rattle.law_terminals_are_isolated.specs.own_events.Passed.{Passes, not_yet, further}
+use Rattle.law_terminals_are_isolated.specs.own_events.Passed.{not_yet, further}
 use Rattle.bearer_defs.specs.uplink_defs.Parts as up_parts
 use Rattle.bearer_defs.specs.uplink_defs.Orders as up
 use Rattle.proof_cu_up_orders.specs.context_orders.Inputs.{orders_of}
@@ -31,28 +25,16 @@ use Rattle.proof_bearer_refinement.proofs.run_ties.Runs.{up_runs}
 use Rattle.proof_bearer_refinement.proofs.up_ties.Ups as of_cu_ups
 use Rattle.proof_bearer_refinement.specs.put_ties.Worked.{terminal, bearer as its_bearer}
 use Rattle.proof_bearer_refinement.specs.tied_runs.Steps as tied
-use Rattle.proof_bearer_refinement.specs.tied_runs.Steps.{Point, IsPassed, IsTied, IsOfTerminal}
-use Rattle.proof_bearer_refinement.proofs.tied_runs.Sound.{passed_sound}
+use Rattle.proof_bearer_refinement.specs.tied_runs.Steps.{Point, IsTied, IsOfTerminal}
+use Rattle.proof_bearer_refinement.specs.tied_runs.Fair.{IsFair}
+use Rattle.proof_bearer_refinement.proofs.tied_runs.Fair.{fair_sound}
 use Rattle.proof_bearer_refinement.proofs.tied_runs.Runs.{steps_then}
 use Rattle.law_handover_delivers.specs.first_runs.First.{AreFirst, DeliverInOrder}
 use Rattle.law_handover_delivers.proofs.first_runs.Runs.{delivers_after, begins}
 use Rattle.proof_bearer_refinement.proofs.first_ties.Start.{starts, tied as tied_there}
-use Rattle.law_handover_delivers.specs.fresh_uplinks.Later.{AreFresh, Comes, CuUpActs, Step, a_cu_up, a_du, an_offer, a_message, all_else, Steps, not_yet as no_steps, further as one_more}
+use Rattle.law_handover_delivers.specs.fresh_uplinks.Later.{AreFresh, CuUpActs, Step, a_cu_up, a_du, an_offer, a_message, all_else, Steps, not_yet as no_steps, further as one_more}
 use Rattle.law_handover_delivers.proofs.fresh_uplinks.Orders.{IsEmpty, PutsNone, Keeps, all_keep}
 use Rattle.law_handover_delivers.proofs.fresh_uplinks.Puts.{asked_puts_none, puts_elsewhere}
-
--- ---- TEIDs that were given stay so
-
-module _ (reading : Reading) where
-  made_gives : (event : Event) (t u : RunState) (told : List (RunStep (Message Token))) → Made (plain_world reading) event t (goes told u) → GiveOnce t.units u.units
-  made_gives event t u told made =
-      made_relates (plain_world reading) GiveOnce give_same give_then (answer_gives reading) (λ v plan. give_same v)
-      (λ v plan free room teids. placed_gives v plan teids) event t (goes told u) made
-
-  pub passes_give : (event : Event) (s t : RunState) → Passes (plain_world reading) event s t → GiveOnce s.units t.units
-  passes_give event s t (not_yet x) = give_same x.units
-  passes_give event s t (further x y u told before made) =
-      give_then x.units y.units u.units (passes_give event x y before) (made_gives event y u told made)
 
 -- ---- orders of the terminal
 
@@ -163,11 +145,11 @@ module _ (reading : Reading) (n : Numbering) (ue : UeId) (bearer : BearerId) (sn
       stays_fresh (a_message takes) = by_keeping p.up takes.up (λ y teid is. is)
       stays_fresh (all_else stays) = of_rest stays
 
-  pub one_step : (p q : Point) → IsPassed reading p.state → IsPassed reading q.state → Comes reading p.state q.state → Tied p → Fresh p
+  pub one_step : (p q : Point) → IsFair p.state → IsFair q.state → GiveOnce p.state.units q.state.units → Tied p → Fresh p
       → Step reading n ue bearer sn quota p q → tied.Step reading n ue bearer sn quota p q × Fresh q
   one_step p q before after comes ties fresh step = (
     as_tied p q fresh step,
-    stays_fresh p q (passed_sound reading p.state q.state before after) ties (passes_give reading comes.0 p.state q.state comes.1) step fresh,
+    stays_fresh p q (fair_sound p.state q.state before after) ties comes step fresh,
   )
 
   -- ---- steps, one after another

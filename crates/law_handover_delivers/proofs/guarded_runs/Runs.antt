@@ -28,10 +28,10 @@ use Rattle.law_handover_delivers.specs.down_report_runs.Steps.{ReportsDownAreTru
 use Rattle.law_handover_delivers.proofs.down_report_runs.Runs.{one_step as report_step}
 use Rattle.proof_bearer_refinement.proofs.radio_downs.Terminals.{owes_rest}
 use Rattle.proof_run_steps.specs.law_run_links.Own.{HoldTheirOwn}
+use Rattle.proof_run_steps.specs.teids.Given.{GiveOnce}
 use Rattle.proof_bearer_refinement.proofs.heard_ties.Steps.{first_there}
-use Rattle.proof_bearer_refinement.specs.tied_runs.Steps.{Point, IsPassed, IsTied, StaysBeside}
-use Rattle.law_terminals_are_isolated.proofs.own_events.Passed.{sound_past}
-use Rattle.law_handover_delivers.specs.fresh_uplinks.Later.{Comes}
+use Rattle.proof_bearer_refinement.specs.tied_runs.Steps.{Point, IsTied, StaysBeside}
+use Rattle.proof_bearer_refinement.specs.tied_runs.Fair.{IsFair}
 use Rattle.law_handover_delivers.proofs.fresh_uplinks.Runs.{starts_fresh}
 use Rattle.law_handover_delivers.specs.owed_orders.Steady.{IsOld}
 use Rattle.law_handover_delivers.specs.owed_runs.Owing.{NoneIsZero}
@@ -58,13 +58,13 @@ module _ (reading : Reading) (n : Numbering) (ue : UeId) (bearer : BearerId) (sn
   abbrev WholeStep : Point → Point → Type 0
   WholeStep p q = whole.Step reading n ue bearer sn quota p q
 
-  module _ (p q : Point) (passed : IsPassed reading p.state) (passed_then : IsPassed reading q.state) (comes : Comes reading p.state q.state) (all : Whole p)
+  module _ (p q : Point) (fair : IsFair p.state) (fair_then : IsFair q.state) (comes : GiveOnce p.state.units q.state.units) (all : Whole p)
       (way : IsOnItsWay n ue bearer p) (told : ReportsDownAreTrueAt reading n ue bearer sn quota p) where
     kept : IsKept sn quota p.down
     kept = record { first = all.came.first; teid = all.came.teid; orders = all.came.orders; kept = all.came.kept; is = all.came.is }
 
     own : HoldTheirOwn p.state
-    own = (sound_past reading passed.events passed.event passed.before passed.there p.state passed.passes).radios
+    own = fair.sound.radios
 
     -- ---- the terminal
 
@@ -87,7 +87,7 @@ module _ (reading : Reading) (n : Numbering) (ue : UeId) (bearer : BearerId) (sn
       rest : OwedRest a.terminal (both p) bearer a.to a.input
       rest =
           rest_owed a.terminal (both p) bearer a.to a.input
-          (taken_owed reading a.event p.state ue bearer a.terminal (both p) a.cause a.input passed a.acts.node a.acts.given a.acts.stands told) a.owed
+          (taken_owed reading a.event p.state ue bearer a.terminal (both p) a.cause a.input fair a.acts.node a.acts.given a.acts.stands told) a.owed
 
       owes : OwedHeard a.terminal (both p) bearer a.to a.input
       owes =
@@ -114,12 +114,12 @@ module _ (reading : Reading) (n : Numbering) (ue : UeId) (bearer : BearerId) (sn
       there_then : StaysBeside reading n ue bearer sn quota p q × IsAtTerminal reading ue bearer q.state (both q)
           × IsDown (on_air q.state (down_key ue bearer)) q.down
       there_then =
-          first_there reading n ue bearer sn quota p q a.event its_tie a.left a.cause a.outputs a.to passed kept a.input a.acts a.acted way.down a.some rest
+          first_there reading n ue bearer sn quota p q a.event its_tie a.left a.cause a.outputs a.to fair kept a.input a.acts a.acted way.down a.some rest
           a.down a.up
 
       terminal_on : IsOnItsWay n ue bearer q
       terminal_on =
-          terminal_way reading n ue bearer sn quota p q passed comes way all.ties all.came a.event its_tie a.left a.cause a.input a.outputs a.to a.acts a.acted
+          terminal_way reading n ue bearer sn quota p q fair comes way all.ties all.came a.event its_tie a.left a.cause a.input a.outputs a.to a.acts a.acted
           owes a.down there_then.0 there_then.1 there_then.2
 
     -- ---- so each is a step of `whole_runs`, and keeps the way
@@ -135,11 +135,11 @@ module _ (reading : Reading) (n : Numbering) (ue : UeId) (bearer : BearerId) (sn
 
     else_on : (step : WholeStep p q) → OwesWay reading n ue bearer sn quota p q step → IsOnItsWay n ue bearer q
     else_on (whole.a_cu_up a) owes =
-        cu_up_way reading n ue bearer sn quota p q passed passed_then comes way all.ties all.steady all.came all.told a owes
+        cu_up_way reading n ue bearer sn quota p q fair fair_then comes way all.ties all.steady all.came all.told a owes
     else_on (whole.a_du a) owes =
-        du_way reading n ue bearer p q passed comes way a.gnb a.number a.event a.cause a.input a.outputs a.left a.acts a.acted owes a.down
+        du_way reading n ue bearer p q fair comes way a.gnb a.number a.event a.cause a.input a.outputs a.left a.acts a.acted owes a.down
     else_on (whole.its_home a) owes =
-        du_way reading n ue bearer p q passed comes way a.gnb a.number a.event (by_air (up_key ue bearer) (Du a.gnb a.number) a.item) a.input a.outputs
+        du_way reading n ue bearer p q fair comes way a.gnb a.number a.event (by_air (up_key ue bearer) (Du a.gnb a.number) a.item) a.input a.outputs
         a.left a.acts a.acted (λ home f there is connected. absurd (none a.input a.acts.given f is)) a.down
       where
         none : (input : Input Token Pdu) → Some (radio_input a.item.key.ue a.item.key.bearer a.item.key.dir a.item.content.says (content_of a.item.content.says)) ≡ Some input
@@ -148,15 +148,15 @@ module _ (reading : Reading) (n : Numbering) (ue : UeId) (bearer : BearerId) (sn
             let same : radio_input a.item.key.ue a.item.key.bearer a.item.key.dir a.item.content.says (content_of a.item.content.says) ≡ input = cc in
             never ue bearer (du_of p.state.units a.gnb a.number) input
             (subst (λ (i : Input Token Pdu). IsNoItem ue bearer (du_of p.state.units a.gnb a.number) i) same tt) f is
-    else_on (whole.an_offer a) owes = offer_way reading n ue bearer sn quota p q passed comes way a
-    else_on (whole.a_message a) owes = message_way reading n ue bearer sn quota p q passed comes way a
+    else_on (whole.an_offer a) owes = offer_way reading n ue bearer sn quota p q fair comes way a
+    else_on (whole.a_message a) owes = message_way reading n ue bearer sn quota p q fair comes way a
     else_on (whole.the_terminal a) owes = absurd owes
-    else_on (whole.a_cu_cp a) owes = cu_cp_way reading n ue bearer sn quota p q passed comes way a
-    else_on (whole.another_terminal a) owes = other_way reading n ue bearer sn quota p q passed comes way a
-    else_on (whole.a_set_up a) owes = set_up_way reading n ue bearer sn quota p q passed comes way a passed_then
-    else_on (whole.octets a) owes = octets_way reading n ue bearer sn quota p q passed comes way a
-    else_on (whole.a_loss a) owes = loses_way reading n ue bearer sn quota p q passed comes way a
-    else_on (whole.nothing_else a) owes = lands_way reading n ue bearer sn quota p q passed comes way a
+    else_on (whole.a_cu_cp a) owes = cu_cp_way reading n ue bearer sn quota p q fair comes way a
+    else_on (whole.another_terminal a) owes = other_way reading n ue bearer sn quota p q fair comes way a
+    else_on (whole.a_set_up a) owes = set_up_way reading n ue bearer sn quota p q fair comes way a fair_then
+    else_on (whole.octets a) owes = octets_way reading n ue bearer sn quota p q fair comes way a
+    else_on (whole.a_loss a) owes = loses_way reading n ue bearer sn quota p q fair comes way a
+    else_on (whole.nothing_else a) owes = lands_way reading n ue bearer sn quota p q fair comes way a
 
     on_then : Step reading n ue bearer sn quota p q → IsOnItsWay n ue bearer q
     on_then (the_terminal a) = terminal_on a
@@ -168,15 +168,15 @@ module _ (reading : Reading) (n : Numbering) (ue : UeId) (bearer : BearerId) (sn
     abbrev Carried : Point → Type 0
     Carried p = IsCarried reading n ue bearer sn quota p
 
-    pub one_step : (p q : Point) → IsPassed reading p.state → IsPassed reading q.state → Comes reading p.state q.state → Carried p
+    pub one_step : (p q : Point) → IsFair p.state → IsFair q.state → GiveOnce p.state.units q.state.units → Carried p
         → Step reading n ue bearer sn quota p q → WholeStep p q × Carried q
-    one_step p q passed passed_then comes carried step =
-        let its : WholeStep p q = as_whole p q passed passed_then comes carried.all carried.way carried.told step in
-        let next = whole_step reading n ue bearer sn quota positive p q passed passed_then comes carried.all its in
-        let told = report_step reading n ue bearer sn quota positive p q passed passed_then comes carried.all carried.came carried.told
-        (as_whole p q passed passed_then comes carried.all carried.way carried.told step)
-        (its_statuses p q passed passed_then comes carried.all carried.way carried.told step) in
-        (its, record { all = next.1; way = on_then p q passed passed_then comes carried.all carried.way carried.told step; came = told.0; told = told.1 })
+    one_step p q fair fair_then comes carried step =
+        let its : WholeStep p q = as_whole p q fair fair_then comes carried.all carried.way carried.told step in
+        let next = whole_step reading n ue bearer sn quota positive p q fair fair_then comes carried.all its in
+        let told = report_step reading n ue bearer sn quota positive p q fair fair_then comes carried.all carried.came carried.told
+        (as_whole p q fair fair_then comes carried.all carried.way carried.told step)
+        (its_statuses p q fair fair_then comes carried.all carried.way carried.told step) in
+        (its, record { all = next.1; way = on_then p q fair fair_then comes carried.all carried.way carried.told step; came = told.0; told = told.1 })
 
     pub all_steps : (p q : Point) → Carried p → Steps reading n ue bearer sn quota p q → whole.Steps reading n ue bearer sn quota p q × Carried q
     all_steps p q carried (not_yet x) = (whole.not_yet x, carried)

@@ -27,16 +27,17 @@ use Rattle.proof_bearer_refinement.specs.tie_facts.Asked.{AreSound, HopLeads, do
 use Rattle.proof_bearer_refinement.proofs.tie_facts.Ends.{clash}
 use Rattle.proof_bearer_refinement.proofs.put_ties.Apart.{place}
 use Rattle.proof_bearer_refinement.specs.put_ties.Worked.{terminal, bearer as its_bearer}
-use Rattle.proof_bearer_refinement.specs.tied_runs.Steps.{Point, IsPassed, IsTied}
-use Rattle.proof_bearer_refinement.proofs.tied_runs.Sound.{passed_sound}
+use Rattle.proof_bearer_refinement.specs.tied_runs.Steps.{Point, IsTied}
+use Rattle.proof_bearer_refinement.proofs.tied_runs.Fair.{fair_sound}
 use Rattle.proof_bearer_refinement.proofs.tied_runs.Runs.{steps_then}
 use Rattle.proof_bearer_refinement.specs.first_ties.First as first_run
+use Rattle.proof_bearer_refinement.specs.tied_runs.Fair.{IsFair}
 use Rattle.proof_bearer_refinement.proofs.first_ties.Start.{starts, tied as tied_there}
 use Rattle.law_handover_delivers.specs.first_runs.First.{AreFirst, DeliverInOrder}
 use Rattle.law_handover_delivers.proofs.first_runs.Runs.{begins}
 use Rattle.law_handover_delivers.specs.fresh_uplinks.Later as later
-use Rattle.law_handover_delivers.specs.fresh_uplinks.Later.{AreFresh, Comes}
-use Rattle.law_handover_delivers.proofs.fresh_uplinks.Runs.{passes_give, starts_fresh, all_steps as fresh_steps, delivers as fresh_delivers}
+use Rattle.law_handover_delivers.specs.fresh_uplinks.Later.{AreFresh}
+use Rattle.law_handover_delivers.proofs.fresh_uplinks.Runs.{starts_fresh, all_steps as fresh_steps, delivers as fresh_delivers}
 use Rattle.law_handover_delivers.proofs.fresh_uplinks.Begun.{IsPlain, begun, begun_plain, up_plain}
 use Rattle.law_handover_delivers.specs.owed_orders.Steady.{IsOld, EndsWereGiven, IsSteady, AreSteady}
 use Rattle.law_handover_delivers.specs.owed_orders.Owed.{final_asks}
@@ -55,13 +56,10 @@ module _ (reading : Reading) (n : Numbering) (ue : UeId) (bearer : BearerId) (sn
 
   -- ---- a step
 
-  module _ (p q : Point) (before : IsPassed reading p.state) (after : IsPassed reading q.state) (comes : Comes reading p.state q.state) (ties : Tied p)
+  module _ (p q : Point) (before : IsFair p.state) (after : IsFair q.state) (comes : GiveOnce p.state.units q.state.units) (ties : Tied p)
       (steady : Steady p) where
     sound : AreSound p.state q.state
-    sound = passed_sound reading p.state q.state before after
-
-    gives : GiveOnce p.state.units q.state.units
-    gives = passes_give reading comes.0 p.state q.state comes.1
+    sound = fair_sound p.state q.state before after
 
     as_asked : Step reading n ue bearer sn quota p q → later.Step reading n ue bearer sn quota p q
     as_asked (a_cu_up a) = later.a_cu_up (record {
@@ -74,7 +72,7 @@ module _ (reading : Reading) (n : Numbering) (ue : UeId) (bearer : BearerId) (sn
       beside = record a.beside { final = is_final a.input };
       acts = a.acts;
       asks = step_asked reading n ue bearer p.state q.state a.gnb a.number a.cause a.input a.outputs a.left a.acts sound
-          (passed_sound reading p.state p.state before before).own sn quota p.down p.up ties a.beside steady a.owes;
+          (fair_sound p.state p.state before before).own sn quota p.down p.up ties a.beside steady a.owes;
       down = a.down;
       up = a.up;
     })
@@ -91,14 +89,14 @@ module _ (reading : Reading) (n : Numbering) (ue : UeId) (bearer : BearerId) (sn
         (subst (λ (u : up_parts.Part).
         AreSteady n ue bearer q.state.units (down_after n ue bearer p.state.units sn quota p.down cs hs) u (contexts_of n ue bearer q.state.units)) (sym a.up)
         (steady_then reading n ue bearer p.state q.state a.gnb a.number a.cause a.input a.outputs a.left a.acts sound
-        (passed_sound reading p.state p.state before before).own sn quota p.down p.up ties a.beside steady positive gives a.owes))
+        (fair_sound p.state p.state before before).own sn quota p.down p.up ties a.beside steady positive comes a.owes))
 
     stays_steady : Step reading n ue bearer sn quota p q → Steady q
     stays_steady (a_cu_up a) = of_cu_up a
-    stays_steady (a_du a) = du_steady reading n ue bearer sn quota p q gives steady a
-    stays_steady (an_offer a) = offer_steady reading n ue bearer sn quota p q gives steady a
-    stays_steady (a_message a) = message_steady reading n ue bearer sn quota p q gives steady a
-    stays_steady (all_else a) = beside_steady reading n ue bearer sn quota p q gives steady a
+    stays_steady (a_du a) = du_steady reading n ue bearer sn quota p q comes steady a
+    stays_steady (an_offer a) = offer_steady reading n ue bearer sn quota p q comes steady a
+    stays_steady (a_message a) = message_steady reading n ue bearer sn quota p q comes steady a
+    stays_steady (all_else a) = beside_steady reading n ue bearer sn quota p q comes steady a
 
     pub one_step : Step reading n ue bearer sn quota p q → later.Step reading n ue bearer sn quota p q × Steady q
     one_step step = (as_asked step, stays_steady step)

@@ -21,15 +21,16 @@ use Rattle.proof_bearer_refinement.specs.run_bearers.Bearers.{Numbering}
 use Rattle.proof_bearer_refinement.specs.tie_facts.Asked.{AreSound}
 use Rattle.proof_bearer_refinement.specs.put_ties.Worked.{terminal, bearer as its_bearer}
 use Rattle.proof_bearer_refinement.specs.tied_runs.Steps as tied
-use Rattle.proof_bearer_refinement.specs.tied_runs.Steps.{Point, IsPassed, IsTied, AreOrders}
-use Rattle.proof_bearer_refinement.proofs.tied_runs.Sound.{passed_sound}
+use Rattle.proof_bearer_refinement.specs.tied_runs.Steps.{Point, IsTied, AreOrders}
+use Rattle.proof_bearer_refinement.proofs.tied_runs.Fair.{fair_sound}
 use Rattle.proof_bearer_refinement.proofs.tied_runs.Runs.{step_then}
 use Rattle.proof_bearer_refinement.specs.first_ties.First as first_run
+use Rattle.proof_bearer_refinement.specs.tied_runs.Fair.{IsFair}
 use Rattle.proof_bearer_refinement.proofs.first_ties.Start.{starts, tied as tied_there}
 use Rattle.law_handover_delivers.specs.first_runs.First.{AreFirst, DeliverInOrder}
 use Rattle.law_handover_delivers.proofs.first_runs.Runs.{begins}
 use Rattle.law_handover_delivers.specs.fresh_uplinks.Later as later
-use Rattle.law_handover_delivers.specs.fresh_uplinks.Later.{AreFresh, Comes}
+use Rattle.law_handover_delivers.specs.fresh_uplinks.Later.{AreFresh}
 use Rattle.law_handover_delivers.proofs.fresh_uplinks.Runs.{starts_fresh, one_step as fresh_step}
 use Rattle.law_handover_delivers.specs.owed_orders.Steady.{IsOld}
 use Rattle.law_handover_delivers.specs.owed_runs.Owing as owed
@@ -37,6 +38,7 @@ use Rattle.law_handover_delivers.specs.owed_runs.Owing.{NoneIsZero, IsSteadyAt}
 use Rattle.law_handover_delivers.proofs.owed_runs.Runs.{one_step as owed_step, first_steady, delivers as owed_delivers, first_old}
 use Rattle.law_handover_delivers.specs.path_ties.Paths.{CameAbout, LeadsAt, Step, a_cu_up, a_du, an_offer, a_message, all_else, Steps, not_yet, further}
 use Rattle.law_handover_delivers.proofs.path_ties.Leads.{is_one, du_leads, offer_leads, beside_leads, message_leads, cu_up_leads}
+use Rattle.proof_run_steps.specs.teids.Given.{GiveOnce}
 
 number_same : (a : ℕ) → (a == a) ≡ true
 number_same a = grind arith
@@ -85,9 +87,9 @@ module _ (reading : Reading) (n : Numbering) (ue : UeId) (bearer : BearerId) (sn
     pub came : CameAbout sn quota p.down
     pub leads : Leads p
 
-  module _ (p q : Point) (before : IsPassed reading p.state) (after : IsPassed reading q.state) (comes : Comes reading p.state q.state) (along : IsAlong p) where
+  module _ (p q : Point) (before : IsFair p.state) (after : IsFair q.state) (comes : GiveOnce p.state.units q.state.units) (along : IsAlong p) where
     sound : AreSound p.state q.state
-    sound = passed_sound reading p.state q.state before after
+    sound = fair_sound p.state q.state before after
 
     as_owed : Step reading n ue bearer sn quota p q → owed.Step reading n ue bearer sn quota p q
     as_owed (a_cu_up a) = owed.a_cu_up a

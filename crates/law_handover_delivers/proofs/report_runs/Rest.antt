@@ -25,11 +25,11 @@ use Rattle.proof_run_steps.specs.steps.Causes.{count_of}
 use Rattle.proof_run_steps.specs.facts.Facts.{PutsFit}
 use Rattle.proof_run_steps.specs.facts.UnitFacts.{written_facts}
 use Rattle.law_tunnels_are_owned.proofs.link_items.Names.{link_items}
-use Rattle.proof_bearer_refinement.specs.tied_runs.Steps.{IsPassed}
 use Rattle.proof_bearer_refinement.specs.radio_ties.Radio.{RunState, up_key, IsOff}
+use Rattle.proof_bearer_refinement.specs.tied_runs.Fair.{IsFair}
 use Rattle.law_handover_delivers.specs.report_links.Reports.{StandingIsTrue, ReportsAreTrue, RunItem, RunPut, PutsAreTrue}
 use Rattle.law_handover_delivers.proofs.report_links.Airs.{told_then, told_put}
-use Rattle.law_handover_delivers.proofs.report_ties.Quiet.{puts_fit}
+use Rattle.proof_bearer_refinement.proofs.tied_runs.Fair.{puts_fit}
 use Rattle.law_handover_delivers.specs.report_runs.Steps.{OtherActs, CoreReads}
 
 module _ (ue : UeId) (bearer : BearerId) (deliv : ℕ) where
@@ -97,10 +97,10 @@ module _ (ue : UeId) (bearer : BearerId) (deliv : ℕ) where
   others_tell number taken (failed u cause ∷ outputs) fit off = (tt, others_tell number taken outputs fit.1 off.1)
   others_tell number taken (no reason ∷ outputs) fit off = (tt, others_tell number taken outputs fit.1 off.1)
 
-  pub other_told : (reading : Reading) (s t : RunState) → IsPassed reading s → OtherActs reading ue bearer s t → ReportsAreTrue ue bearer deliv s
+  pub other_told : (reading : Reading) (s t : RunState) → IsFair s → OtherActs reading ue bearer s t → ReportsAreTrue ue bearer deliv s
       → ReportsAreTrue ue bearer deliv t
-  other_told reading s t passed a told =
+  other_told reading s t fair a told =
       told_then ue bearer deliv reading a.event s t a.cause a.outputs a.units a.beside.lines a.acted.stands a.beside.goes_on told
       (others_tell a.number (count_of a.cause) a.outputs
       (subst (λ (node : NodeId). PutsFit (written_facts link_items) node (count_of a.cause) a.outputs) a.node
-      (puts_fit reading s a.event a.cause a.outputs a.units passed a.acted)) a.beside.off)
+      (puts_fit reading s a.event a.cause a.outputs a.units fair a.acted)) a.beside.off)

@@ -27,8 +27,8 @@ use Rattle.proof_bearer_refinement.specs.run_bearers.Bearers.{Numbering, context
 use Rattle.proof_bearer_refinement.specs.tie_facts.Ties.{RunState}
 use Rattle.proof_bearer_refinement.specs.tie_facts.Asked.{down_after}
 use Rattle.proof_bearer_refinement.specs.put_ties.Worked.{terminal, bearer as its_bearer, plan}
-use Rattle.proof_bearer_refinement.specs.tied_runs.Steps.{Point, IsPassed, IsTied}
-use Rattle.proof_bearer_refinement.proofs.tied_runs.Sound.{passed_sound}
+use Rattle.proof_bearer_refinement.specs.tied_runs.Steps.{Point, IsTied}
+use Rattle.proof_bearer_refinement.proofs.tied_runs.Fair.{fair_sound}
 use Rattle.proof_bearer_refinement.specs.first_ties.First as first_run
 use Rattle.proof_bearer_refinement.proofs.first_ties.Start.{starts, tied as tied_there}
 use Rattle.law_handover_delivers.specs.first_runs.First.{AreFirst, DeliverInOrder}
@@ -39,14 +39,14 @@ use Rattle.law_handover_delivers.specs.owed_orders.Owed.{final_asks}
 use Rattle.law_handover_delivers.specs.owed_runs.Owing.{NoneIsZero}
 use Rattle.law_handover_delivers.proofs.owed_runs.Runs.{first_steady, first_old}
 use Rattle.law_handover_delivers.specs.path_ties.Paths as path
-use Rattle.law_handover_delivers.specs.path_ties.Paths.{CameAbout, LeadsAt, CoreOffers, CoreTakes}
+use Rattle.law_handover_delivers.specs.path_ties.Paths.{CameAbout, LeadsAt}
 use Rattle.law_handover_delivers.proofs.path_ties.Runs.{IsAlong, one_step as path_step, leads_there, delivers as path_delivers}
 use Rattle.proof_bearer_refinement.specs.beside_downs.Nodes.{HasNoRadio}
 use Rattle.proof_bearer_refinement.specs.radio_downs.Down.{down_key}
 use Rattle.proof_bearer_refinement.specs.radio_downs.Heard.{IsKept}
 use Rattle.proof_bearer_refinement.specs.known_airs.Known.{AreKnown, Hears}
+use Rattle.proof_bearer_refinement.specs.tied_runs.Fair.{IsFair}
 use Rattle.proof_bearer_refinement.proofs.known_airs.Hears.{taken_known}
-use Rattle.law_terminals_are_isolated.proofs.own_events.Passed.{sound_past}
 use Rattle.proof_bearer_refinement.proofs.known_airs.Steps.{known_later, silent_known, known_then, known_put}
 use Rattle.law_handover_delivers.specs.report_links.Reports.{ReportsAreTrue}
 use Rattle.law_handover_delivers.proofs.report_links.Airs.{told_first_lost, told_alike, told_later, told_at_first}
@@ -105,7 +105,7 @@ module _ (reading : Reading) (n : Numbering) (ue : UeId) (bearer : BearerId) (sn
 
   -- ---- a step
 
-  module _ (p q : Point) (passed : IsPassed reading p.state) (came : CameAbout sn quota p.down) (told : Told p) (known : Known p) where
+  module _ (p q : Point) (fair : IsFair p.state) (came : CameAbout sn quota p.down) (told : Told p) (known : Known p) where
     abbrev deliv : ℕ
     deliv = p.down.terminal.deliv
 
@@ -130,7 +130,7 @@ module _ (reading : Reading) (n : Numbering) (ue : UeId) (bearer : BearerId) (sn
       beside = a.beside;
       acts = a.acts;
       owes = all_owed reading n ue bearer sn quota p.state q.state a.gnb a.number a.cause a.input a.outputs a.left a.acts
-          (passed_sound reading p.state p.state passed passed).own a.beside p.down p.up told a.owes;
+          (fair_sound p.state p.state fair fair).own a.beside p.down p.up told a.owes;
       down = a.down;
       up = a.up;
     })
@@ -153,9 +153,9 @@ module _ (reading : Reading) (n : Numbering) (ue : UeId) (bearer : BearerId) (sn
         terminal_keeps reading a.event p.state q.state ue bearer (record { up = p.up; down = p.down }) a.tie sn quota kept a.left a.cause a.input a.outputs
         a.acts told
     made (a_cu_cp a) =
-        quiet_keeps reading ue bearer deliv p.state q.state a.event a.cause a.outputs a.units a.lines passed a.acted
+        quiet_keeps reading ue bearer deliv p.state q.state a.event a.cause a.outputs a.units a.lines fair a.acted
         (subst (λ (node : NodeId). HasNoRadio node) (sym a.node) tt) a.goes_on told
-    made (another_terminal a) = other_told ue bearer deliv reading p.state q.state passed a told
+    made (another_terminal a) = other_told ue bearer deliv reading p.state q.state fair a told
     made (a_set_up its is) = subst (λ (t : RunState). ReportsAreTrue ue bearer deliv t) (sym is) (set_up_told ue bearer deliv its p.state told)
     made (the_core_reads a) = octets_told ue bearer deliv reading p.state q.state a told
     made (a_loss a) = told_first_lost ue bearer deliv p.state q.state a.end a.item a.rest a.stands a.tunnels (a.radios Ul) told
@@ -164,13 +164,13 @@ module _ (reading : Reading) (n : Numbering) (ue : UeId) (bearer : BearerId) (sn
     leaves : Step reading n ue bearer sn quota p q → Left
     leaves (a_cu_up a) =
         quiet_keeps reading ue bearer deliv p.state q.state a.event a.cause (map (written_put (sn_of p.state)) a.outputs)
-        (with_up p.state.units a.gnb a.number a.left) a.acts.lines passed a.acted
+        (with_up p.state.units a.gnb a.number a.left) a.acts.lines fair a.acted
         (subst (λ (node : NodeId). HasNoRadio node) (sym a.acts.node) tt) a.acts.goes_on told
     leaves (a_du a) =
-        du_keeps reading a.event p.state q.state ue bearer deliv a.gnb a.number a.cause a.input a.outputs a.left passed
+        du_keeps reading a.event p.state q.state ue bearer deliv a.gnb a.number a.cause a.input a.outputs a.left fair
         a.acted a.acts known told
     leaves (an_offer a) = offer_keeps reading p.state q.state ue bearer deliv a.who a.which a.packet a.path a.offers told
-    leaves (a_message a) = message_keeps reading p.state q.state ue bearer deliv a.number a.letter a.outputs a.core passed a.takes told
+    leaves (a_message a) = message_keeps reading p.state q.state ue bearer deliv a.number a.letter a.outputs a.core fair a.takes told
     leaves (all_else a) = made a.makes
 
     -- ---- what was carried down and isn't confirmed was received, now that so much was received
@@ -189,7 +189,7 @@ module _ (reading : Reading) (n : Numbering) (ue : UeId) (bearer : BearerId) (sn
       hears a =
           subst (λ (d : down_parts.Part). Hears key d.terminal.deliv a.cause) (sym a.down)
           (taken_known a.tie.terminal (record { up = p.up; down = p.down }) bearer a.to sn quota kept a.some reading a.event p.state
-          (sound_past reading passed.events passed.event passed.before passed.there p.state passed.passes).radios ue a.input a.cause a.acts.given
+          fair.sound.radios ue a.input a.cause a.acts.given
           a.acts.stands a.owed)
 
       made_knows : Makes reading n ue bearer sn quota p q → Known q

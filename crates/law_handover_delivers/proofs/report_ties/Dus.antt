@@ -28,7 +28,6 @@ use Rattle.proof_run_steps.specs.facts.UnitFacts.{written_facts}
 use Rattle.law_terminals_are_isolated.specs.own_steps.Own.{IsActed}
 use Rattle.proof_run_steps.proofs.facts.Steps.{nth_has}
 use Rattle.law_terminals_are_isolated.proofs.own_steps.Steps.{Sound}
-use Rattle.law_terminals_are_isolated.proofs.own_events.Passed.{sound_past}
 use Rattle.law_tunnels_are_owned.proofs.owner_facts.Owners.{first_of, second_of}
 use Rattle.law_tunnels_are_owned.proofs.link_items.Names.{link_items}
 use Rattle.proof_run_steps.specs.law_run_links.Own.{HoldTheirOwn}
@@ -42,11 +41,11 @@ use Rattle.proof_run_steps.specs.radio_steps.Radios.{on_air}
 use Rattle.proof_bearer_refinement.specs.radio_ties.Radio.{RunState, RunCause, OnRadio, up_key}
 use Rattle.proof_bearer_refinement.specs.radio_downs.Down.{down_key}
 use Rattle.proof_bearer_refinement.specs.known_airs.Known.{WasBelow, AreKnown}
+use Rattle.proof_bearer_refinement.specs.tied_runs.Fair.{IsFair}
 use Rattle.proof_bearer_refinement.proofs.known_airs.Steps.{acked_known}
-use Rattle.proof_bearer_refinement.specs.tied_runs.Steps.{IsPassed}
 use Rattle.law_handover_delivers.specs.report_links.Reports.{PduIsTrue, LoadIsTrue, RadioIsTrue, ReportsAreTrue, PutsAreTrue}
 use Rattle.law_handover_delivers.proofs.report_links.Airs.{told_then}
-use Rattle.law_handover_delivers.proofs.report_ties.Quiet.{puts_fit}
+use Rattle.proof_bearer_refinement.proofs.tied_runs.Fair.{puts_fit}
 
 abbrev Outs : Type 0
 Outs = List (Output (Message Token) Pdu)
@@ -184,13 +183,13 @@ module _ (ue : UeId) (bearer : BearerId) (deliv : ℕ) where
     input_tells reading gnb number input (by_letter k l to) at given stands = so (control_input l.from l.message) input given tt
 
 pub du_keeps : (reading : Reading) (event : Event) (s t : RunState) (ue : UeId) (bearer : BearerId) (deliv : ℕ) (gnb : Gnb) (number : ℕ) (cause : RunCause)
-    (input : Input Token Pdu) (outputs : Outs) (left : DuRecord) → IsPassed reading s
+    (input : Input Token Pdu) (outputs : Outs) (left : DuRecord) → IsFair s
     → IsActed (plain_world reading) event s cause (map (written_put (sn_of s)) outputs) (with_du s.units gnb number left)
     → IsDuStep reading s t gnb number cause input outputs left → AreKnown (radio_of s (down_key ue bearer)) deliv
     → ReportsAreTrue ue bearer deliv s → ReportsAreTrue ue bearer deliv t
 unfolding Puts
-du_keeps reading event s t ue bearer deliv gnb number cause input outputs left passed acted step known told =
-    let sound : Sound s = sound_past reading passed.events passed.event passed.before passed.there s passed.passes in
+du_keeps reading event s t ue bearer deliv gnb number cause input outputs left fair acted step known told =
+    let sound : Sound s = fair.sound in
     let r : DuRecord = du_of s.units gnb number in
     let listed : tunnels_put ue bearer outputs ≡ ups_by plain_way ue bearer r input
     = (subst (λ (a : Answer (Message Token) Pdu DuRecord). Puts ue bearer (ups_by plain_way ue bearer r input)
@@ -204,4 +203,4 @@ du_keeps reading event s t ue bearer deliv gnb number cause input outputs left p
     acted.stands step.goes_on told
     (outputs_tell ue bearer deliv gnb number (node_of cause) step.node (sn_of s) (count_of cause) outputs
     (subst (λ (n : NodeId). PutsFit (written_facts link_items) n (count_of cause) (map (written_put (sn_of s)) outputs)) step.node
-    (puts_fit reading s event cause (map (written_put (sn_of s)) outputs) (with_du s.units gnb number left) passed acted)) tells)
+    (puts_fit reading s event cause (map (written_put (sn_of s)) outputs) (with_du s.units gnb number left) fair acted)) tells)

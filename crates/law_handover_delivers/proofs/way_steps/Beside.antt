@@ -25,11 +25,8 @@ use Rattle.proof_cu_up_orders.specs.context_orders.Orders.{UpPart}
 use Rattle.proof_bearer_refinement.specs.run_bearers.Bearers.{Numbering, contexts_of}
 use Rattle.proof_run_steps.specs.tunnel_steps.Standing.{standing}
 use Rattle.proof_bearer_refinement.specs.tie_facts.Ties.{RunState, RunItem}
-use Rattle.proof_bearer_refinement.specs.tied_runs.Steps.{Point, IsPassed}
-use Rattle.law_terminals_are_isolated.proofs.own_events.Passed.{sound_past}
-use Rattle.law_terminals_are_isolated.proofs.own_steps.Steps.{Sound}
-use Rattle.law_handover_delivers.specs.fresh_uplinks.Later.{Comes}
-use Rattle.law_handover_delivers.proofs.fresh_uplinks.Runs.{passes_give}
+use Rattle.proof_bearer_refinement.specs.tied_runs.Steps.{Point}
+use Rattle.proof_bearer_refinement.specs.tied_runs.Fair.{IsFair}
 use Rattle.law_handover_delivers.specs.way_links.Links.{AreLeft, all, rest, none, Waits}
 use Rattle.law_handover_delivers.proofs.way_links.Homes.{home_stands}
 use Rattle.law_handover_delivers.proofs.way_links.Airs.{waits_later}
@@ -44,20 +41,14 @@ left_sends before frames (none is) d x c du waits h =
     subst (λ (fs : List Frame). IsSending d x c (record { du = du; frames = fs; waits = waits })) (sym is)
     (all_lost d x c (record { du = du; frames = before; waits = waits }) h)
 
-pub sound_at : (reading : Reading) (s : RunState) → IsPassed reading s → Sound s
-sound_at reading s passed = sound_past reading passed.events passed.event passed.before passed.there s passed.passes
-
 -- the tunnel of a DU's bearer is open
-pub home_open : (reading : Reading) (ue : UeId) (bearer : BearerId) (s : RunState) → IsPassed reading s → (g : Gnb) (k : ℕ) (home : DuPart)
+pub home_open : (reading : Reading) (ue : UeId) (bearer : BearerId) (s : RunState) → IsFair s → (g : Gnb) (k : ℕ) (home : DuPart)
     → du_part_of (du_of s.units g k) ue bearer ≡ Some home → (items : List RunItem) × (standing s (du_end g k home.bearer.downlink) ≡ Some items)
-home_open reading ue bearer s passed g k home there =
-    let sound : Sound s = sound_at reading s passed in home_stands ue bearer s sound.standing g k (sound.owned.1 g k) home there
+home_open reading ue bearer s fair g k home there =
+    home_stands ue bearer s fair.sound.standing g k (fair.sound.owned.1 g k) home there
 
-module _ (reading : Reading) (n : Numbering) (ue : UeId) (bearer : BearerId) (p q : Point) (passed : IsPassed reading p.state)
-    (comes : Comes reading p.state q.state) (way : IsOnItsWay n ue bearer p) where
-  pub gives_so : GiveOnce p.state.units q.state.units
-  gives_so = passes_give reading comes.0 p.state q.state comes.1
-
+module _ (reading : Reading) (n : Numbering) (ue : UeId) (bearer : BearerId) (p q : Point) (fair : IsFair p.state)
+    (comes : GiveOnce p.state.units q.state.units) (way : IsOnItsWay n ue bearer p) where
   -- the context that leads there did so before
   module _ (contexts : contexts_of n ue bearer q.state.units ≡ contexts_of n ue bearer p.state.units) (stays : (y : ℕ) → Stays y p.down q.down) where
     pub led : (x : ℕ) (part : UpPart) (g : Gnb) (k teid : ℕ) → Leads n ue bearer q x part g k teid → Leads n ue bearer p x part g k teid
@@ -76,7 +67,7 @@ module _ (reading : Reading) (n : Numbering) (ue : UeId) (bearer : BearerId) (p 
         → teid + 1 ≤ below (du_of q.state.units g k).next_teid
     given_then x part g k teid l =
         let low = way.given x part g k teid (led x part g k teid l) in
-        let more = (gives_so.1 g k).0 in omega (arith, low, more)
+        let more = (comes.1 g k).0 in omega (arith, low, more)
 
   -- contexts stay, and what DUs have of the bearer; no frame comes, and the same waits on the radio
   pub record Keeps : Type 0 where
@@ -104,7 +95,7 @@ module _ (reading : Reading) (n : Numbering) (ue : UeId) (bearer : BearerId) (p 
           → IsSending q.down x part.bearer (record { du = home.bearer; frames = frames_in items; waits = later.down.waits })
       sends_then x part g m home items w =
           let at : du_part_of (du_of p.state.units g m) ue bearer ≡ Some home = sym (k.parts g m) ∙ w.at in
-          let opened = home_open reading ue bearer p.state passed g m home at in
+          let opened = home_open reading ue bearer p.state fair g m home at in
           let was = way.sends x part g m home opened.0 (record {
             from = led k.contexts k.stays x part g m home.bearer.downlink w.from;
             at = at;

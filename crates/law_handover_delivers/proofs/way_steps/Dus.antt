@@ -26,7 +26,7 @@ use Rattle.run_defs.specs.States.{sn_of}
 use Rattle.run_defs.specs.Runs.{Reading, plain_world, plain_way}
 use Rattle.proof_run_steps.specs.steps.Causes.{by_order, by_tick, by_octets, by_octets_on, by_attach, by_release, by_offer, by_item, by_air, by_ack, by_letter, Stands}
 use Rattle.proof_run_steps.proofs.steps.Frames.{HasUnits, units_by, act_units}
-use Rattle.proof_run_steps.specs.teids.Given.{below}
+use Rattle.proof_run_steps.specs.teids.Given.{below, GiveOnce}
 use Rattle.law_downlink_order.specs.path.Paths.{Frame, carried_by, gap_after, taken_by}
 use Rattle.proof_node_orders.specs.du_inputs.Changes.{DuPart, Change, stays, takes, renews, sets_up, ends, changed, change_by, part_of as du_part_of, Has}
 use Rattle.proof_node_orders.proofs.du_inputs.Control.{input_has}
@@ -35,7 +35,7 @@ use Rattle.proof_bearer_refinement.proofs.du_radios.Puts.{puts_frames}
 use Rattle.law_tunnels_are_owned.specs.new_downlinks.New.{IsNew}
 use Rattle.law_tunnels_are_owned.proofs.new_downlinks.New.{is_new}
 use Rattle.law_tunnels_are_owned.specs.owner_facts.Owned.{DuOwns}
-use Rattle.law_handover_delivers.proofs.report_ties.Quiet.{puts_fit}
+use Rattle.proof_bearer_refinement.proofs.tied_runs.Fair.{puts_fit}
 use Rattle.proof_bearer_refinement.specs.frame_ties.Frames.{du_end, frames_in}
 use Rattle.proof_run_steps.specs.radio_steps.Radios.{on_air}
 use Rattle.proof_bearer_refinement.specs.radio_ties.Radio.{RunCause}
@@ -55,16 +55,16 @@ use Rattle.proof_bearer_refinement.specs.put_ties.Puts.{IsDuStep}
 use Rattle.proof_bearer_refinement.proofs.put_ties.Apart.{contexts_same}
 use Rattle.proof_bearer_refinement.proofs.put_ties.Stands.{ups_stay}
 use Rattle.law_terminals_are_isolated.specs.own_steps.Own.{IsActed}
-use Rattle.proof_bearer_refinement.specs.tied_runs.Steps.{Point, IsPassed}
-use Rattle.law_handover_delivers.specs.fresh_uplinks.Later.{Comes}
+use Rattle.proof_bearer_refinement.specs.tied_runs.Steps.{Point}
 use Rattle.proof_bearer_refinement.specs.beside_ties.Nodes.{IsNoTerminal}
+use Rattle.proof_bearer_refinement.specs.tied_runs.Fair.{IsFair}
 use Rattle.proof_bearer_refinement.proofs.beside_ties.Beside.{is_beside}
 use Rattle.law_handover_delivers.specs.way_links.Links.{IsNoCuUp, IsFrom, AreLeft, Waits}
 use Rattle.law_handover_delivers.proofs.way_links.Tunnels.{step_from, from_left, first_left}
 use Rattle.law_handover_delivers.proofs.way_links.Homes.{du_then, du_same, dus_stay}
 use Rattle.law_handover_delivers.proofs.way_links.Airs.{waits_more, du_stays}
 use Rattle.law_handover_delivers.specs.way_steps.Way.{Leads, IsWay, IsOnItsWay, IsSentTo, OwesFrame}
-use Rattle.law_handover_delivers.proofs.way_steps.Beside.{left_sends, sound_at, home_open, led, given_then, alone_then}
+use Rattle.law_handover_delivers.proofs.way_steps.Beside.{left_sends, home_open, led, given_then, alone_then}
 use Rattle.law_handover_delivers.proofs.way_steps.Frames.{IsFirst, first_is}
 
 abbrev Packets : Type 0
@@ -106,8 +106,8 @@ taken_left event s end before items was (by_air key home item) stands is = from_
 taken_left event s end before items was (by_ack key home item others) stands is = from_left (standing s end) before items was is
 taken_left event s end before items was (by_letter k l to) stands is = from_left (standing s end) before items was is
 
-module _ (reading : Reading) (n : Numbering) (ue : UeId) (bearer : BearerId) (p q : Point) (passed : IsPassed reading p.state)
-    (comes : Comes reading p.state q.state) (way : IsOnItsWay n ue bearer p) (gnb : Gnb) (number : ℕ) (event : Event) (cause : RunCause)
+module _ (reading : Reading) (n : Numbering) (ue : UeId) (bearer : BearerId) (p q : Point) (fair : IsFair p.state)
+    (comes : GiveOnce p.state.units q.state.units) (way : IsOnItsWay n ue bearer p) (gnb : Gnb) (number : ℕ) (event : Event) (cause : RunCause)
     (input : Input Token Pdu) (outputs : List (Output (Message Token) Pdu)) (left : DuRecord)
     (acts : IsDuStep reading p.state q.state gnb number cause input outputs left)
     (acted : IsActed (plain_world reading) event p.state cause (map (written_put (sn_of p.state)) outputs) (with_du p.state.units gnb number left))
@@ -125,7 +125,7 @@ module _ (reading : Reading) (n : Numbering) (ue : UeId) (bearer : BearerId) (p 
   at = (on_air p.state (down_key ue bearer)).epoch
 
   owns : DuOwns r
-  owns = (sound_at reading p.state passed).owned.1 gnb number
+  owns = fair.sound.owned.1 gnb number
 
   -- ---- what the DU has then
 
@@ -160,7 +160,7 @@ module _ (reading : Reading) (n : Numbering) (ue : UeId) (bearer : BearerId) (p 
   frames_from g k teid items is =
       step_from g k teid reading cause (map (written_put (sn_of p.state)) outputs) (with_du p.state.units gnb number left) p.state q.state acts.lines acts.goes_on
       (subst (λ (node : NodeId). IsNoCuUp node) (sym acts.node) tt)
-      (puts_fit reading p.state event cause (map (written_put (sn_of p.state)) outputs) (with_du p.state.units gnb number left) passed acted) items is
+      (puts_fit reading p.state event cause (map (written_put (sn_of p.state)) outputs) (with_du p.state.units gnb number left) fair acted) items is
 
   -- ---- what it puts on the radio fits there
 
@@ -239,7 +239,7 @@ module _ (reading : Reading) (n : Numbering) (ue : UeId) (bearer : BearerId) (p 
       (waits_more reading event p.state q.state ue bearer p.down cause (map (written_put (sn_of p.state)) outputs) (with_du p.state.units gnb number left)
       acted.stands
       (du_stays ue bearer cause (du_id gnb number) acts.node tt (λ g e. absurd cc))
-      (is_beside reading ue bearer p.state q.state event cause (map (written_put (sn_of p.state)) outputs) (with_du p.state.units gnb number left) acts.lines passed
+      (is_beside reading ue bearer p.state q.state event cause (map (written_put (sn_of p.state)) outputs) (with_du p.state.units gnb number left) acts.lines fair
       acted (subst (λ (node : NodeId). IsNoTerminal node) (sym acts.node) tt) acts.goes_on)
       way.down (subst (λ (m : Packets). Fits p.down way.down.waits m) (sym put_is) put_fits))
 
@@ -251,7 +251,7 @@ module _ (reading : Reading) (n : Numbering) (ue : UeId) (bearer : BearerId) (p 
 
   module _ (x : ℕ) (leads : UpPart) (g : Gnb) (k : ℕ) (home : DuPart) (items : List RunItem) (w : IsWay n ue bearer q x leads g k home items) where
     its_leads : Leads n ue bearer p x leads g k home.bearer.downlink
-    its_leads = led reading n ue bearer p q passed comes way contexts_are down_stays x leads g k home.bearer.downlink w.from
+    its_leads = led reading n ue bearer p q fair comes way contexts_are down_stays x leads g k home.bearer.downlink w.from
 
     connected_there : at ≡ Some home.epoch
     connected_there = sym waits_then.at ∙ w.connected
@@ -259,7 +259,7 @@ module _ (reading : Reading) (n : Numbering) (ue : UeId) (bearer : BearerId) (p 
     -- where the DU has the bearer as it had it
     as_before : du_part_of (du_of p.state.units g k) ue bearer ≡ Some home → Sends x leads home items
     as_before there =
-        let opened = home_open reading ue bearer p.state passed g k home there in
+        let opened = home_open reading ue bearer p.state fair g k home there in
         let was = way.sends x leads g k home opened.0 (record { from = its_leads; at = there; connected = connected_there; stands = opened.1 }) in
         left_sends (frames_in opened.0) (frames_in items)
         (taken_left event p.state (du_end g k home.bearer.downlink) opened.0 items opened.1 cause acted.stands
@@ -348,6 +348,6 @@ module _ (reading : Reading) (n : Numbering) (ue : UeId) (bearer : BearerId) (p 
         sends = λ x leads g k home items w.
             subst (λ (ws : Packets). IsSending q.down x leads.bearer (record { du = home.bearer; frames = frames_in items; waits = ws })) (sym h.same)
             (sends x leads g k home items w);
-        given = given_then reading n ue bearer p q passed comes way contexts_are down_stays;
-        alone = alone_then reading n ue bearer p q passed comes way contexts_are down_stays;
+        given = given_then reading n ue bearer p q fair comes way contexts_are down_stays;
+        alone = alone_then reading n ue bearer p q fair comes way contexts_are down_stays;
       }

@@ -42,7 +42,7 @@ use Rattle.proof_run_steps.specs.facts.UnitFacts.{written_facts}
 use Rattle.law_tunnels_are_owned.proofs.link_items.Names.{link_items}
 use Rattle.law_tunnels_are_owned.proofs.link_items.Links.{items_keep}
 use Rattle.proof_run_steps.proofs.facts.Plain.{plain_kept}
-use Rattle.law_handover_delivers.proofs.report_ties.Quiet.{held_past, puts_fit}
+use Rattle.proof_bearer_refinement.proofs.tied_runs.Fair.{puts_fit}
 use Rattle.law_handover_delivers.specs.report_links.Reports.{RunPut}
 use Rattle.proof_run_steps.specs.radio_steps.Radios.{on_air}
 use Rattle.proof_bearer_refinement.specs.radio_ties.Radio.{RunCause, up_key, IsBeside, Leaves}
@@ -55,16 +55,17 @@ use Rattle.proof_cu_up_orders.specs.context_orders.Shown.{is_bearer}
 use Rattle.proof_bearer_refinement.specs.run_bearers.Things.{PlainUnits}
 use Rattle.proof_bearer_refinement.specs.run_bearers.Bearers.{Numbering, contexts_of}
 use Rattle.proof_run_steps.specs.tunnel_steps.Standing.{standing, after_taking}
+use Rattle.proof_run_steps.specs.teids.Given.{GiveOnce}
 use Rattle.proof_bearer_refinement.specs.tie_facts.Ties.{RunState, RunItem}
 use Rattle.proof_bearer_refinement.proofs.put_ties.Stands.{takes_none, Ends, after_told, and_no_more, units_put}
 use Rattle.proof_node_orders.specs.core_rows.Shown.{Places, Goal, to_first, orders_to, goal_by}
 use Rattle.proof_bearer_refinement.specs.core_ties.Core.{orders_offered, orders_told, places_of}
 use Rattle.law_terminals_are_isolated.specs.own_steps.Own.{IsActed}
-use Rattle.proof_bearer_refinement.specs.tied_runs.Steps.{Point, IsPassed, IsLeft}
+use Rattle.proof_bearer_refinement.specs.tied_runs.Steps.{Point, IsLeft}
 use Rattle.proof_bearer_refinement.specs.rest_ties.Nodes.{PutsNoItem}
 use Rattle.proof_bearer_refinement.proofs.rest_ties.Rest.{bearer_is_left}
-use Rattle.law_handover_delivers.specs.fresh_uplinks.Later.{Comes}
 use Rattle.proof_bearer_refinement.specs.beside_ties.Nodes.{IsNoTerminal}
+use Rattle.proof_bearer_refinement.specs.tied_runs.Fair.{IsFair}
 use Rattle.proof_bearer_refinement.proofs.beside_ties.Beside.{is_beside}
 use Rattle.law_handover_delivers.specs.whole_runs.Whole.{PartsStay, CuCpStep, OtherStep, SetsUp, CoreIsGiven, Loses, Lands}
 use Rattle.law_handover_delivers.specs.path_ties.Paths.{CoreOffers, CoreTakes}
@@ -74,7 +75,7 @@ use Rattle.law_handover_delivers.proofs.way_links.Tunnels.{step_from, core_from,
 use Rattle.law_handover_delivers.proofs.way_links.Homes.{du_same, dus_stay}
 use Rattle.law_handover_delivers.proofs.way_links.Airs.{core_air, waits_far, stays_beside}
 use Rattle.law_handover_delivers.specs.way_steps.Way.{IsOnItsWay}
-use Rattle.law_handover_delivers.proofs.way_steps.Beside.{sound_at, Keeps, keeps_way}
+use Rattle.law_handover_delivers.proofs.way_steps.Beside.{Keeps, keeps_way}
 
 -- ---- a CU-CP and a terminal answer with the same DUs
 
@@ -164,16 +165,16 @@ told_far places (Some goal) y = by goal.teids
     by [] = tt
     by (teid ∷ teids) = (tt, tt)
 
-module _ (reading : Reading) (n : Numbering) (ue : UeId) (bearer : BearerId) (sn : SnBits) (quota : ℕ) (p q : Point) (passed : IsPassed reading p.state)
-    (comes : Comes reading p.state q.state) (way : IsOnItsWay n ue bearer p) where
+module _ (reading : Reading) (n : Numbering) (ue : UeId) (bearer : BearerId) (sn : SnBits) (quota : ℕ) (p q : Point) (fair : IsFair p.state)
+    (comes : GiveOnce p.state.units q.state.units) (way : IsOnItsWay n ue bearer p) where
   abbrev Kept : Type 0
-  Kept = Keeps reading n ue bearer p q passed comes way
+  Kept = Keeps reading n ue bearer p q fair comes way
 
   abbrev Way : Type 0
   Way = IsOnItsWay n ue bearer q
 
   done : Kept → Way
-  done k = keeps_way reading n ue bearer p q passed comes way k
+  done k = keeps_way reading n ue bearer p q fair comes way k
 
   abbrev WaitsThen : RunState → Type 0
   WaitsThen s = Waits (on_air s (down_key ue bearer)) p.down way.down.waits (on_air p.state (down_key ue bearer)).epoch
@@ -219,7 +220,7 @@ module _ (reading : Reading) (n : Numbering) (ue : UeId) (bearer : BearerId) (sn
       (goes_on : carried_out (plain_world reading) (node_of cause) (count_of cause) (first_of (plain_world reading) cause) outputs units p.state
       ≡ goes lines q.state) where
     pub fit : PutsFit (written_facts link_items) (node_of cause) (count_of cause) outputs
-    fit = puts_fit reading p.state event cause outputs units passed acted
+    fit = puts_fit reading p.state event cause outputs units fair acted
 
     pub units_are : q.state.units ≡ units_by (plain_world reading) cause units
     units_are =
@@ -227,7 +228,7 @@ module _ (reading : Reading) (n : Numbering) (ue : UeId) (bearer : BearerId) (sn
         (act_units (plain_world reading) cause outputs units p.state)
 
     pub contexts_are : contexts_of n ue bearer q.state.units ≡ contexts_of n ue bearer p.state.units
-    contexts_are = (bearer_is_left reading n ue bearer p.state q.state event cause outputs units lines passed acted quiet goes_on).contexts
+    contexts_are = (bearer_is_left reading n ue bearer p.state q.state event cause outputs units lines fair acted quiet goes_on).contexts
 
     pub dus_are : q.state.units.dus ≡ p.state.units.dus
     dus_are =
@@ -255,7 +256,7 @@ module _ (reading : Reading) (n : Numbering) (ue : UeId) (bearer : BearerId) (sn
   cu_cp_way a =
       quiet_way a.acts.event a.acts.cause a.acts.outputs a.acts.units a.acts.lines a.acts.acted (subst (λ (node : NodeId). PutsNoItem node) (sym a.acts.node) tt)
       a.acts.goes_on
-      (is_beside reading ue bearer p.state q.state a.acts.event a.acts.cause a.acts.outputs a.acts.units a.acts.lines passed a.acts.acted
+      (is_beside reading ue bearer p.state q.state a.acts.event a.acts.cause a.acts.outputs a.acts.units a.acts.lines fair a.acts.acted
       (subst (λ (node : NodeId). IsNoTerminal node) (sym a.acts.node) tt) a.acts.goes_on) a.leaves a.parts
 
   pub other_way : OtherStep reading n ue bearer sn quota p q → Way
@@ -285,7 +286,7 @@ module _ (reading : Reading) (n : Numbering) (ue : UeId) (bearer : BearerId) (sn
     })
 
   holds : Hold (written_facts link_items) p.state
-  holds = held_past reading passed.events passed.event passed.before passed.there p.state passed.passes
+  holds = fair.items
 
   pub message_way : CoreTakes reading n ue bearer sn quota p q → Way
   message_way a =
@@ -336,18 +337,18 @@ module _ (reading : Reading) (n : Numbering) (ue : UeId) (bearer : BearerId) (sn
 
   -- ---- another terminal is set up without messages
 
-  module _ (a : SetsUp reading n ue bearer sn quota p q) (passed_then : IsPassed reading q.state) where
+  module _ (a : SetsUp reading n ue bearer sn quota p q) (fair_then : IsFair q.state) where
     abbrev t : RunState
     t = statically a.plan p.state
 
     left : IsLeft n ue bearer p.state t
     left =
-        set_up_left reading n ue bearer p.state a.plan passed (subst (λ (s : RunState). IsPassed reading s) a.after passed_then) a.free a.teids a.apart
+        set_up_left reading n ue bearer p.state a.plan fair (subst (λ (s : RunState). IsFair s) a.after fair_then) a.free a.teids a.apart
 
     its_part : (g : Gnb) (k : ℕ) → du_part_of (du_of t.units g k) ue bearer ≡ du_part_of (du_of p.state.units g k) ue bearer
     its_part g k =
         ap (λ (z : UnitsSlice (Message Token) Token). part_in bearer (z.dus g k).context)
-        ((static_leaves a.plan p.state a.free a.teids (sound_at reading p.state passed).owned).units ue a.apart)
+        ((static_leaves a.plan p.state a.free a.teids fair.sound.owned).units ue a.apart)
 
     lists_same : (end : TunnelEnd) → unwrap_or (standing t end) [] ≡ unwrap_or (standing p.state end) []
     unfolding at

@@ -33,7 +33,7 @@ use Rattle.run_defs.specs.Steps.{same_epoch, epoch_now, epoch_on_air, is_on_air}
 use Rattle.run_defs.specs.Runs.{Reading, plain_world}
 use Rattle.proof_run_steps.specs.steps.Causes.{Cause, by_order, by_tick, by_octets, by_octets_on, by_attach, by_release, by_offer, by_item, by_air, by_ack, by_letter, Stands, node_of, count_of}
 use Rattle.proof_run_steps.proofs.steps.Frames.{units_by}
-use Rattle.proof_run_steps.specs.teids.Given.{below}
+use Rattle.proof_run_steps.specs.teids.Given.{below, GiveOnce}
 use Rattle.proof_node_orders.specs.du_inputs.Changes.{DuPart, part_of as du_part_of}
 use Rattle.proof_bearer_refinement.specs.frame_ties.Frames.{frames_in}
 use Rattle.law_downlink_order.specs.heard_packets.Heard.{WasPut}
@@ -57,15 +57,15 @@ use Rattle.proof_bearer_refinement.specs.run_bearers.Things.{PlainUnits}
 use Rattle.proof_bearer_refinement.specs.run_bearers.Bearers.{Numbering, contexts_of}
 use Rattle.proof_bearer_refinement.specs.tie_facts.Ties.{RunState, RunItem}
 use Rattle.law_terminals_are_isolated.specs.own_steps.Own.{IsActed}
-use Rattle.proof_bearer_refinement.specs.tied_runs.Steps.{Point, IsPassed, IsTied, StaysBeside}
-use Rattle.law_handover_delivers.specs.fresh_uplinks.Later.{Comes}
+use Rattle.proof_bearer_refinement.specs.tied_runs.Steps.{Point, IsTied, StaysBeside}
 use Rattle.law_handover_delivers.specs.path_ties.Paths.{CameAbout}
 use Rattle.proof_bearer_refinement.specs.rest_ties.Nodes.{PutsNoItem}
+use Rattle.proof_bearer_refinement.specs.tied_runs.Fair.{IsFair}
 use Rattle.law_handover_delivers.specs.whole_runs.Whole.{both}
 use Rattle.law_handover_delivers.specs.way_links.Links.{IsNoDu}
 use Rattle.law_handover_delivers.proofs.way_links.Airs.{one_radio, none_put, no_more}
 use Rattle.law_handover_delivers.specs.way_steps.Way.{Leads, IsWay, IsOnItsWay}
-use Rattle.law_handover_delivers.proofs.way_steps.Beside.{left_sends, home_open, gives_so}
+use Rattle.law_handover_delivers.proofs.way_steps.Beside.{left_sends, home_open}
 use Rattle.law_handover_delivers.proofs.way_steps.Others.{fit, units_are, dus_are, frames_are}
 use Rattle.law_handover_delivers.proofs.way_steps.Rows.{comes_up}
 use Rattle.law_handover_delivers.proofs.way_steps.Hears.{IsAnew, radio_anew, input_says, put_on}
@@ -200,8 +200,8 @@ stays_on reading a now e before after = by (same_epoch (plain_world reading) a.e
         let same : same_epoch (plain_world reading) (Some e) (Some e) ≡ false = sym (λ i. same_epoch (plain_world reading) (before i) (later i)) ∙ is in
         let never : true ≡ false = sym (number_same e) ∙ same in absurd cc
 
-module _ (reading : Reading) (n : Numbering) (ue : UeId) (bearer : BearerId) (sn : SnBits) (quota : ℕ) (p q : Point) (passed : IsPassed reading p.state)
-    (comes : Comes reading p.state q.state) (way : IsOnItsWay n ue bearer p) (ties : IsTied reading n ue bearer sn quota p) (came : CameAbout sn quota p.down)
+module _ (reading : Reading) (n : Numbering) (ue : UeId) (bearer : BearerId) (sn : SnBits) (quota : ℕ) (p q : Point) (fair : IsFair p.state)
+    (comes : GiveOnce p.state.units q.state.units) (way : IsOnItsWay n ue bearer p) (ties : IsTied reading n ue bearer sn quota p) (came : CameAbout sn quota p.down)
     (event : Event) (tie : IsAtTerminal reading ue bearer p.state (both p)) (left : UeNode) (cause : RunCause) (input : Input Token Pdu)
     (outputs : List (Output (Message Token) Pdu)) (to : Option ℕ) (acts : IsUeStep reading event p.state q.state ue tie.terminal left cause input outputs)
     (acted : IsActed (plain_world reading) event p.state cause (map (written_put (sn_of p.state)) outputs) (with_ue p.state.units ue left))
@@ -234,7 +234,7 @@ module _ (reading : Reading) (n : Numbering) (ue : UeId) (bearer : BearerId) (sn
   left_there : ue_of q.state.units ue ≡ Some left
   left_there =
       ap (λ (us : PlainUnits). ue_of us ue)
-      (units_are reading n ue bearer sn quota p q passed comes way event cause written (with_ue p.state.units ue left) acts.lines acted quiet acts.goes_on)
+      (units_are reading n ue bearer sn quota p q fair comes way event cause written (with_ue p.state.units ue left) acts.lines acted quiet acts.goes_on)
       ∙ ap (λ us. ue_of (record p.state.units { ues = us }) ue) (ues_stay (plain_world reading) cause ue.0 acts.node (with_ue p.state.units ue left))
       ∙ find-put-same ue_total p.state.units.ues ue left
 
@@ -272,7 +272,7 @@ module _ (reading : Reading) (n : Numbering) (ue : UeId) (bearer : BearerId) (sn
   given_later : (x : ℕ) (part : UpPart) (g : Gnb) (k teid : ℕ) → Leads n ue bearer q x part g k teid → teid + 1 ≤ below (du_of q.state.units g k).next_teid
   given_later x part g k teid l =
       let low = way.given x part g k teid (led_before x part g k teid l) in
-      let more = ((gives_so reading n ue bearer p q passed comes way).1 g k).0 in omega (arith, low, more)
+      let more = (comes.1 g k).0 in omega (arith, low, more)
 
   module _ (x : ℕ) (part : UpPart) (g : Gnb) (k : ℕ) (home : DuPart) (items : List RunItem) (w : IsWay n ue bearer q x part g k home items) where
     radio_same : q.down.epoch ≡ p.down.epoch
@@ -329,7 +329,7 @@ module _ (reading : Reading) (n : Numbering) (ue : UeId) (bearer : BearerId) (sn
         ∙ no_more (moved_to (plain_world reading) now b) (items_put key (count_of cause) (moved_to (plain_world reading) now b).epoch written)
         (none_put ue bearer (count_of cause) (moved_to (plain_world reading) now b).epoch (node_of cause)
         (subst (λ (node : NodeId). IsNoDu node) (sym acts.node) tt) (count_of cause) written
-        (fit reading n ue bearer sn quota p q passed comes way event cause written (with_ue p.state.units ue left) acts.lines acted quiet acts.goes_on))
+        (fit reading n ue bearer sn quota p q fair comes way event cause written (with_ue p.state.units ue left) acts.lines acted quiet acts.goes_on))
       where
         followed_is : followed (plain_world reading) key (node_of cause) now b ≡ moved_to (plain_world reading) now b
         followed_is =
@@ -394,11 +394,11 @@ module _ (reading : Reading) (n : Numbering) (ue : UeId) (bearer : BearerId) (sn
 
     sends_on_then : IsSending q.down x part.bearer (record { du = home.bearer; frames = frames_in items; waits = down_then.waits })
     sends_on_then =
-        let dus = dus_are reading n ue bearer sn quota p q passed comes way event cause written (with_ue p.state.units ue left) acts.lines acted
+        let dus = dus_are reading n ue bearer sn quota p q fair comes way event cause written (with_ue p.state.units ue left) acts.lines acted
         quiet acts.goes_on in
         let at : du_part_of (du_of p.state.units g k) ue bearer ≡ Some home =
         sym (ap (λ r. du_part_of r ue bearer) (du_same p.state.units q.state.units dus g k)) ∙ w.at in
-        let opened = home_open reading ue bearer p.state passed g k home at in
+        let opened = home_open reading ue bearer p.state fair g k home at in
         let was = way.sends x part g k home opened.0 (record {
           from = led_before x part g k home.bearer.downlink w.from;
           at = at;
@@ -410,7 +410,7 @@ module _ (reading : Reading) (n : Numbering) (ue : UeId) (bearer : BearerId) (sn
         (same_member x part g k home.bearer.downlink w.from)) radio_same more far put_still was in
         subst (λ (ws : Packets). IsSending q.down x part.bearer (record { du = home.bearer; frames = frames_in items; waits = ws })) told.1
         (left_sends (frames_in opened.0) (frames_in items)
-        (frames_are reading n ue bearer sn quota p q passed comes way event cause written (with_ue p.state.units ue left) acts.lines acted quiet acts.goes_on g k
+        (frames_are reading n ue bearer sn quota p q fair comes way event cause written (with_ue p.state.units ue left) acts.lines acted quiet acts.goes_on g k
         home.bearer.downlink opened.0 items opened.1 w.stands) q.down x part.bearer home.bearer took.rest on)
 
   pub terminal_way : IsOnItsWay n ue bearer q

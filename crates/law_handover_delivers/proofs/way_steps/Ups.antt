@@ -26,7 +26,7 @@ use Rattle.run_defs.specs.Units.{up_of, with_up, du_of}
 use Rattle.run_defs.specs.Written.{written_put}
 use Rattle.run_defs.specs.States.{sn_of}
 use Rattle.run_defs.specs.Runs.{Reading, Plain, plain_world, plain_way}
-use Rattle.proof_run_steps.specs.teids.Given.{below}
+use Rattle.proof_run_steps.specs.teids.Given.{below, GiveOnce}
 use Rattle.proof_cu_up_orders.specs.context_tests.Tests.{is_final, EndsAfter, AreTested}
 use Rattle.proof_cu_up_orders.proofs.context_tests.Tests.{orders_tested}
 use Rattle.law_downlink_order.specs.path.Paths.{Frame}
@@ -60,21 +60,21 @@ use Rattle.proof_bearer_refinement.proofs.up_ties.Opened.{units_then}
 use Rattle.proof_bearer_refinement.proofs.up_ties.Ups.{down_kept}
 use Rattle.law_handover_delivers.proofs.owed_orders.Steps.{comes_then, cs_here, step_asked}
 use Rattle.law_handover_delivers.proofs.report_orders.Owed.{all_owed}
-use Rattle.proof_bearer_refinement.specs.tied_runs.Steps.{Point, IsPassed, IsTied}
-use Rattle.proof_bearer_refinement.proofs.tied_runs.Sound.{passed_sound}
-use Rattle.law_handover_delivers.specs.fresh_uplinks.Later.{Comes}
+use Rattle.proof_bearer_refinement.specs.tied_runs.Steps.{Point, IsTied}
+use Rattle.proof_bearer_refinement.proofs.tied_runs.Fair.{fair_sound}
 use Rattle.law_handover_delivers.specs.owed_runs.Owing.{IsSteadyAt}
 use Rattle.law_handover_delivers.specs.path_ties.Paths.{CameAbout}
 use Rattle.law_handover_delivers.specs.report_runs.Steps.{CuUpActs, ReportsAreTrueAt}
-use Rattle.law_handover_delivers.proofs.report_ties.Quiet.{puts_fit}
+use Rattle.proof_bearer_refinement.proofs.tied_runs.Fair.{puts_fit}
 use Rattle.proof_bearer_refinement.specs.beside_ties.Nodes.{IsNoTerminal}
+use Rattle.proof_bearer_refinement.specs.tied_runs.Fair.{IsFair}
 use Rattle.proof_bearer_refinement.proofs.beside_ties.Beside.{is_beside}
 use Rattle.law_handover_delivers.proofs.whole_runs.Beside.{up_leaves}
 use Rattle.law_handover_delivers.specs.way_links.Links.{IsNoDu, Waits}
 use Rattle.law_handover_delivers.proofs.way_links.Homes.{its, home_found, du_same, dus_stay}
 use Rattle.law_handover_delivers.proofs.way_links.Airs.{waits_far, stays_beside, waits_later}
 use Rattle.law_handover_delivers.specs.way_steps.Way.{Leads, IsWay, IsOnItsWay, IsFresh, IsNamed, OwesSwitch, OwesSwitches}
-use Rattle.law_handover_delivers.proofs.way_steps.Beside.{home_open, gives_so}
+use Rattle.law_handover_delivers.proofs.way_steps.Beside.{home_open}
 use Rattle.law_handover_delivers.proofs.way_steps.Ends.{end_stays, end_named, same_epoch, switched_epoch, kept_both}
 
 abbrev Packets : Type 0
@@ -155,13 +155,13 @@ unfolding frames_sent
 last_sends_none end ue bearer os (inl is) o = ap (λ (zs : List (UpOrder Pdu)). frames_sent end ue bearer zs o) is
 last_sends_none end ue bearer os (inr is) o = ap (λ (zs : List (UpOrder Pdu)). frames_sent end ue bearer zs o) is ∙ end_sends_none end ue bearer o
 
-module _ (reading : Reading) (n : Numbering) (ue : UeId) (bearer : BearerId) (sn : SnBits) (quota : ℕ) (p q : Point) (passed : IsPassed reading p.state)
-    (passed_then : IsPassed reading q.state) (comes : Comes reading p.state q.state) (way : IsOnItsWay n ue bearer p)
+module _ (reading : Reading) (n : Numbering) (ue : UeId) (bearer : BearerId) (sn : SnBits) (quota : ℕ) (p q : Point) (fair : IsFair p.state)
+    (fair_then : IsFair q.state) (comes : GiveOnce p.state.units q.state.units) (way : IsOnItsWay n ue bearer p)
     (ties : IsTied reading n ue bearer sn quota p) (steady : IsSteadyAt reading n ue bearer sn quota p) (came : CameAbout sn quota p.down)
     (told : ReportsAreTrueAt reading n ue bearer sn quota p) (a : CuUpActs reading n ue bearer sn quota p q)
     (owed : OwesSwitches n ue bearer p a.gnb a.number a.input a.beside.epoch) where
   sound : AreSound p.state q.state
-  sound = passed_sound reading p.state q.state passed passed_then
+  sound = fair_sound p.state q.state fair fair_then
 
   abbrev r : UpRecord
   r = up_of p.state.units a.gnb a.number
@@ -189,7 +189,7 @@ module _ (reading : Reading) (n : Numbering) (ue : UeId) (bearer : BearerId) (sn
 
   here_is : cs x ≡ o
   here_is = cs_here reading n ue bearer p.state q.state a.gnb a.number a.cause a.input a.outputs a.left a.acts sound
-      (passed_sound reading p.state p.state passed passed).own
+      (fair_sound p.state p.state fair fair).own
 
   -- ---- the contexts then
 
@@ -231,13 +231,13 @@ module _ (reading : Reading) (n : Numbering) (ue : UeId) (bearer : BearerId) (sn
   waits_then =
       let outputs = map (written_put (sn_of p.state)) a.outputs in
       let units = with_up p.state.units a.gnb a.number a.left in
-      let beside = is_beside reading ue bearer p.state q.state a.event a.cause outputs units a.acts.lines passed a.acted
+      let beside = is_beside reading ue bearer p.state q.state a.event a.cause outputs units a.acts.lines fair a.acted
       (subst (λ (node : NodeId). IsNoTerminal node) (sym a.acts.node) tt) a.acts.goes_on in
       waits_later (on_air q.state (down_key ue bearer)) p.down q.down way.down.waits (on_air p.state (down_key ue bearer)).epoch
       (ap (λ z. z.deliv) all_stays.terminal) all_stays.put
       (waits_far reading a.event p.state q.state ue bearer p.down a.cause outputs units a.acted.stands
       (stays_beside ue bearer a.cause beside.other (up_leaves a.event p.state ue bearer a.gnb a.number a.cause a.acts.node a.acted.stands)) beside
-      (subst (λ (node : NodeId). IsNoDu node) (sym a.acts.node) tt) (puts_fit reading p.state a.event a.cause outputs units passed a.acted) way.down)
+      (subst (λ (node : NodeId). IsNoDu node) (sym a.acts.node) tt) (puts_fit reading p.state a.event a.cause outputs units fair a.acted) way.down)
 
   -- ---- the orders are kept
 
@@ -246,9 +246,9 @@ module _ (reading : Reading) (n : Numbering) (ue : UeId) (bearer : BearerId) (sn
       down_kept reading n ue bearer sn quota p.state q.state a.gnb a.number a.cause a.input a.outputs a.left (record a.beside { final = is_final a.input }) a.acts
       sound p.down p.up ties
       (step_asked reading n ue bearer p.state q.state a.gnb a.number a.cause a.input a.outputs a.left a.acts sound
-      (passed_sound reading p.state p.state passed passed).own sn quota p.down p.up ties a.beside steady
+      (fair_sound p.state p.state fair fair).own sn quota p.down p.up ties a.beside steady
       (all_owed reading n ue bearer sn quota p.state q.state a.gnb a.number a.cause a.input a.outputs a.left a.acts
-      (passed_sound reading p.state p.state passed passed).own a.beside p.down p.up told a.owes))
+      (fair_sound p.state p.state fair fair).own a.beside p.down p.up told a.owes))
 
   -- ---- frames
 
@@ -399,7 +399,7 @@ module _ (reading : Reading) (n : Numbering) (ue : UeId) (bearer : BearerId) (sn
   then_here part there =
       now_is orders refl o refl (orders_tested plain_way r ue bearer a.input)
       (comes_then reading n ue bearer p.state q.state a.gnb a.number a.cause a.input a.outputs a.left a.acts sound
-      (passed_sound reading p.state p.state passed passed).own) owed part (sym (ap (λ (c : Contexts). c x) contexts_then) ∙ there)
+      (fair_sound p.state p.state fair fair).own) owed part (sym (ap (λ (c : Contexts). c x) contexts_then) ∙ there)
 
   far_same : (y : ℕ) → y ≢ x → (os : List (UpOrder Pdu)) (c : Contexts) → contexts_after plain_way ue bearer c (happens os) y ≡ c y
   unfolding contexts_after
@@ -442,7 +442,7 @@ module _ (reading : Reading) (n : Numbering) (ue : UeId) (bearer : BearerId) (sn
     at_before = sym (part_stays g k) ∙ w.at
 
     abbrev opened : (before : List RunItem) × (standing p.state end ≡ Some before)
-    opened = home_open reading ue bearer p.state passed g k home at_before
+    opened = home_open reading ue bearer p.state fair g k home at_before
 
     connected_before : key_epoch ≡ Some home.epoch
     connected_before = sym waits_then.at ∙ w.connected
@@ -677,7 +677,7 @@ module _ (reading : Reading) (n : Numbering) (ue : UeId) (bearer : BearerId) (sn
         by false e = given_far (is_not y x e)
 
     given_then : teid + 1 ≤ below (du_of q.state.units g k).next_teid
-    given_then = let low = given_before in let more = ((gives_so reading n ue bearer p q passed comes way).1 g k).0 in omega (arith, low, more)
+    given_then = let low = given_before in let more = (comes.1 g k).0 in omega (arith, low, more)
 
   pub cu_up_way : IsOnItsWay n ue bearer q
   cu_up_way = record {

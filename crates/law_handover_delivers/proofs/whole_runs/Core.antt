@@ -43,10 +43,9 @@ use Rattle.proof_run_steps.specs.radio_steps.Radios.{OnAir, on_air, after_puts}
 use Rattle.proof_run_steps.proofs.radio_steps.Tracks.{puts_so}
 use Rattle.proof_node_orders.specs.terminal_inputs.Inputs.{Parts}
 use Rattle.proof_bearer_refinement.specs.radio_ties.Radio.{RunState, up_key, IsAtTerminal}
+use Rattle.proof_bearer_refinement.specs.tied_runs.Fair.{IsFair}
 use Rattle.proof_bearer_refinement.proofs.radio_ties.Others.{stays_at}
 use Rattle.law_handover_delivers.specs.report_links.Reports.{RunPut}
-use Rattle.law_handover_delivers.proofs.report_ties.Quiet.{held_past}
-use Rattle.proof_bearer_refinement.specs.tied_runs.Steps.{IsPassed}
 use Rattle.law_handover_delivers.specs.report_runs.Steps.{CoreReads}
 
 module _ (reading : Reading) (ue : UeId) (bearer : BearerId) where
@@ -86,12 +85,12 @@ module _ (reading : Reading) (ue : UeId) (bearer : BearerId) where
       (ap (λ (plans : List (UeId × Plan)). is_some (find ue_cmp plans ue)) (plans_then outputs s t is))
 
   module _ (b : Parts) (s t : RunState) where
-    pub message_shown : IsPassed reading s → (number : ℕ) (l : Letter (Message Token)) (outputs : List (Output (Message Token) Pdu))
+    pub message_shown : IsFair s → (number : ℕ) (l : Letter (Message Token)) (outputs : List (Output (Message Token) Pdu))
         (core : CoreRecord (Message Token) Token) → IsCoreStep reading s t number l outputs core
         → IsAtTerminal reading ue bearer s b → IsAtTerminal reading ue bearer t b
-    message_shown passed number l outputs core step tie =
+    message_shown fair number l outputs core step tie =
         let puts : List RunPut = map (written_put (sn_of s)) outputs in
-        let holds : Hold (written_facts link_items) s = held_past reading passed.events passed.event passed.before passed.there s passed.passes in
+        let holds : Hold (written_facts link_items) s = fair.items in
         let fit : PutsFit (written_facts link_items) Core None puts
         = ((plain_kept link_items items_keep reading).core_answers (sn_of s) s.core core (letter_for l.from l.message) puts holds.core (0, tt)
         (ap (core_done reading (sn_of s) s.core) step.answers)).1 in

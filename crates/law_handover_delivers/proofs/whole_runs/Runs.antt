@@ -32,6 +32,7 @@ use Rattle.proof_bearer_refinement.specs.tie_facts.Asked.{context_at, beside_of}
 use Rattle.proof_bearer_refinement.specs.put_ties.Puts.{puts_of}
 use Rattle.proof_node_orders.specs.terminal_inputs.Inputs.{Parts, IsShown}
 use Rattle.proof_run_steps.specs.radio_steps.Radios.{on_air}
+use Rattle.proof_run_steps.specs.teids.Given.{GiveOnce}
 use Rattle.proof_bearer_refinement.specs.radio_ties.Radio.{up_key, IsAtTerminal}
 use Rattle.proof_bearer_refinement.proofs.radio_ties.Others.{stays_at, beside_then}
 use Rattle.proof_bearer_refinement.proofs.radio_ties.Lists.{nothing_there}
@@ -51,11 +52,11 @@ use Rattle.proof_bearer_refinement.specs.shown_orders.Looks.{DownSame, UpSame}
 use Rattle.proof_node_orders.specs.core_rows.Shown.{goal_by}
 use Rattle.proof_bearer_refinement.specs.core_ties.Core.{places_of}
 use Rattle.proof_bearer_refinement.specs.put_ties.Worked.{terminal, bearer as its_bearer}
-use Rattle.proof_bearer_refinement.specs.tied_runs.Steps.{Point, IsPassed, IsTied, IsLeft}
+use Rattle.proof_bearer_refinement.specs.tied_runs.Steps.{Point, IsTied, IsLeft}
 use Rattle.proof_bearer_refinement.specs.tied_runs.Steps as tied
 use Rattle.proof_bearer_refinement.specs.first_ties.First as first_run
+use Rattle.proof_bearer_refinement.specs.tied_runs.Fair.{IsFair}
 use Rattle.law_handover_delivers.specs.first_runs.First.{AreFirst, DeliverInOrder}
-use Rattle.law_handover_delivers.specs.fresh_uplinks.Later.{Comes}
 use Rattle.law_handover_delivers.specs.owed_orders.Steady.{IsOld}
 use Rattle.law_handover_delivers.specs.owed_runs.Owing.{NoneIsZero}
 use Rattle.law_handover_delivers.specs.path_ties.Paths.{LeadsAt, PathStays}
@@ -79,7 +80,7 @@ module _ (reading : Reading) (n : Numbering) (ue : UeId) (bearer : BearerId) (sn
   abbrev AtTerminal : RunState → Parts → Type 0
   AtTerminal s b = IsAtTerminal reading ue bearer s b
 
-  module _ (p q : Point) (passed : IsPassed reading p.state) (passed_then : IsPassed reading q.state) (whole : Whole p) where
+  module _ (p q : Point) (fair : IsFair p.state) (fair_then : IsFair q.state) (whole : Whole p) where
     kept : IsKept sn quota p.down
     kept = record {
       first = whole.came.first;
@@ -111,7 +112,7 @@ module _ (reading : Reading) (n : Numbering) (ue : UeId) (bearer : BearerId) (sn
 
       terminal_step : tied.StaysBeside reading n ue bearer sn quota p q × AtTerminal q.state (both q)
       terminal_step =
-          heard_step reading n ue bearer sn quota p q a.event its_tie a.left a.cause a.outputs a.to passed kept a.input a.acts a.acted a.owed a.down a.up
+          heard_step reading n ue bearer sn quota p q a.event its_tie a.left a.cause a.outputs a.to fair kept a.input a.acts a.acted a.owed a.down a.up
 
       terminal_told : reports.StaysBeside reading n ue bearer sn quota p q
       terminal_told = record {
@@ -140,7 +141,7 @@ module _ (reading : Reading) (n : Numbering) (ue : UeId) (bearer : BearerId) (sn
     cu_cp_told : CuCpStep reading n ue bearer sn quota p q → reports.StaysBeside reading n ue bearer sn quota p q
     cu_cp_told a = record {
       stays = beside reading n ue bearer sn quota p q
-          (bearer_is_left reading n ue bearer p.state q.state a.acts.event a.acts.cause a.acts.outputs a.acts.units a.acts.lines passed a.acts.acted
+          (bearer_is_left reading n ue bearer p.state q.state a.acts.event a.acts.cause a.acts.outputs a.acts.units a.acts.lines fair a.acts.acted
           (subst (λ (node : NodeId). PutsNoItem node) (sym a.acts.node) tt) a.acts.goes_on)
           (same_path ue p.state q.state (core_stays (plain_world reading) a.acts.cause a.acts.outputs a.acts.units p.state q.state a.acts.lines a.acts.goes_on))
           a.parts;
@@ -150,7 +151,7 @@ module _ (reading : Reading) (n : Numbering) (ue : UeId) (bearer : BearerId) (sn
     other_told : OtherStep reading n ue bearer sn quota p q → reports.StaysBeside reading n ue bearer sn quota p q
     other_told a = record {
       stays = beside reading n ue bearer sn quota p q
-          (bearer_is_left reading n ue bearer p.state q.state a.acts.event a.acts.cause a.acts.outputs a.acts.units a.acts.beside.lines passed a.acts.acted
+          (bearer_is_left reading n ue bearer p.state q.state a.acts.event a.acts.cause a.acts.outputs a.acts.units a.acts.beside.lines fair a.acts.acted
           (subst (λ (node : NodeId). PutsNoItem node) (sym a.acts.node) tt) a.acts.beside.goes_on)
           (same_path ue p.state q.state
           (core_stays (plain_world reading) a.acts.cause a.acts.outputs a.acts.units p.state q.state a.acts.beside.lines a.acts.beside.goes_on)) a.parts;
@@ -161,7 +162,7 @@ module _ (reading : Reading) (n : Numbering) (ue : UeId) (bearer : BearerId) (sn
     set_up_told a = record {
       stays = beside reading n ue bearer sn quota p q
           (subst (λ (t : RunState). IsLeft n ue bearer p.state t) (sym a.after)
-          (set_up_left reading n ue bearer p.state a.plan passed (subst (λ (t : RunState). IsPassed reading t) a.after passed_then) a.free a.teids a.apart))
+          (set_up_left reading n ue bearer p.state a.plan fair (subst (λ (t : RunState). IsFair t) a.after fair_then) a.free a.teids a.apart))
           (subst (λ (t : RunState). PathStays ue p.state t) (sym a.after) (set_up_path ue p.state a.plan a.apart)) a.parts;
       makes = reports.a_set_up a.plan a.after;
     }
@@ -221,7 +222,7 @@ module _ (reading : Reading) (n : Numbering) (ue : UeId) (bearer : BearerId) (sn
       left = a.left;
       acts = a.acts;
       acted = a.acted;
-      step = du_acts reading n ue bearer sn quota p q a.event a.gnb a.number a.cause a.input a.outputs a.left passed passed_then a.acted a.acts a.leaves
+      step = du_acts reading n ue bearer sn quota p q a.event a.gnb a.number a.cause a.input a.outputs a.left fair fair_then a.acted a.acts a.leaves
           a.down a.up;
     })
     as_told (its_home a) = reports.a_du (record {
@@ -234,7 +235,7 @@ module _ (reading : Reading) (n : Numbering) (ue : UeId) (bearer : BearerId) (sn
       left = a.left;
       acts = a.acts;
       acted = a.acted;
-      step = home_acts reading n ue bearer sn quota p q a.event whole.shown a.gnb a.number a.item a.input a.outputs a.left passed whole.ties a.acted a.acts
+      step = home_acts reading n ue bearer sn quota p q a.event whole.shown a.gnb a.number a.item a.input a.outputs a.left fair whole.ties a.acted a.acts
           a.home a.down a.up;
     })
     as_told (an_offer a) = reports.an_offer a
@@ -262,7 +263,7 @@ module _ (reading : Reading) (n : Numbering) (ue : UeId) (bearer : BearerId) (sn
         (beside_then reading p.state q.state ue bearer (both p) whole.shown a.cause (map (written_put (sn_of p.state)) a.outputs)
         (with_up p.state.units a.gnb a.number a.left) (up_leaves a.event p.state ue bearer a.gnb a.number a.cause a.acts.node a.acted.stands)
         (is_beside reading ue bearer p.state q.state a.event a.cause (map (written_put (sn_of p.state)) a.outputs)
-        (with_up p.state.units a.gnb a.number a.left) a.acts.lines passed a.acted (subst (λ (node : NodeId). IsNoTerminal node) (sym a.acts.node) tt)
+        (with_up p.state.units a.gnb a.number a.left) a.acts.lines fair a.acted (subst (λ (node : NodeId). IsNoTerminal node) (sym a.acts.node) tt)
         a.acts.goes_on))
 
     du_shown : DuActs reading n ue bearer sn quota p q → AtTerminal q.state (both q)
@@ -270,12 +271,12 @@ module _ (reading : Reading) (n : Numbering) (ue : UeId) (bearer : BearerId) (sn
         looks_same reading ue bearer q.state (both p) (both q) (down_alike reading n ue bearer sn quota p q a.down)
         (subst (λ (u : up_parts.Part). UpSame p.up u) (sym a.up)
         (marks_same n ue bearer p.state.units p.up (puts_of ue bearer p.state.units a.gnb a.number a.input)
-        (du_quiet reading n ue bearer sn quota p q a.event a.gnb a.number a.cause a.input a.outputs a.left passed passed_then a.acted a.acts a.leaves a.down
+        (du_quiet reading n ue bearer sn quota p q a.event a.gnb a.number a.cause a.input a.outputs a.left fair fair_then a.acted a.acts a.leaves a.down
         a.up)))
         (beside_then reading p.state q.state ue bearer (both p) whole.shown a.cause (map (written_put (sn_of p.state)) a.outputs)
         (with_du p.state.units a.gnb a.number a.left) a.leaves
         (is_beside reading ue bearer p.state q.state a.event a.cause (map (written_put (sn_of p.state)) a.outputs)
-        (with_du p.state.units a.gnb a.number a.left) a.acts.lines passed a.acted (subst (λ (node : NodeId). IsNoTerminal node) (sym a.acts.node) tt)
+        (with_du p.state.units a.gnb a.number a.left) a.acts.lines fair a.acted (subst (λ (node : NodeId). IsNoTerminal node) (sym a.acts.node) tt)
         a.acts.goes_on))
 
     abbrev shows : PartsStay p q → AtTerminal q.state (both p) → AtTerminal q.state (both q)
@@ -288,7 +289,7 @@ module _ (reading : Reading) (n : Numbering) (ue : UeId) (bearer : BearerId) (sn
     shown_then (a_cu_up a) = cu_up_shown a
     shown_then (a_du a) = du_shown a
     shown_then (its_home a) =
-        home_shown reading n ue bearer sn quota p q a.event whole.shown a.gnb a.number a.item a.input a.outputs a.left passed whole.ties a.acted a.acts a.home
+        home_shown reading n ue bearer sn quota p q a.event whole.shown a.gnb a.number a.item a.input a.outputs a.left fair whole.ties a.acted a.acts a.home
         a.down a.up
     shown_then (an_offer a) =
         looks_same reading ue bearer q.state (both p) (both q)
@@ -300,12 +301,12 @@ module _ (reading : Reading) (n : Numbering) (ue : UeId) (bearer : BearerId) (sn
         (subst (λ (d : down_parts.Part). DownSame p.down d) (sym a.down)
         (told_same (places_of n ue bearer p.state.units) (goal_by ue bearer p.state.core a.letter.from a.letter.message) p.down))
         (up_alike reading n ue bearer sn quota p q a.up)
-        (message_shown reading ue bearer (both p) p.state q.state passed a.number a.letter a.outputs a.core a.takes whole.shown)
+        (message_shown reading ue bearer (both p) p.state q.state fair a.number a.letter a.outputs a.core a.takes whole.shown)
     shown_then (the_terminal a) = (terminal_step a).1
     shown_then (a_cu_cp a) =
         shows a.parts
         (beside_then reading p.state q.state ue bearer (both p) whole.shown a.acts.cause a.acts.outputs a.acts.units a.leaves
-        (is_beside reading ue bearer p.state q.state a.acts.event a.acts.cause a.acts.outputs a.acts.units a.acts.lines passed a.acts.acted
+        (is_beside reading ue bearer p.state q.state a.acts.event a.acts.cause a.acts.outputs a.acts.units a.acts.lines fair a.acts.acted
         (subst (λ (node : NodeId). IsNoTerminal node) (sym a.acts.node) tt) a.acts.goes_on))
     shown_then (another_terminal a) =
         shows a.parts
@@ -322,12 +323,12 @@ module _ (reading : Reading) (n : Numbering) (ue : UeId) (bearer : BearerId) (sn
     abbrev along_of : (p : Point) → Whole p → IsAlong reading n ue bearer sn quota positive p
     along_of p whole = record { ties = whole.ties; fresh = whole.fresh; steady = whole.steady; came = whole.came; leads = whole.leads }
 
-    pub one_step : (p q : Point) → IsPassed reading p.state → IsPassed reading q.state → Comes reading p.state q.state → Whole p
+    pub one_step : (p q : Point) → IsFair p.state → IsFair q.state → GiveOnce p.state.units q.state.units → Whole p
         → Step reading n ue bearer sn quota p q → reports.Step reading n ue bearer sn quota p q × Whole q
-    one_step p q passed passed_then comes whole step =
-        let its : reports.Step reading n ue bearer sn quota p q = as_told p q passed passed_then whole step in
-        let told = told_step reading n ue bearer sn quota p q passed whole.came whole.told whole.known its in
-        let next = path_step reading n ue bearer sn quota positive p q passed passed_then comes (along_of p whole) told.0 in (
+    one_step p q fair fair_then comes whole step =
+        let its : reports.Step reading n ue bearer sn quota p q = as_told p q fair fair_then whole step in
+        let told = told_step reading n ue bearer sn quota p q fair whole.came whole.told whole.known its in
+        let next = path_step reading n ue bearer sn quota positive p q fair fair_then comes (along_of p whole) told.0 in (
           its,
           record {
             ties = next.1.ties;
@@ -337,7 +338,7 @@ module _ (reading : Reading) (n : Numbering) (ue : UeId) (bearer : BearerId) (sn
             leads = next.1.leads;
             told = told.1;
             known = told.2;
-            shown = shown_then p q passed passed_then whole step;
+            shown = shown_then p q fair fair_then whole step;
           },
         )
 

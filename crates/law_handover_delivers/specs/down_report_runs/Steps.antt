@@ -22,10 +22,11 @@ use Rattle.bearer_defs.specs.chain_defs.Orders as down
 use Rattle.bearer_defs.specs.uplink_defs.Orders as up
 use Rattle.proof_bearer_refinement.specs.run_bearers.Bearers.{Numbering, contexts_of}
 use Rattle.law_handover_delivers.specs.owed_orders.Owed.{final_asks}
-use Rattle.law_handover_delivers.specs.fresh_uplinks.Later.{Comes}
-use Rattle.proof_bearer_refinement.specs.tied_runs.Steps.{Point, IsPassed}
+use Rattle.proof_bearer_refinement.specs.tied_runs.Steps.{Point}
+use Rattle.proof_bearer_refinement.specs.tied_runs.Fair.{IsFair}
 use Rattle.law_handover_delivers.specs.whole_runs.Whole as whole
 use Rattle.law_handover_delivers.specs.whole_runs.Whole.{both}
+use Rattle.proof_run_steps.specs.teids.Given.{GiveOnce}
 
 module _ (reading : Reading) (n : Numbering) (ue : UeId) (bearer : BearerId) (sn : SnBits) (quota : ℕ) where
   -- what stands on the bearer's tunnels and on its terminal's radio down reports only what the part up carried
@@ -62,4 +63,4 @@ module _ (reading : Reading) (n : Numbering) (ue : UeId) (bearer : BearerId) (sn
   -- one after another, each to a state that comes after the one before
   pub data Steps : Point → Point → Type 0 where
     not_yet : (p : Point) → Steps p p
-    further : (p q r : Point) → Steps p q → IsPassed reading q.state → IsPassed reading r.state → Comes reading q.state r.state → Step q r → Steps p r
+    further : (p q r : Point) → Steps p q → IsFair q.state → IsFair r.state → GiveOnce q.state.units r.state.units → Step q r → Steps p r

@@ -6,28 +6,23 @@ use Rattle.gnb_types.specs.declared.names.SnBits.{SnBits}
 use Rattle.gnb_types.specs.declared.names.UeId.{UeId}
 use Rattle.gnb_types.specs.declared.names.BearerId.{BearerId}
 use Rattle.message_types.specs.declared.rrc.Token.{Token}
-use Rattle.scenario_text.specs.declared.event.Event.{Event}
 use Rattle.unit_defs.specs.Ways.{Message, Pdu, Input, Output}
 use Rattle.run_defs.specs.Units.{up_of}
-use Rattle.run_defs.specs.Runs.{Reading, plain_world}
-use Rattle.proof_run_steps.specs.teids.Given.{below}
-use Rattle.law_terminals_are_isolated.specs.own_events.Passed.{Passes}
+use Rattle.run_defs.specs.Runs.{Reading}
+use Rattle.proof_run_steps.specs.teids.Given.{below, GiveOnce}
 use Rattle.bearer_defs.specs.uplink_defs.Parts as up_parts
 use Rattle.proof_cu_up_orders.specs.bearer_orders.Happenings.{Beside}
 use Rattle.proof_bearer_refinement.specs.law_run_units.Happenings.{UpRecord}
 use Rattle.proof_bearer_refinement.specs.run_bearers.Bearers.{Place, Numbering, contexts_of}
 use Rattle.proof_bearer_refinement.specs.tie_facts.Ties.{RunState}
 use Rattle.proof_bearer_refinement.specs.tie_facts.Asked.{RunCause, IsUpStep, AllAsk, down_after, up_after, step_asks}
-use Rattle.proof_bearer_refinement.specs.tied_runs.Steps.{Point, IsPassed, DuActs, CoreOffers, CoreTakes, StaysBeside}
+use Rattle.proof_bearer_refinement.specs.tied_runs.Steps.{Point, DuActs, CoreOffers, CoreTakes, StaysBeside}
+use Rattle.proof_bearer_refinement.specs.tied_runs.Fair.{IsFair}
 
 -- on an uplink whose TEID its CU-UP has not given yet no context has anything
 abbrev pub AreFresh : Numbering → RunState → up_parts.Part → Type 0
 AreFresh n s u =
     (place : Place) (teid : ℕ) → below (up_of s.units place.gnb place.number).next_teid ≤ teid → (u.members (n.number_of place)).uplink teid ≡ []
-
--- the run goes on from this state to that one, within an event
-abbrev pub Comes : Reading → RunState → RunState → Type 0
-Comes reading s t = (event : Event) × Passes (plain_world reading) event s t
 
 module _ (reading : Reading) (n : Numbering) (ue : UeId) (bearer : BearerId) (sn : SnBits) (quota : ℕ) where
   -- a CU-UP acts, and each of its orders asks what it does: of uplinks nothing is asked
@@ -55,7 +50,7 @@ module _ (reading : Reading) (n : Numbering) (ue : UeId) (bearer : BearerId) (sn
     a_message : (takes : CoreTakes reading n ue bearer sn quota p q) → Step p q
     all_else : (stays : StaysBeside reading n ue bearer sn quota p q) → Step p q
 
-  -- one after another, each to a state that comes after the one before
+  -- one after another, between fair states, each to one in which all TEIDs stay given
   pub data Steps : Point → Point → Type 0 where
     not_yet : (p : Point) → Steps p p
-    further : (p q r : Point) → Steps p q → IsPassed reading q.state → IsPassed reading r.state → Comes reading q.state r.state → Step q r → Steps p r
+    further : (p q r : Point) → Steps p q → IsFair q.state → IsFair r.state → GiveOnce q.state.units r.state.units → Step q r → Steps p r

@@ -21,11 +21,12 @@ use Rattle.law_handover_delivers.specs.down_report_frames.Statuses.{UpCameAbout}
 use Rattle.law_handover_delivers.specs.down_report_runs.Steps.{ReportsDownAreTrueAt, OwesStatuses}
 use Rattle.proof_bearer_refinement.specs.run_bearers.Bearers.{Numbering}
 use Rattle.law_terminals_are_isolated.specs.own_steps.Own.{IsActed}
-use Rattle.proof_bearer_refinement.specs.tied_runs.Steps.{Point, IsPassed}
-use Rattle.law_handover_delivers.specs.fresh_uplinks.Later.{Comes}
+use Rattle.proof_bearer_refinement.specs.tied_runs.Steps.{Point}
+use Rattle.proof_bearer_refinement.specs.tied_runs.Fair.{IsFair}
 use Rattle.law_handover_delivers.specs.whole_runs.Whole as whole
 use Rattle.law_handover_delivers.specs.whole_runs.Whole.{both, IsWhole}
 use Rattle.law_handover_delivers.specs.way_steps.Way.{IsOnItsWay, OwesFrame, OwesSwitches}
+use Rattle.proof_run_steps.specs.teids.Given.{GiveOnce}
 
 module _ (reading : Reading) (n : Numbering) (ue : UeId) (bearer : BearerId) (sn : SnBits) (quota : ℕ) where
   -- all that is so of a state on the way: what `whole_runs` carries; the way of packets down; that the part up came about by orders that
@@ -68,4 +69,4 @@ module _ (reading : Reading) (n : Numbering) (ue : UeId) (bearer : BearerId) (sn
   -- one after another, each to a state that comes after the one before
   pub data Steps : Point → Point → Type 0 where
     not_yet : (p : Point) → Steps p p
-    further : (p q r : Point) → Steps p q → IsPassed reading q.state → IsPassed reading r.state → Comes reading q.state r.state → Step q r → Steps p r
+    further : (p q r : Point) → Steps p q → IsFair q.state → IsFair r.state → GiveOnce q.state.units r.state.units → Step q r → Steps p r

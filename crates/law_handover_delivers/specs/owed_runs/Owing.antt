@@ -11,10 +11,11 @@ use Rattle.proof_cu_up_orders.specs.bearer_orders.Happenings.{Beside}
 use Rattle.proof_bearer_refinement.specs.law_run_units.Happenings.{UpRecord}
 use Rattle.proof_bearer_refinement.specs.run_bearers.Bearers.{Numbering, contexts_of}
 use Rattle.proof_bearer_refinement.specs.tie_facts.Asked.{RunCause, IsUpStep, down_after, up_after}
-use Rattle.proof_bearer_refinement.specs.tied_runs.Steps.{Point, IsPassed, DuActs, CoreOffers, CoreTakes, StaysBeside}
-use Rattle.law_handover_delivers.specs.fresh_uplinks.Later.{Comes}
+use Rattle.proof_bearer_refinement.specs.tied_runs.Steps.{Point, DuActs, CoreOffers, CoreTakes, StaysBeside}
+use Rattle.proof_bearer_refinement.specs.tied_runs.Fair.{IsFair}
 use Rattle.law_handover_delivers.specs.owed_orders.Steady.{AreSteady}
 use Rattle.law_handover_delivers.specs.owed_orders.Owed.{AllOwe, final_asks}
+use Rattle.proof_run_steps.specs.teids.Given.{GiveOnce}
 
 -- 0 is no context's number
 abbrev pub NoneIsZero : Numbering → Type 0
@@ -53,4 +54,4 @@ module _ (reading : Reading) (n : Numbering) (ue : UeId) (bearer : BearerId) (sn
   -- one after another, each to a state that comes after the one before
   pub data Steps : Point → Point → Type 0 where
     not_yet : (p : Point) → Steps p p
-    further : (p q r : Point) → Steps p q → IsPassed reading q.state → IsPassed reading r.state → Comes reading q.state r.state → Step q r → Steps p r
+    further : (p q r : Point) → Steps p q → IsFair q.state → IsFair r.state → GiveOnce q.state.units r.state.units → Step q r → Steps p r

@@ -20,9 +20,10 @@ use Rattle.proof_bearer_refinement.specs.run_bearers.Bearers.{Numbering}
 use Rattle.proof_bearer_refinement.specs.tie_facts.Ties.{RunState, owned_on}
 use Rattle.proof_bearer_refinement.specs.core_ties.Core.{PathLeads, IsOffer, orders_offered, IsCoreStep, orders_told}
 use Rattle.proof_bearer_refinement.specs.tied_runs.Steps as tied
-use Rattle.proof_bearer_refinement.specs.tied_runs.Steps.{Point, IsPassed, DuActs}
-use Rattle.law_handover_delivers.specs.fresh_uplinks.Later.{Comes}
+use Rattle.proof_bearer_refinement.specs.tied_runs.Steps.{Point, DuActs}
+use Rattle.proof_bearer_refinement.specs.tied_runs.Fair.{IsFair}
 use Rattle.law_handover_delivers.specs.owed_runs.Owing.{CuUpActs}
+use Rattle.proof_run_steps.specs.teids.Given.{GiveOnce}
 
 -- the downlink's part came about by orders each of which asked what it does
 pub record CameAbout (sn : SnBits) (quota : ℕ) (d : down_parts.Part) : Type 0 where
@@ -84,4 +85,4 @@ module _ (reading : Reading) (n : Numbering) (ue : UeId) (bearer : BearerId) (sn
   -- one after another, each to a state that comes after the one before
   pub data Steps : Point → Point → Type 0 where
     not_yet : (p : Point) → Steps p p
-    further : (p q r : Point) → Steps p q → IsPassed reading q.state → IsPassed reading r.state → Comes reading q.state r.state → Step q r → Steps p r
+    further : (p q r : Point) → Steps p q → IsFair q.state → IsFair r.state → GiveOnce q.state.units r.state.units → Step q r → Steps p r

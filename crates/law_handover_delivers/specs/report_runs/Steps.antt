@@ -33,16 +33,17 @@ use Rattle.proof_bearer_refinement.specs.run_bearers.Bearers.{Numbering, context
 use Rattle.proof_run_steps.specs.tunnel_steps.Standing.{standing}
 use Rattle.proof_bearer_refinement.specs.tie_facts.Asked.{IsUpStep, down_after, up_after}
 use Rattle.proof_bearer_refinement.specs.put_ties.Puts.{IsDuStep}
-use Rattle.proof_bearer_refinement.specs.tied_runs.Steps.{Point, IsPassed, DuActs}
-use Rattle.law_handover_delivers.specs.fresh_uplinks.Later.{Comes}
+use Rattle.proof_bearer_refinement.specs.tied_runs.Steps.{Point, DuActs}
 use Rattle.law_handover_delivers.specs.owed_orders.Owed.{final_asks}
 use Rattle.law_handover_delivers.specs.path_ties.Paths as path
 use Rattle.law_handover_delivers.specs.path_ties.Paths.{CoreOffers, CoreTakes}
 use Rattle.proof_run_steps.specs.radio_steps.Radios.{on_air}
+use Rattle.proof_run_steps.specs.teids.Given.{GiveOnce}
 use Rattle.proof_bearer_refinement.specs.radio_ties.Radio.{RunState, RunCause, IsAtTerminal, IsUeStep, IsBeside}
 use Rattle.proof_bearer_refinement.specs.radio_downs.Down.{down_key}
 use Rattle.proof_bearer_refinement.specs.radio_downs.Heard.{heard_by, OwedHeard}
 use Rattle.proof_bearer_refinement.specs.known_airs.Known.{AreKnown}
+use Rattle.proof_bearer_refinement.specs.tied_runs.Fair.{IsFair}
 use Rattle.law_handover_delivers.specs.report_links.Reports.{ReportsAreTrue, RunItem, RunPut}
 use Rattle.law_handover_delivers.specs.report_orders.Still.{AllOweStill}
 
@@ -174,4 +175,4 @@ module _ (reading : Reading) (n : Numbering) (ue : UeId) (bearer : BearerId) (sn
   -- one after another, each to a state that comes after the one before
   pub data Steps : Point → Point → Type 0 where
     not_yet : (p : Point) → Steps p p
-    further : (p q r : Point) → Steps p q → IsPassed reading q.state → IsPassed reading r.state → Comes reading q.state r.state → Step q r → Steps p r
+    further : (p q r : Point) → Steps p q → IsFair q.state → IsFair r.state → GiveOnce q.state.units r.state.units → Step q r → Steps p r

@@ -28,6 +28,7 @@ use Rattle.bearer_defs.specs.uplink_defs.Orders as up
 use Rattle.proof_bearer_refinement.specs.law_run_units.Happenings.{DuRecord}
 use Rattle.proof_bearer_refinement.specs.run_bearers.Bearers.{Numbering}
 use Rattle.proof_run_steps.specs.tunnel_steps.Standing.{standing}
+use Rattle.proof_run_steps.specs.teids.Given.{GiveOnce}
 use Rattle.proof_bearer_refinement.specs.put_ties.Puts.{IsDuStep, puts_of, orders_up}
 use Rattle.proof_node_orders.specs.terminal_inputs.Inputs.{Parts}
 use Rattle.proof_bearer_refinement.specs.radio_ties.Radio.{RunCause, OnRadio, up_key, Leaves, IsAtTerminal, IsUeStep}
@@ -35,8 +36,9 @@ use Rattle.proof_bearer_refinement.specs.radio_downs.Heard.{heard_by, OwedHeard}
 use Rattle.law_handover_delivers.specs.report_links.Reports.{RunItem}
 use Rattle.proof_bearer_refinement.specs.home_ties.Home.{HomeLeads}
 use Rattle.law_handover_delivers.specs.owed_runs.Owing.{IsSteadyAt}
-use Rattle.law_handover_delivers.specs.fresh_uplinks.Later.{AreFresh, Comes}
-use Rattle.proof_bearer_refinement.specs.tied_runs.Steps.{Point, IsPassed, IsTied}
+use Rattle.law_handover_delivers.specs.fresh_uplinks.Later.{AreFresh}
+use Rattle.proof_bearer_refinement.specs.tied_runs.Steps.{Point, IsTied}
+use Rattle.proof_bearer_refinement.specs.tied_runs.Fair.{IsFair}
 use Rattle.law_handover_delivers.specs.path_ties.Paths.{CameAbout, LeadsAt, CoreOffers, CoreTakes}
 use Rattle.law_handover_delivers.specs.report_runs.Steps.{ReportsAreTrueAt, IsKnownAt, CuUpActs, CuCpActs, OtherActs, CoreReads}
 
@@ -170,4 +172,4 @@ module _ (reading : Reading) (n : Numbering) (ue : UeId) (bearer : BearerId) (sn
   -- one after another, each to a state that comes after the one before
   pub data Steps : Point → Point → Type 0 where
     not_yet : (p : Point) → Steps p p
-    further : (p q r : Point) → Steps p q → IsPassed reading q.state → IsPassed reading r.state → Comes reading q.state r.state → Step q r → Steps p r
+    further : (p q r : Point) → Steps p q → IsFair q.state → IsFair r.state → GiveOnce q.state.units r.state.units → Step q r → Steps p r

@@ -1,5 +1,5 @@
 -- A step of a CU-CP, a CU-UP or a DU changes no terminal, and puts nothing on a radio up.
-use Rattle.std.proofs.Common.{◌≡◌, ℕ, Bool, true, false, List, [], ◌∷◌, Option, Some, None, refl, sym, ap, subst, ◌∙◌}
+use Rattle.std.proofs.Common.{◌≡◌, ℕ, Bool, true, false, List, [], ◌∷◌, Option, Some, None, refl, ap, subst, ◌∙◌}
 use Rattle.std.specs.List.{AllByRecursion}
 use Rattle.std.specs.Ordering.{eq_by_cmp}
 use Rattle.std.specs.Cmp.{Equal-is}
@@ -27,23 +27,18 @@ use Rattle.unit_defs.specs.CuCp.{cu_cp_acts}
 use Rattle.run_defs.specs.Lines.{RunLine}
 use Rattle.run_defs.specs.Units.{Units, cp_of, with_cp, up_of, with_up, du_of, with_du}
 use Rattle.run_defs.specs.Written.{Written, PlainStepped, WrittenStepped, written_step}
-use Rattle.run_defs.specs.States.{new_state, goes, stepped, step_spent, Lengths, sn_of, entity}
+use Rattle.run_defs.specs.States.{goes, stepped, step_spent, Lengths, sn_of, entity}
 use Rattle.run_defs.specs.Steps.{carried_out}
-use Rattle.run_defs.specs.Runs.{Reading, PlainGiven, Plain, plain_world, plain_way, input_of, stepped_with, acts_on, plain_by}
+use Rattle.run_defs.specs.Runs.{Reading, PlainGiven, Plain, plain_world, plain_way, input_of, stepped_with, plain_by}
 use Rattle.proof_run_steps.specs.steps.Causes.{node_of, given_of, count_of, first_of}
-use Rattle.proof_run_steps.specs.steps.Reached.{reached}
-use Rattle.proof_run_steps.specs.facts.Facts.{Hold, PutFits, PutsFit}
+use Rattle.proof_run_steps.specs.facts.Facts.{PutFits, PutsFit}
 use Rattle.proof_run_steps.specs.facts.UnitFacts.{written_facts}
-use Rattle.law_terminals_are_isolated.specs.own_events.Passed.{Passes, not_yet, further}
 use Rattle.law_terminals_are_isolated.specs.own_steps.Own.{IsActed}
-use Rattle.proof_run_steps.proofs.facts.Steps.{taken_has}
-use Rattle.proof_run_steps.proofs.facts.Runs.{made_holds}
-use Rattle.proof_run_steps.proofs.facts.Plain.{plain_kept, plain_run_holds}
 use Rattle.law_tunnels_are_owned.proofs.link_items.Names.{link_items}
-use Rattle.law_tunnels_are_owned.proofs.link_items.Links.{items_keep}
-use Rattle.proof_bearer_refinement.specs.tied_runs.Steps.{IsPassed}
 use Rattle.proof_bearer_refinement.specs.radio_ties.Radio.{RunState, RunCause, up_key, IsOff, IsOther, IsBeside}
 use Rattle.proof_bearer_refinement.specs.beside_ties.Nodes.{IsNoTerminal}
+use Rattle.proof_bearer_refinement.specs.tied_runs.Fair.{IsFair}
+use Rattle.proof_bearer_refinement.proofs.tied_runs.Fair.{puts_fit}
 
 abbrev PlainUnits : Type 0
 PlainUnits = Units (Message Token) Token
@@ -138,23 +133,13 @@ module _ (reading : Reading) where
     other Core quiet = tt
     other (Ue k) quiet = absurd quiet
 
-  held_past : (events : List Event) (event : Event) (before : RunState) → reached (plain_world reading) events new_state ≡ Some before
-      → (t : RunState) → Passes (plain_world reading) event before t → Hold (written_facts link_items) t
-  held_past events event before there t (not_yet x) = plain_run_holds link_items items_keep reading events before there
-  held_past events event before there t (further x y u told p made) =
-      made_holds (plain_world reading) (written_facts link_items) (plain_kept link_items items_keep reading) event y (goes told u) made
-      (held_past events event before there y p)
-
   pub is_beside : (ue : UeId) (bearer : BearerId) (s t : RunState) (event : Event) (cause : RunCause) (outputs : Puts) (units : PlainUnits)
-      (lines : List (RunLine (Message Token))) → IsPassed reading s → IsActed (plain_world reading) event s cause outputs units
+      (lines : List (RunLine (Message Token))) → IsFair s → IsActed (plain_world reading) event s cause outputs units
       → IsNoTerminal (node_of cause)
       → carried_out (plain_world reading) (node_of cause) (count_of cause) (first_of (plain_world reading) cause) outputs units s ≡ goes lines t
       → IsBeside reading s t ue bearer cause outputs units
-  is_beside ue bearer s t event cause outputs units lines passed acted quiet goes_on =
-      let holds : Hold (written_facts link_items) s = held_past passed.events passed.event passed.before passed.there s passed.passes in
-      let fits : PutsFit (written_facts link_items) (node_of cause) (count_of cause) outputs
-      = ((plain_kept link_items items_keep reading).answers (sn_of s) s.units units (node_of cause) (count_of cause) (given_of cause) outputs holds.units
-      (taken_has (plain_world reading) (written_facts link_items) event cause s holds acted.stands) acted.answers).1 in
+  is_beside ue bearer s t event cause outputs units lines fair acted quiet goes_on =
+      let fits : PutsFit (written_facts link_items) (node_of cause) (count_of cause) outputs = puts_fit reading s event cause outputs units fair acted in
       record {
         other = other ue bearer (node_of cause) quiet;
         off = all_off ue bearer (node_of cause) (count_of cause) outputs quiet fits;

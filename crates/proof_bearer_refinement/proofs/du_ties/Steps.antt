@@ -1,4 +1,4 @@
--- A tunnel of the bearer that a DU puts on is one of its uplinks, in a state that a run passes.
+-- A tunnel of the bearer that a DU puts on is one of its uplinks, in a fair state.
 use Rattle.std.proofs.Common.{◌≡◌, ℕ, ◌==◌, Bool, true, false, ◌&&◌, List, [], ◌∷◌, ◌++◌, map, Option, Some, None, refl, sym, ap, subst, ◌∙◌}
 use Rattle.std.specs.Prelude.{if◌then◌else◌, nat_lt}
 use Rattle.std.specs.List.{AllByRecursion}
@@ -21,30 +21,22 @@ use Rattle.scenario_text.specs.declared.event.Event.{Event}
 use Rattle.unit_defs.specs.Ways.{Message, Pdu, Load, control, packet, radio, deliver, dropped, held, opened, closed, failed, no, Input, control_input, packet_input, radio_input, confirm_input, offer_input, tick_input, order_input, Output, Answer}
 use Rattle.unit_defs.specs.UpRecords.{TunnelKind, n3, f1u_uplink, forwarding_down, forwarding_up}
 use Rattle.run_defs.specs.Lines.{RunLine}
-use Rattle.run_defs.specs.Units.{new_units, up_of, du_of, with_du}
+use Rattle.run_defs.specs.Units.{up_of, du_of, with_du}
 use Rattle.run_defs.specs.Written.{written_put}
-use Rattle.run_defs.specs.States.{new_state, goes, RunStep, Lengths, sn_of, radio_of}
+use Rattle.run_defs.specs.States.{Lengths, sn_of, radio_of}
 use Rattle.run_defs.specs.Conditions.{receiver_by}
 use Rattle.run_defs.specs.Runs.{Reading, plain_world, plain_way, input_of, taken_of, content_of}
 use Rattle.proof_run_steps.specs.steps.Causes.{by_order, by_tick, by_octets, by_octets_on, by_attach, by_release, by_offer, by_item, by_air, by_ack, by_letter, Stands, node_of, given_of, count_of}
-use Rattle.proof_run_steps.specs.steps.Made.{Made}
-use Rattle.proof_run_steps.specs.steps.Reached.{reached}
-use Rattle.proof_run_steps.proofs.steps.Frames.{HasUnits, units_by, act_units, made_relates}
+use Rattle.proof_run_steps.proofs.steps.Frames.{HasUnits, units_by, act_units}
 use Rattle.proof_run_steps.specs.teids.Given.{GiveOnce, below}
-use Rattle.proof_run_steps.proofs.teids.Runs.{give_same, give_then, placed_gives, answer_gives, given_once}
+use Rattle.proof_run_steps.proofs.teids.Runs.{give_same}
 use Rattle.proof_unit_steps.specs.tunnel_names.Names.{by_book}
 use Rattle.proof_unit_steps.specs.tunnels.Units.{NoneIsFree}
 use Rattle.law_tunnels_are_owned.specs.tunnel_book.Book.{is_kind, is_up_owner, all_such, book_of}
-use Rattle.law_tunnels_are_owned.proofs.tunnel_book.Books.{holds_own}
-use Rattle.proof_run_steps.specs.facts.Facts.{Hold, PutFits, PutsFit}
-use Rattle.law_terminals_are_isolated.specs.own_events.Passed.{Passes, not_yet, further}
+use Rattle.proof_run_steps.specs.facts.Facts.{PutFits, PutsFit}
 use Rattle.law_terminals_are_isolated.specs.own_steps.Own.{IsActed}
-use Rattle.proof_run_steps.proofs.facts.Steps.{nth_has, taken_has}
-use Rattle.proof_run_steps.proofs.facts.Later.{made_later, facts_hold_to}
-use Rattle.law_tunnels_are_owned.proofs.run_tunnels.Held.{Later}
-use Rattle.law_tunnels_are_owned.proofs.run_tunnels.Runs.{Named, kept, first}
-use Rattle.law_terminals_are_isolated.proofs.own_steps.Steps.{Sound}
-use Rattle.law_terminals_are_isolated.proofs.own_events.Passed.{sound_past}
+use Rattle.proof_run_steps.proofs.facts.Steps.{nth_has}
+use Rattle.law_tunnels_are_owned.proofs.run_tunnels.Runs.{Named}
 use Rattle.law_tunnels_are_owned.proofs.owner_facts.Owners.{first_of, second_of}
 use Rattle.proof_node_orders.specs.du_inputs.Changes.{change_by, part_of}
 use Rattle.proof_node_orders.specs.du_inputs.Puts.{OnTunnel, is_of, tunnels_put, of_part, carried_of, Puts}
@@ -57,8 +49,10 @@ use Rattle.proof_bearer_refinement.specs.run_bearers.Bearers.{Numbering}
 use Rattle.proof_bearer_refinement.specs.tie_facts.Ties.{Owned, owned_on}
 use Rattle.proof_bearer_refinement.specs.put_ties.Puts.{IsDuStep, LeadsUp, AllLead, orders_up, puts_of}
 use Rattle.proof_bearer_refinement.proofs.put_ties.Apart.{on_same, IsAt, at_end}
-use Rattle.proof_bearer_refinement.specs.tied_runs.Steps.{Point, IsPassed, DuActs}
+use Rattle.proof_bearer_refinement.specs.tied_runs.Steps.{Point, DuActs}
 use Rattle.proof_bearer_refinement.specs.radio_ties.Radio.{RunState, RunCause, OnRadio, up_key, Leaves}
+use Rattle.proof_bearer_refinement.specs.tied_runs.Fair.{IsFair}
+use Rattle.proof_bearer_refinement.proofs.tied_runs.Fair.{named_fit}
 use Rattle.proof_bearer_refinement.proofs.du_ties.Quiet.{IsQuietLoad, AreQuiet, IsNotOurs, puts_quiet, at_quiet, quiet_kept}
 
 abbrev Outs : Type 0
@@ -74,32 +68,6 @@ third_of : (a b c : Bool) → (a && b && c) ≡ true → c ≡ true
 third_of true true c is = is
 third_of true false c is = absurd cc
 third_of false b c is = absurd cc
-
--- ---- what a run holds in the states that it passes, as the units name tunnels at last
-
-module _ (reading : Reading) (events : List Event) (event : Event) (before : RunState) (there : reached (plain_world reading) events new_state ≡ Some before) where
-  abbrev PassesTo : RunState → Type 0
-  PassesTo t = Passes (plain_world reading) event before t
-
-  made_gives : (t u : RunState) (told : List (RunStep (Message Token))) → Made (plain_world reading) event t (goes told u) → GiveOnce t.units u.units
-  made_gives t u told p =
-      made_relates (plain_world reading) GiveOnce give_same give_then (answer_gives reading) (λ v plan. give_same v)
-      (λ v plan free room teids. placed_gives v plan teids) event t (goes told u) p
-
-  given_past : (t : RunState) → PassesTo t → GiveOnce new_units t.units
-  given_past t (not_yet x) = given_once reading events new_state before there
-  given_past t (further x y u told p made) = give_then new_units y.units u.units (given_past y p) (made_gives y u told made)
-
-  module _ (w : PlainUnits) (none : NoneIsFree (by_book (book_of w))) where
-    held_past : (t : RunState) → PassesTo t → GiveOnce t.units w → Hold (Named w none) t
-    held_past t (not_yet x) later =
-        facts_hold_to (plain_world reading) (Named w none) (Later w) (kept w none reading) events new_state before (first w none) there later
-    held_past t (further x y u told p made) later =
-        made_later (plain_world reading) (Named w none) (Later w) (kept w none reading) event y (goes told u) made
-        (held_past y p (give_then y.units u.units w (made_gives y u told made) later)) later
-
-  free : (t : RunState) → PassesTo t → NoneIsFree (by_book (book_of t.units))
-  free t p = (holds_own (Message Token) Token t.units (sound_past reading events event before there t p).owned (given_past t p)).none
 
 -- ---- the kind of a tunnel that a DU puts on
 
@@ -186,7 +154,7 @@ module _ (w : PlainUnits) (none : NoneIsFree (by_book (book_of w))) (n : Numberi
 -- ---- the step
 
 module _ (reading : Reading) (n : Numbering) (ue : UeId) (bearer : BearerId) (sn : SnBits) (quota : ℕ) (p q : Point) (event : Event) (gnb : Gnb) (number : ℕ)
-    (cause : RunCause) (input : Input Token Pdu) (outputs : Outs) (left : DuRecord) (passed : IsPassed reading p.state) (passed_then : IsPassed reading q.state)
+    (cause : RunCause) (input : Input Token Pdu) (outputs : Outs) (left : DuRecord) (fair : IsFair p.state) (fair_then : IsFair q.state)
     (acted : IsActed (plain_world reading) event p.state cause (map (written_put (sn_of p.state)) outputs) (with_du p.state.units gnb number left))
     (step : IsDuStep reading p.state q.state gnb number cause input outputs left) (leaves : Leaves (up_key ue bearer) cause) (down_is : q.down ≡ p.down)
     (up_is : q.up ≡ up.run p.up (orders_up n ue bearer p.state.units p.up (puts_of ue bearer p.state.units gnb number input))) where
@@ -195,9 +163,6 @@ module _ (reading : Reading) (n : Numbering) (ue : UeId) (bearer : BearerId) (sn
 
   abbrev after : PlainUnits
   after = with_du p.state.units gnb number left
-
-  sound : Sound s
-  sound = sound_past reading passed.events passed.event passed.before passed.there s passed.passes
 
   units_then : q.state.units ≡ after
   units_then =
@@ -222,19 +187,13 @@ module _ (reading : Reading) (n : Numbering) (ue : UeId) (bearer : BearerId) (sn
   w = q.state.units
 
   none : NoneIsFree (by_book (book_of w))
-  none = free reading passed_then.events passed_then.event passed_then.before passed_then.there q.state passed_then.passes
+  none = fair_then.none
 
   then_given : GiveOnce after w
   then_given = subst (λ (x : PlainUnits). GiveOnce after x) (sym units_then) (give_same after)
 
   fits : PutsFit (Named w none) (node_of cause) (count_of cause) (map (written_put (sn_of s)) outputs)
-  fits =
-      let gives : GiveOnce s.units after
-      = answer_gives reading (sn_of s) s.units after (node_of cause) (given_of cause) (map (written_put (sn_of s)) outputs) acted.answers in
-      let holds : Hold (Named w none) s
-      = held_past reading passed.events passed.event passed.before passed.there w none s passed.passes (give_then s.units after w gives then_given) in
-      ((kept w none reading).answers (sn_of s) s.units after (node_of cause) (count_of cause) (given_of cause) (map (written_put (sn_of s)) outputs) holds.units
-      (taken_has (plain_world reading) (Named w none) event cause s holds acted.stands) acted.answers then_given).1
+  fits = named_fit reading s event cause (map (written_put (sn_of s)) outputs) after fair acted w none then_given
 
   listed : tunnels_put ue bearer outputs ≡ puts_of ue bearer s.units gnb number input
   unfolding Puts
@@ -242,7 +201,7 @@ module _ (reading : Reading) (n : Numbering) (ue : UeId) (bearer : BearerId) (sn
       let r : DuRecord = du_of s.units gnb number in
       (subst (λ (a : Answer (Message Token) Pdu DuRecord). Puts ue bearer (puts_of ue bearer s.units gnb number input)
       (of_part (carried_of (change_by plain_way ue bearer r input)) (part_of r ue bearer)) a) step.answers
-      (input_puts plain_way ue bearer r input ((sound.owned.1 gnb number).1 ue))).0
+      (input_puts plain_way ue bearer r input ((fair.sound.owned.1 gnb number).1 ue))).0
 
   -- ---- it isn't a PDU of the bearer's radio up
 
@@ -286,7 +245,7 @@ module _ (reading : Reading) (n : Numbering) (ue : UeId) (bearer : BearerId) (sn
   not_ours (by_air from home item) at given stands far =
       so (radio_input item.key.ue item.key.bearer item.key.dir item.content.says (content_of item.content.says)) given
       (aired from home item from.dir refl at
-      (nth_has (λ (x : OnRadio). x.key ≡ from) (radio_of s from).items (radio_of s from).carried item (sound.radios from) stands.1) far)
+      (nth_has (λ (x : OnRadio). x.key ≡ from) (radio_of s from).items (radio_of s from).carried item (fair.sound.radios from) stands.1) far)
   not_ours (by_ack from home item rest) at given stands far =
       so (confirm_input item.key.ue item.key.bearer item.key.dir item.content.says (content_of item.content.says)) given tt
   not_ours (by_letter k l to) at given stands far = so (control_input l.from l.message) given tt

@@ -1,5 +1,5 @@
 -- The first state is tied, and an offered packet is a step from there.
-use Rattle.std.proofs.Common.{◌≡◌, ℕ, List, [], ◌∷◌, Option, Some, None, refl, sym, subst}
+use Rattle.std.proofs.Common.{◌≡◌, ℕ, List, [], ◌∷◌, None, refl, sym, subst}
 use Rattle.tables.specs.Shelves.{seen}
 use Rattle.tables.specs.Tables.{find, put, without, entry_after, first_entry, at, map_values}
 use Rattle.transaction_defs.specs.Callees.{kept_at, newest, verdict, taken, kept_reply, keep, keep_for}
@@ -18,7 +18,7 @@ use Rattle.unit_defs.specs.Transactions.{kind_of, with_instance, waits_at, with_
 use Rattle.unit_defs.specs.Ue.{new_ue, placed, number_each, number_waiting, connect_bearer, obey, arrive, come_back, accept, fail, offer as offer_2, take as take_3, confirm as confirm_2, ue_acts}
 use Rattle.unit_defs.specs.UpBearers.{made, framed, sent, sent_again, number_each as number_each_2, number_waiting as number_waiting_2, deliver_stored, forwarded_down, forwarded_up, with_uplink, begin_downlink, switched, frozen_to, with_status, resumed}
 use Rattle.unit_defs.specs.UpItems.{held_reason, took_fresh, took_numbered, took_uplink, took_report, took_delivery_status, uplink_ended, up_ended, took}
-use Rattle.unit_defs.specs.UpRecords.{reserved, Downlink, n3 as n3_kind}
+use Rattle.unit_defs.specs.UpRecords.{reserved, Downlink}
 use Rattle.transport_defs.specs.Links.{put_letter, letter, landed, in_flight_of}
 use Rattle.run_defs.specs.Conditions.{rests as rests_2, n3_from}
 use Rattle.run_defs.specs.Events.{static, start as start_3, attach as attach_2, offer as offer_3, get, air, ack, give, lose_message, lose_item, pump, tick as tick_4, poll as poll_2, fail as fail_2, arrive as arrive_2, come_back as come_back_2, handover as handover_2, cancel as cancel_2, release as release_4, ask as ask_2, inject_message, inject_item}
@@ -33,7 +33,7 @@ use Rattle.gnb_types.specs.declared.names.SnBits.TheVariants.{Len12}
 use Rattle.unit_defs.specs.Ways.{Message}
 use Rattle.message_types.specs.declared.rrc.Token.{Token}
 use Rattle.scenario_text.specs.declared.event.Event.TheVariants as script
-use Rattle.run_defs.specs.Lines.{RunLine, put_item, tunnel_link, shown}
+use Rattle.run_defs.specs.Lines.{put_item, tunnel_link, shown}
 use Rattle.run_defs.specs.States.{entity}
 use Rattle.law_terminals_are_isolated.specs.own_events.Passed.{not_yet as same_state}
 use Rattle.bearer_defs.specs.chain_defs.Parts as down_parts
@@ -48,7 +48,9 @@ use Rattle.proof_bearer_refinement.specs.run_bearers.Bearers.{Numbering}
 use Rattle.proof_bearer_refinement.specs.tie_facts.Ties.{RunItem, IsMirror}
 use Rattle.proof_bearer_refinement.specs.put_ties.Worked.{terminal, bearer, plan}
 use Rattle.proof_bearer_refinement.specs.core_ties.Core.{PathLeads, IsOffer}
-use Rattle.proof_bearer_refinement.specs.tied_runs.Steps.{Point, IsPassed, IsTied, CoreOffers, Step, an_offer, Steps, not_yet, further as then_step}
+use Rattle.proof_bearer_refinement.specs.tied_runs.Steps.{Point, IsTied, an_offer, Steps, not_yet, further as then_step}
+use Rattle.proof_bearer_refinement.specs.tied_runs.Fair.{IsPassed}
+use Rattle.proof_bearer_refinement.proofs.tied_runs.Fair.{passed_is_fair}
 use Rattle.proof_bearer_refinement.specs.first_ties.First as its
 use Rattle.proof_bearer_refinement.proofs.first_ties.First.{nothing_stands, empty_mirror, its_part, contexts_are}
 
@@ -94,7 +96,8 @@ module _ (reading : Reading) (n : Numbering) where
 
   pub goes_on : Steps reading n terminal bearer Len12 64 begins (its.after reading n starts.0 starts.1)
   goes_on =
-      then_step begins begins (its.after reading n starts.0 starts.1) (not_yet begins) passed_set_up passed_offer
+      then_step begins begins (its.after reading n starts.0 starts.1) (not_yet begins) (passed_is_fair reading its.set_up passed_set_up)
+      (passed_is_fair reading (its.with_packet reading) passed_offer)
       (an_offer (record {
         who = terminal;
         which = bearer;

@@ -26,8 +26,7 @@ use Rattle.proof_bearer_refinement.specs.run_bearers.Bearers.{Numbering}
 use Rattle.proof_node_orders.specs.terminal_inputs.Inputs.{Parts, Orders, none, carried_out, rest_of, orders_by}
 use Rattle.law_terminals_are_isolated.specs.own_steps.Own.{IsActed}
 use Rattle.proof_run_steps.specs.law_run_links.Own.{HoldTheirOwn}
-use Rattle.law_terminals_are_isolated.proofs.own_events.Passed.{sound_past}
-use Rattle.proof_bearer_refinement.specs.tied_runs.Steps.{Point, IsPassed, IsOfRadio, IsLeft, StaysBeside}
+use Rattle.proof_bearer_refinement.specs.tied_runs.Steps.{Point, IsOfRadio, IsLeft, StaysBeside}
 use Rattle.proof_bearer_refinement.specs.rest_ties.Nodes.{PutsNoItem}
 use Rattle.proof_bearer_refinement.proofs.rest_ties.Rest.{bearer_is_left}
 use Rattle.proof_bearer_refinement.specs.radio_ties.Radio.{RunCause, RunState, IsAtTerminal, IsUeStep}
@@ -39,6 +38,7 @@ use Rattle.law_downlink_order.proofs.heard_packets.Heard.{heard, first_is}
 use Rattle.proof_run_steps.specs.radio_steps.Radios.{on_air}
 use Rattle.proof_bearer_refinement.specs.radio_downs.Heard.{heard_by, OwedPacket, OwedHeard, OwedRest, IsKept}
 use Rattle.proof_bearer_refinement.specs.radio_downs.Down.{down_key, IsDown}
+use Rattle.proof_bearer_refinement.specs.tied_runs.Fair.{IsFair}
 use Rattle.proof_bearer_refinement.proofs.radio_downs.Terminals.{owes_rest, down_then}
 
 -- ---- the orders of a packet are those of the radio
@@ -131,12 +131,12 @@ owes_less sn quota u p bearer to tick_input kept owed = tt
 
 module _ (reading : Reading) (n : Numbering) (ue : UeId) (bearer : BearerId) (sn : SnBits) (quota : ℕ) (p q : Point) (event : Event)
     (tie : IsAtTerminal reading ue bearer p.state (both p)) (v : UeNode) (cause : RunCause)
-    (outputs : List (Output (Message Token) Pdu)) (to : Option ℕ) (passed : IsPassed reading p.state) (kept : IsKept sn quota p.down) where
+    (outputs : List (Output (Message Token) Pdu)) (to : Option ℕ) (fair : IsFair p.state) (kept : IsKept sn quota p.down) where
   abbrev u : UeNode
   u = tie.terminal
 
   own : HoldTheirOwn p.state
-  own = (sound_past reading passed.events passed.event passed.before passed.there p.state passed.passes).radios
+  own = fair.sound.radios
 
   abbrev Step : Input Token Pdu → Type 0
   Step input = IsUeStep reading event p.state q.state ue u v cause input outputs
@@ -153,14 +153,14 @@ module _ (reading : Reading) (n : Numbering) (ue : UeId) (bearer : BearerId) (sn
 
   left : (input : Input Token Pdu) → Step input → Acted → IsLeft n ue bearer p.state q.state
   left input step acted =
-      bearer_is_left reading n ue bearer p.state q.state event cause (map (written_put (sn_of p.state)) outputs) (with_ue p.state.units ue v) step.lines passed
+      bearer_is_left reading n ue bearer p.state q.state event cause (map (written_put (sn_of p.state)) outputs) (with_ue p.state.units ue v) step.lines fair
       acted (subst (λ node. PutsNoItem node) (sym step.node) tt) step.goes_on
 
   -- as for every input
   as_before : (input : Input Token Pdu) → Step input → Acted → OwedStill u (both p) bearer to input → By (orders_by plain_way u (both p) bearer to input)
   as_before input step acted owed down_is up_is = (
-    stays reading n ue bearer sn quota p q event tie v cause input outputs to passed step acted owed down_is up_is,
-    tied reading n ue bearer sn quota p q event tie v cause input outputs to passed step acted owed down_is up_is,
+    stays reading n ue bearer sn quota p q event tie v cause input outputs to fair step acted owed down_is up_is,
+    tied reading n ue bearer sn quota p q event tie v cause input outputs to fair step acted owed down_is up_is,
   )
 
   module _ (who : UeId) (other : BearerId) (pdu : Pdu) (count : ℕ) (packet : List ℕ) where

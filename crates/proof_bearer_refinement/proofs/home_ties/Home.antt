@@ -1,9 +1,8 @@
 -- A DU that takes what stands next on the radio up carries it to the context that the terminal is at.
-use Rattle.std.proofs.Common.{◌≡◌, ℕ, ◌==◌, Bool, true, false, ◌&&◌, List, [], ◌∷◌, ◌++◌, map, Option, Some, None, refl, sym, ap, subst, ◌∙◌, arith}
+use Rattle.std.proofs.Common.{◌≡◌, ℕ, ◌==◌, Bool, true, ◌&&◌, List, [], ◌∷◌, ◌++◌, map, Option, Some, None, refl, sym, ap, subst, ◌∙◌, arith}
 use Rattle.std.specs.Prelude.{if◌then◌else◌}
 use Rattle.std.proofs.lemmas.List.{append-nil}
-use Rattle.std.specs.List.{AllByRecursion}
-use Rattle.std.specs.Ordering.{nat_cmp, eq_by_cmp, is_eq}
+use Rattle.std.specs.Ordering.{is_eq}
 use Rattle.std.specs.Cmp.{tied_itself}
 use Rattle.gnb_types.specs.declared.names.Gnb.{Gnb}
 use Rattle.gnb_types.specs.declared.names.NodeId.{NodeId}
@@ -13,11 +12,10 @@ use Rattle.gnb_types.specs.declared.names.UeId.{UeId}
 use Rattle.gnb_types.specs.declared.names.BearerId.{BearerId}
 use Rattle.gnb_types.specs.declared.names.Dir.TheVariants.{Ul}
 use Rattle.gnb_types.specs.declared.keys.EntityKey.{EntityKey}
-use Rattle.gnb_types.specs.Orders.{ue_cmp, bearer_cmp}
 use Rattle.gnb_types.proofs.OrderLemmas.{ue_total, bearer_total}
 use Rattle.message_types.specs.declared.rrc.Token.{Token}
 use Rattle.scenario_text.specs.declared.event.Event.{Event}
-use Rattle.unit_defs.specs.Ways.{Message, Pdu, packet_pdu, report_pdu, Load, uplink, Input, radio_input, Output}
+use Rattle.unit_defs.specs.Ways.{Message, Pdu, packet_pdu, report_pdu, uplink, Input, radio_input, Output}
 use Rattle.unit_defs.specs.UpRecords.{UpBearer, TunnelKind, f1u_uplink}
 use Rattle.unit_defs.specs.UpBearers.{is_one_of}
 use Rattle.run_defs.specs.Units.{up_of, du_of, with_du}
@@ -33,27 +31,27 @@ use Rattle.proof_node_orders.specs.du_steps.Steps.{order_of}
 use Rattle.bearer_defs.specs.uplink_defs.Parts.{Part, uplink_tunnel}
 use Rattle.bearer_defs.specs.uplink_defs.Orders as up
 use Rattle.bearer_defs.specs.uplink_defs.Guards as guards
-use Rattle.proof_cu_up_orders.specs.context_orders.Orders.{UpPart, part_of}
+use Rattle.proof_cu_up_orders.specs.context_orders.Orders.{UpPart}
 use Rattle.proof_cu_up_orders.specs.bearer_orders.Up as ups
 use Rattle.proof_cu_up_orders.specs.orders.Up.{IsUp}
 use Rattle.law_tunnels_are_owned.specs.owner_facts.Owned.{ends_of, AreOwned}
 use Rattle.proof_bearer_refinement.specs.law_run_units.Happenings.{DuRecord}
 use Rattle.proof_bearer_refinement.specs.run_bearers.Things.{PlainUnits}
-use Rattle.proof_bearer_refinement.specs.run_bearers.Bearers.{Place, Numbering, if_of, at_place, contexts_of}
+use Rattle.proof_bearer_refinement.specs.run_bearers.Bearers.{Numbering, if_of, at_place, contexts_of}
 use Rattle.proof_bearer_refinement.specs.tie_facts.Ties.{Owned, owned_on}
 use Rattle.proof_bearer_refinement.proofs.tie_facts.Ends.{IsOwner, owner_is}
 use Rattle.proof_bearer_refinement.specs.put_ties.Puts.{IsDuStep, LeadsUp, IsAtStation, order_up, AllLead, orders_up, owned_to, puts_of}
 use Rattle.proof_bearer_refinement.proofs.put_ties.Apart.{place, IsAt, at_end}
 use Rattle.law_terminals_are_isolated.specs.own_steps.Own.{IsActed}
-use Rattle.law_terminals_are_isolated.proofs.own_events.Passed.{sound_past}
 use Rattle.law_terminals_are_isolated.proofs.own_steps.Steps.{Sound}
-use Rattle.proof_bearer_refinement.specs.tied_runs.Steps.{Point, IsPassed, IsTied, DuActs}
+use Rattle.proof_bearer_refinement.specs.tied_runs.Steps.{Point, IsTied, DuActs}
 use Rattle.proof_bearer_refinement.specs.radio_ties.Radio.{OnRadio, up_key, IsAtTerminal, StandsNext, IsBeside}
 use Rattle.proof_bearer_refinement.proofs.radio_ties.Others.{stands_next, carried_then}
 use Rattle.proof_bearer_refinement.proofs.beside_ties.Beside.{is_beside}
 use Rattle.proof_node_orders.specs.terminal_inputs.Inputs.{Parts}
 use Rattle.proof_bearer_refinement.specs.terminal_ties.Owed.{both}
 use Rattle.proof_bearer_refinement.specs.home_ties.Home.{HomeLeads}
+use Rattle.proof_bearer_refinement.specs.tied_runs.Fair.{IsFair}
 
 number_same : (a : ℕ) → (a == a) ≡ true
 number_same a = grind arith
@@ -120,7 +118,7 @@ kept_one u x teid (report_pdu fmc bits) next is_open no_end = tt
 
 module _ (reading : Reading) (n : Numbering) (ue : UeId) (bearer : BearerId) (sn : SnBits) (quota : ℕ) (p q : Point) (event : Event)
     (tie : IsAtTerminal reading ue bearer p.state (both p)) (gnb : Gnb) (number : ℕ) (item : OnRadio) (input : Input Token Pdu)
-    (outputs : List (Output (Message Token) Pdu)) (left : DuRecord) (passed : IsPassed reading p.state) (tied : IsTied reading n ue bearer sn quota p)
+    (outputs : List (Output (Message Token) Pdu)) (left : DuRecord) (fair : IsFair p.state) (tied : IsTied reading n ue bearer sn quota p)
     (acted : IsActed (plain_world reading) event p.state (by_air (up_key ue bearer) (du_id gnb number) item) (map (written_put (sn_of p.state)) outputs)
     (with_du p.state.units gnb number left))
     (step : IsDuStep reading p.state q.state gnb number (by_air (up_key ue bearer) (du_id gnb number) item) input outputs left)
@@ -142,7 +140,7 @@ module _ (reading : Reading) (n : Numbering) (ue : UeId) (bearer : BearerId) (sn
   one = record { to = leads.part.bearer.up; teid = teid; load = uplink says }
 
   sound : Sound p.state
-  sound = sound_past reading passed.events passed.event passed.before passed.there p.state passed.passes
+  sound = fair.sound
 
   key_is : item.key ≡ key
   key_is = nth_has (λ (x : OnRadio). x.key ≡ key) (radio_of p.state key).items (radio_of p.state key).carried item (sound.radios key) acted.stands.1
@@ -189,7 +187,7 @@ module _ (reading : Reading) (n : Numbering) (ue : UeId) (bearer : BearerId) (sn
       let beside : IsBeside reading p.state q.state ue bearer (by_air key (du_id gnb number) item) (map (written_put (sn_of p.state)) outputs)
       (with_du p.state.units gnb number left)
       = is_beside reading ue bearer p.state q.state event (by_air key (du_id gnb number) item) (map (written_put (sn_of p.state)) outputs)
-      (with_du p.state.units gnb number left) step.lines passed acted tt step.goes_on in
+      (with_du p.state.units gnb number left) step.lines fair acted tt step.goes_on in
       let up_so : q.up ≡ up.run p.up (order_of station p.up teid (uplink says)) = up_is ∙ ap (up.run p.up) orders_are in
       subst (λ (b : Parts). IsAtTerminal reading ue bearer q.state b) (λ i. record { up = sym up_so i; down = sym down_is i })
       (carried_then reading p.state q.state ue bearer event (both p) tie (du_id gnb number) item acted.stands station teid

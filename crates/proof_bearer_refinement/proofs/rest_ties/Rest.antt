@@ -1,8 +1,7 @@
 -- A step of a CU-CP or a terminal changes no CU-UP, and puts nothing on a tunnel.
-use Rattle.std.proofs.Common.{◌≡◌, ℕ, Bool, true, false, List, [], ◌∷◌, map, Option, Some, None, refl, sym, ap, subst, ◌∙◌}
+use Rattle.std.proofs.Common.{◌≡◌, ℕ, Bool, false, List, [], ◌∷◌, Option, Some, None, refl, ap, subst, ◌∙◌}
 use Rattle.std.specs.Prelude.{◌==◌, ◌&&◌, unwrap_or, if◌then◌else◌}
 use Rattle.std.specs.List.{AllByRecursion}
-use Rattle.std.specs.Ordering.{eq_by_cmp}
 use Rattle.gnb_types.specs.declared.names.Gnb.{Gnb}
 use Rattle.gnb_types.specs.declared.names.Gnb.TheVariants.{A, B}
 use Rattle.gnb_types.specs.declared.names.NodeId.{NodeId}
@@ -10,7 +9,6 @@ use Rattle.gnb_types.specs.declared.names.NodeId.TheVariants.{CuCp, CuUp as up_i
 use Rattle.gnb_types.specs.declared.names.UeId.{UeId}
 use Rattle.gnb_types.specs.declared.names.BearerId.{BearerId}
 use Rattle.gnb_types.specs.declared.keys.TunnelEnd.{TunnelEnd}
-use Rattle.gnb_types.specs.Orders.{node_cmp}
 use Rattle.message_types.specs.declared.rrc.Token.{Token}
 use Rattle.scenario_text.specs.declared.event.Event.{Event}
 use Rattle.unit_defs.specs.Ways.{Message, Pdu, Load, control, packet, radio, deliver, dropped, held, opened, closed, failed, no, Put, Input, gives, spent}
@@ -18,40 +16,34 @@ use Rattle.unit_defs.specs.Ue.{UeNode, ue_acts}
 use Rattle.unit_defs.specs.CpRecords.{CuCpRecord}
 use Rattle.unit_defs.specs.CuCp.{cu_cp_acts}
 use Rattle.run_defs.specs.Lines.{RunLine}
-use Rattle.run_defs.specs.Units.{Units, new_units, cp_of, with_cp, ue_of, with_ue}
+use Rattle.run_defs.specs.Units.{cp_of, with_cp, ue_of, with_ue}
 use Rattle.run_defs.specs.Written.{Written, PlainStepped, WrittenStepped, written_step}
-use Rattle.run_defs.specs.States.{new_state, goes, stepped, step_spent, Lengths, sn_of, RunStep}
+use Rattle.run_defs.specs.States.{goes, stepped, step_spent, Lengths, sn_of}
 use Rattle.run_defs.specs.Steps.{carried_out}
-use Rattle.run_defs.specs.Runs.{Reading, PlainGiven, Plain, plain_world, plain_way, input_of, stepped_with, ue_stepped, acts_on, plain_by}
-use Rattle.proof_run_steps.specs.steps.Causes.{Cause, node_of, given_of, count_of, first_of}
-use Rattle.proof_run_steps.specs.steps.Made.{Made}
-use Rattle.proof_run_steps.specs.steps.Reached.{reached}
-use Rattle.proof_run_steps.proofs.steps.Frames.{HasUnits, units_by, act_units, made_relates}
+use Rattle.run_defs.specs.Runs.{Reading, PlainGiven, Plain, plain_world, plain_way, input_of, stepped_with, ue_stepped, plain_by}
+use Rattle.proof_run_steps.specs.steps.Causes.{node_of, given_of, count_of, first_of}
+use Rattle.proof_run_steps.proofs.steps.Frames.{HasUnits, units_by, act_units}
 use Rattle.proof_run_steps.specs.teids.Given.{GiveOnce}
-use Rattle.proof_run_steps.proofs.teids.Runs.{give_same, give_then, placed_gives, answer_gives, given_once}
+use Rattle.proof_run_steps.proofs.teids.Runs.{give_same}
 use Rattle.law_tunnels_are_owned.proofs.open_tunnels.Links.{end_of, same_end, differs}
 use Rattle.proof_run_steps.specs.tunnel_steps.Standing.{standing, is_end, after_put, after_puts}
 use Rattle.proof_run_steps.proofs.tunnel_steps.Tracks.{acts_so}
 use Rattle.proof_unit_steps.specs.tunnel_names.Names.{by_book}
 use Rattle.proof_unit_steps.specs.tunnels.Units.{NoneIsFree}
 use Rattle.law_tunnels_are_owned.specs.tunnel_book.Book.{book_of}
-use Rattle.law_tunnels_are_owned.proofs.tunnel_book.Books.{holds_own}
-use Rattle.proof_run_steps.specs.facts.Facts.{Hold, PutFits, PutsFit}
-use Rattle.law_terminals_are_isolated.specs.own_events.Passed.{Passes, not_yet, further}
+use Rattle.proof_run_steps.specs.facts.Facts.{PutFits, PutsFit}
 use Rattle.law_terminals_are_isolated.specs.own_steps.Own.{IsActed}
-use Rattle.proof_run_steps.proofs.facts.Steps.{taken_has}
-use Rattle.proof_run_steps.proofs.facts.Later.{made_later, facts_hold_to}
-use Rattle.law_tunnels_are_owned.proofs.run_tunnels.Held.{Later}
-use Rattle.law_tunnels_are_owned.proofs.run_tunnels.Runs.{Named, kept, first}
-use Rattle.law_terminals_are_isolated.proofs.own_events.Passed.{sound_past}
-use Rattle.proof_bearer_refinement.specs.tie_facts.Ties.{RunState, RunItem, Owned, owned_on, owned_at}
+use Rattle.law_tunnels_are_owned.proofs.run_tunnels.Runs.{Named}
+use Rattle.proof_bearer_refinement.specs.tie_facts.Ties.{RunState, RunItem, Owned, owned_on}
 use Rattle.proof_bearer_refinement.specs.tie_facts.Asked.{RunCause}
 use Rattle.proof_bearer_refinement.specs.run_bearers.Things.{PlainUnits}
 use Rattle.proof_bearer_refinement.specs.run_bearers.Bearers.{Numbering}
 use Rattle.proof_bearer_refinement.proofs.put_ties.Apart.{on_same, contexts_same}
 use Rattle.proof_bearer_refinement.proofs.put_ties.Stands.{takes_none, ups_stay}
-use Rattle.proof_bearer_refinement.specs.tied_runs.Steps.{IsPassed, IsLeft}
+use Rattle.proof_bearer_refinement.specs.tied_runs.Steps.{IsLeft}
 use Rattle.proof_bearer_refinement.specs.rest_ties.Nodes.{PutsNoItem}
+use Rattle.proof_bearer_refinement.specs.tied_runs.Fair.{IsFair}
+use Rattle.proof_bearer_refinement.proofs.tied_runs.Fair.{named_fit}
 
 abbrev Puts : Type 0
 Puts = List (Put (Message Token) (Written (Load Pdu)) (Written Pdu))
@@ -160,46 +152,19 @@ module _ (end : TunnelEnd) (node : NodeId) (taken : Option ℕ) (far : end.node 
   all_leave (output ∷ outputs) there none =
       ap (after_puts end node taken outputs) (leaves_it output there none.0) ∙ all_leave outputs there none.1
 
--- ---- what a run holds in the states that it passes
+-- ---- what such a unit puts in a fair state
 
-module _ (reading : Reading) (events : List Event) (event : Event) (before : RunState) (there : reached (plain_world reading) events new_state ≡ Some before) where
-  abbrev PassesTo : RunState → Type 0
-  PassesTo t = Passes (plain_world reading) event before t
-
-  made_gives : (t u : RunState) (told : List (RunStep (Message Token))) → Made (plain_world reading) event t (goes told u) → GiveOnce t.units u.units
-  made_gives t u told p =
-      made_relates (plain_world reading) GiveOnce give_same give_then (answer_gives reading) (λ v plan. give_same v)
-      (λ v plan free room teids. placed_gives v plan teids) event t (goes told u) p
-
-  given_past : (t : RunState) → PassesTo t → GiveOnce new_units t.units
-  given_past t (not_yet x) = given_once reading events new_state before there
-  given_past t (further x y u told p made) = give_then new_units y.units u.units (given_past y p) (made_gives y u told made)
-
-  module _ (w : PlainUnits) (none : NoneIsFree (by_book (book_of w))) where
-    held_past : (t : RunState) → PassesTo t → GiveOnce t.units w → Hold (Named w none) t
-    held_past t (not_yet x) later =
-        facts_hold_to (plain_world reading) (Named w none) (Later w) (kept w none reading) events new_state before (first w none) there later
-    held_past t (further x y u told p made) later =
-        made_later (plain_world reading) (Named w none) (Later w) (kept w none reading) event y (goes told u) made
-        (held_past y p (give_then y.units u.units w (made_gives y u told made) later)) later
-
-  abbrev free : (t : RunState) → PassesTo t → NoneIsFree (by_book (book_of t.units))
-  free t p = (holds_own (Message Token) Token t.units (sound_past reading events event before there t p).owned (given_past t p)).none
-
-  -- what such a unit puts then
-  pub puts_none : (s : RunState) (p : PassesTo s) (other : Event) (cause : RunCause) (outputs : Puts) (units : PlainUnits)
-      → IsActed (plain_world reading) other s cause outputs units → PutsNoItem (node_of cause) → AllByRecursion NoItem outputs
-  puts_none s p other cause outputs units acted quiet =
-      let holds : Hold (Named s.units (free s p)) s = held_past s.units (free s p) s p (give_same s.units) in
-      no_items s.units (free s p) (node_of cause) (count_of cause) outputs quiet
-      ((kept s.units (free s p) reading).answers (sn_of s) s.units units (node_of cause) (count_of cause) (given_of cause) outputs holds.units
-      (taken_has (plain_world reading) (Named s.units (free s p)) other cause s holds acted.stands) acted.answers
-      (still reading (sn_of s) s.units units (node_of cause) (given_of cause) outputs quiet acted.answers).gives_none).1
+puts_none : (reading : Reading) (s : RunState) (fair : IsFair s) (event : Event) (cause : RunCause) (outputs : Puts) (units : PlainUnits)
+    → IsActed (plain_world reading) event s cause outputs units → PutsNoItem (node_of cause) → AllByRecursion NoItem outputs
+puts_none reading s fair event cause outputs units acted quiet =
+    no_items s.units fair.none (node_of cause) (count_of cause) outputs quiet
+    (named_fit reading s event cause outputs units fair acted s.units fair.none
+    (still reading (sn_of s) s.units units (node_of cause) (given_of cause) outputs quiet acted.answers).gives_none)
 
 -- ---- so the bearer's contexts and tunnels stay
 
 module _ (reading : Reading) (n : Numbering) (ue : UeId) (bearer : BearerId) (s t : RunState) (event : Event) (cause : RunCause) (outputs : Puts)
-    (units : PlainUnits) (lines : List (RunLine (Message Token))) (passed : IsPassed reading s)
+    (units : PlainUnits) (lines : List (RunLine (Message Token))) (fair : IsFair s)
     (acted : IsActed (plain_world reading) event s cause outputs units) (quiet : PutsNoItem (node_of cause))
     (goes_on : carried_out (plain_world reading) (node_of cause) (count_of cause) (first_of (plain_world reading) cause) outputs units s ≡ goes lines t) where
   ups_same : t.units.ups ≡ s.units.ups
@@ -218,7 +183,7 @@ module _ (reading : Reading) (n : Numbering) (ue : UeId) (bearer : BearerId) (s 
   far g k Core quiet e = quiet
 
   none : AllByRecursion NoItem outputs
-  none = puts_none reading passed.events passed.event passed.before passed.there s passed.passes event cause outputs units acted quiet
+  none = puts_none reading s fair event cause outputs units acted quiet
 
   at_node : (node : NodeId) (teid : ℕ) (o : Owned) → owned_on n ue bearer s.units node teid ≡ Some o
       → standing t (end_of node teid) ≡ standing s (end_of node teid)

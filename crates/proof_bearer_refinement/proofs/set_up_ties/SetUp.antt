@@ -1,5 +1,5 @@
 -- What a set-up of another terminal leaves of a bearer: by the slices of CU-UPs, and by the tunnels that it opens.
-use Rattle.std.proofs.Common.{◌≡◌, ◌≢◌, ℕ, ◌==◌, Bool, true, false, ◌&&◌, List, [], ◌∷◌, Option, Some, None, refl, sym, ap, subst, ◌∙◌, arith}
+use Rattle.std.proofs.Common.{◌≡◌, ◌≢◌, ℕ, ◌==◌, Bool, true, false, ◌&&◌, List, [], ◌∷◌, Option, Some, None, refl, sym, ap, ◌∙◌, arith}
 use Rattle.std.specs.Prelude.{if◌then◌else◌, unwrap_or, is_some, ◌*◌}
 use Rattle.std.specs.Ordering.{nat_cmp, eq_by_cmp}
 use Rattle.std.specs.Cmp.{Equal-is}
@@ -10,7 +10,7 @@ use Rattle.gnb_types.specs.declared.names.UeId.{UeId}
 use Rattle.gnb_types.specs.declared.names.BearerId.{BearerId}
 use Rattle.gnb_types.specs.declared.keys.TunnelEnd.{TunnelEnd}
 use Rattle.gnb_types.specs.declared.plans.Plan.{Plan}
-use Rattle.gnb_types.specs.Orders.{ue_cmp, bearer_cmp, tunnel_cmp}
+use Rattle.gnb_types.specs.Orders.{ue_cmp, bearer_cmp}
 use Rattle.gnb_types.proofs.OrderLemmas.{ue_exact}
 use Rattle.tables.specs.Tables.{find, at}
 use Rattle.message_types.specs.declared.rrc.Token.{Token}
@@ -23,17 +23,16 @@ use Rattle.run_defs.specs.Runs.{Reading}
 use Rattle.law_terminals_are_isolated.specs.up_slice.CuUps.{UpSlice, own_tunnel, up_slice}
 use Rattle.law_terminals_are_isolated.specs.own_steps.Own.{LeavesOthers}
 use Rattle.law_terminals_are_isolated.proofs.own_steps.Steps.{Sound}
-use Rattle.law_terminals_are_isolated.proofs.own_events.Passed.{sound_past}
 use Rattle.law_terminals_are_isolated.proofs.all_steps.Statics.{from_same, static_leaves}
 use Rattle.proof_cu_up_orders.specs.context_orders.Orders.{part_in}
-use Rattle.proof_cu_up_orders.specs.context_orders.Shown.{is_bearer}
 use Rattle.proof_run_steps.specs.tunnel_steps.Standing.{standing}
 use Rattle.proof_bearer_refinement.specs.run_bearers.Bearers.{Place, Numbering, if_of, at_place, contexts_of}
-use Rattle.proof_bearer_refinement.specs.tie_facts.Ties.{RunState, RunItem, Owned, owned_by, owned_on, owned_at}
+use Rattle.proof_bearer_refinement.specs.tie_facts.Ties.{RunState, RunItem, Owned, owned_by, owned_on}
 use Rattle.law_tunnels_are_owned.proofs.open_tunnels.Links.{end_of}
 use Rattle.proof_bearer_refinement.proofs.put_ties.Apart.{found_on}
 use Rattle.proof_bearer_refinement.proofs.put_ties.Stands.{some_standing}
-use Rattle.proof_bearer_refinement.specs.tied_runs.Steps.{IsLeft, IsPassed}
+use Rattle.proof_bearer_refinement.specs.tied_runs.Steps.{IsLeft}
+use Rattle.proof_bearer_refinement.specs.tied_runs.Fair.{IsFair}
 
 number_same : (a : ℕ) → (a == a) ≡ true
 number_same a = grind arith
@@ -66,17 +65,17 @@ module _ (n : Numbering) (ue : UeId) (bearer : BearerId) (g : Gnb) (k : ℕ) whe
           then Some (record { context = n.number_of (record { gnb = g; number = k; instance = w.context }); kind = w.kind }) else None)
           (apart_ue w.ue apart)
 
-module _ (reading : Reading) (n : Numbering) (ue : UeId) (bearer : BearerId) (s : RunState) (plan : Plan) (passed : IsPassed reading s)
-    (passed_then : IsPassed reading (statically plan s)) (free : is_held_by_units plan s.units ≡ false)
+module _ (reading : Reading) (n : Numbering) (ue : UeId) (bearer : BearerId) (s : RunState) (plan : Plan) (fair : IsFair s)
+    (fair_then : IsFair (statically plan s)) (free : is_held_by_units plan s.units ≡ false)
     (teids : up_has_teids (up_of s.units plan.gnb plan.up) plan && du_has_teids (du_of s.units plan.gnb plan.du) plan ≡ true) (apart : ue ≢ plan.ue) where
   abbrev t : RunState
   t = statically plan s
 
   sound : Sound s
-  sound = sound_past reading passed.events passed.event passed.before passed.there s passed.passes
+  sound = fair.sound
 
   sound_then : Sound t
-  sound_then = sound_past reading passed_then.events passed_then.event passed_then.before passed_then.there t passed_then.passes
+  sound_then = fair_then.sound
 
   leaves : LeavesOthers plan.ue s t
   leaves = static_leaves plan s free teids sound.owned

@@ -1,5 +1,5 @@
 -- A terminal's step leaves the bearer's contexts and tunnels, and is its input's orders.
-use Rattle.std.proofs.Common.{◌≡◌, ℕ, ◌+◌, ◌==◌, Bool, true, false, ◌&&◌, nat_lt, nat_le, length, List, [], ◌∷◌, map, Option, Some, None, refl, sym, ap, subst, ◌∙◌}
+use Rattle.std.proofs.Common.{◌≡◌, ℕ, ◌+◌, ◌==◌, Bool, true, false, ◌&&◌, nat_lt, nat_le, length, List, [], ◌∷◌, map, Option, Some, None, sym, subst, ◌∙◌}
 use Rattle.std.specs.Prelude.{if◌then◌else◌}
 use Rattle.std.specs.List.{AllByRecursion}
 use Rattle.std.specs.Ordering.{eq_by_cmp}
@@ -24,22 +24,21 @@ use Rattle.run_defs.specs.Units.{with_ue}
 use Rattle.run_defs.specs.Written.{written_put}
 use Rattle.run_defs.specs.States.{sn_of}
 use Rattle.run_defs.specs.Runs.{Reading, plain_world, plain_way}
-use Rattle.proof_run_steps.specs.steps.Causes.{node_of}
 use Rattle.bearer_defs.specs.chain_defs.Orders as down
 use Rattle.bearer_defs.specs.uplink_defs.Orders as up
 use Rattle.proof_bearer_refinement.specs.run_bearers.Bearers.{Numbering}
 use Rattle.proof_node_orders.specs.terminal_rows.Shown.{numbering}
-use Rattle.proof_node_orders.specs.terminal_inputs.Inputs.{Parts, Orders, none, of_command, of_accepted, of_token, of_letter, of_taken, of_pdu, of_confirmed, offered_to, of_offer, of_arrival, of_return, of_order, if_here, orders_by, IsOwedFor, AllKept}
+use Rattle.proof_node_orders.specs.terminal_inputs.Inputs.{Parts, Orders, none, of_command, of_accepted, of_token, of_letter, of_taken, of_pdu, of_confirmed, offered_to, of_offer, of_arrival, of_return, of_order, orders_by, IsOwedFor, AllKept}
 use Rattle.proof_node_orders.proofs.terminal_inputs.Kept.{input_kept}
 use Rattle.law_terminals_are_isolated.specs.own_steps.Own.{IsActed}
 use Rattle.proof_run_steps.specs.law_run_links.Own.{HoldTheirOwn}
-use Rattle.law_terminals_are_isolated.proofs.own_events.Passed.{sound_past}
-use Rattle.proof_bearer_refinement.specs.tied_runs.Steps.{Point, IsPassed, IsOfRadio, IsOfTerminal, IsLeft, StaysBeside}
+use Rattle.proof_bearer_refinement.specs.tied_runs.Steps.{Point, IsOfRadio, IsLeft, StaysBeside}
 use Rattle.proof_bearer_refinement.specs.rest_ties.Nodes.{PutsNoItem}
 use Rattle.proof_bearer_refinement.proofs.rest_ties.Rest.{bearer_is_left}
 use Rattle.proof_bearer_refinement.specs.radio_ties.Radio.{RunCause, IsAtTerminal, IsUeStep, OwedOnRadio}
 use Rattle.proof_bearer_refinement.proofs.radio_ties.Terminals.{terminal_then, owed_then, own_orders}
 use Rattle.proof_bearer_refinement.specs.terminal_ties.Owed.{both, OwedStill}
+use Rattle.proof_bearer_refinement.specs.tied_runs.Fair.{IsFair}
 
 -- ---- the orders down are those of the terminal and its radio
 
@@ -151,14 +150,14 @@ module _ (u : UeNode) (b : Parts) where
 
 module _ (reading : Reading) (n : Numbering) (ue : UeId) (bearer : BearerId) (sn : SnBits) (quota : ℕ) (p q : Point) (event : Event)
     (tie : IsAtTerminal reading ue bearer p.state (both p)) (v : UeNode) (cause : RunCause) (input : Input Token Pdu)
-    (outputs : List (Output (Message Token) Pdu)) (to : Option ℕ) (passed : IsPassed reading p.state)
+    (outputs : List (Output (Message Token) Pdu)) (to : Option ℕ) (fair : IsFair p.state)
     (step : IsUeStep reading event p.state q.state ue tie.terminal v cause input outputs)
     (acted : IsActed (plain_world reading) event p.state cause (map (written_put (sn_of p.state)) outputs) (with_ue p.state.units ue v))
     (owed : OwedStill tie.terminal (both p) bearer to input)
     (down_is : q.down ≡ down.run p.down (orders_by plain_way tie.terminal (both p) bearer to input).down)
     (up_is : q.up ≡ up.run p.up (orders_by plain_way tie.terminal (both p) bearer to input).up) where
   own : HoldTheirOwn p.state
-  own = (sound_past reading passed.events passed.event passed.before passed.there p.state passed.passes).radios
+  own = fair.sound.radios
 
   abbrev o : Orders
   o = orders_by plain_way tie.terminal (both p) bearer to input
@@ -171,7 +170,7 @@ module _ (reading : Reading) (n : Numbering) (ue : UeId) (bearer : BearerId) (sn
 
   left : IsLeft n ue bearer p.state q.state
   left =
-      bearer_is_left reading n ue bearer p.state q.state event cause (map (written_put (sn_of p.state)) outputs) (with_ue p.state.units ue v) step.lines passed
+      bearer_is_left reading n ue bearer p.state q.state event cause (map (written_put (sn_of p.state)) outputs) (with_ue p.state.units ue v) step.lines fair
       acted (subst (λ (node : NodeId). PutsNoItem node) (sym step.node) tt) step.goes_on
 
   pub stays : StaysBeside reading n ue bearer sn quota p q

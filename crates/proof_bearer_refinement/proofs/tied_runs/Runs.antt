@@ -17,7 +17,7 @@ use Rattle.law_downlink_order.proofs.chain.Laws as chain_laws
 use Rattle.law_uplink_order.specs.uplink.Words as up_words
 use Rattle.law_uplink_order.proofs.uplink.Laws as uplink_laws
 use Rattle.proof_bearer_refinement.specs.tied_runs.Steps.{Point, IsTied, Step, a_cu_up, a_du, an_offer, a_message, all_else, Steps, not_yet, further, AreOrders}
-use Rattle.proof_bearer_refinement.proofs.tied_runs.Sound.{passed_sound}
+use Rattle.proof_bearer_refinement.proofs.tied_runs.Fair.{fair_sound}
 use Rattle.proof_bearer_refinement.proofs.tied_runs.Ups.{up_tied, up_orders}
 use Rattle.proof_bearer_refinement.proofs.tied_runs.Rest.{du_then, offer_then, message_then, beside_then}
 
@@ -89,9 +89,9 @@ module _ (reading : Reading) (n : Numbering) (ue : UeId) (bearer : BearerId) (sn
 
   pub steps_then : (p q : Point) → Tied p → Steps reading n ue bearer sn quota p q → Tied q × Orders p q
   steps_then p q tied (not_yet x) = (tied, no_orders x)
-  steps_then p q tied (further x y z before passed passes step) =
+  steps_then p q tied (further x y z before fair passes step) =
       let first = steps_then x y tied before in
-      let one = step_then y z (passed_sound reading y.state z.state passed passes) first.0 step in
+      let one = step_then y z (fair_sound y.state z.state fair passes) first.0 step in
       (one.0, then_orders x y z first.1 one.1)
 
   -- from the first part on

@@ -9,11 +9,8 @@ use Rattle.gnb_types.specs.declared.keys.TunnelEnd.{TunnelEnd}
 use Rattle.message_types.specs.declared.rrc.Token.{Token}
 use Rattle.unit_defs.specs.Ways.{Message, Pdu, Input, Output}
 use Rattle.unit_defs.specs.Core.{CorePath, CoreRecord}
-use Rattle.scenario_text.specs.declared.event.Event.{Event}
 use Rattle.transport_defs.specs.declared.Letter.{Letter}
-use Rattle.run_defs.specs.States.{new_state}
-use Rattle.run_defs.specs.Runs.{Reading, plain_world}
-use Rattle.proof_run_steps.specs.steps.Reached.{reached}
+use Rattle.run_defs.specs.Runs.{Reading}
 use Rattle.proof_run_steps.specs.tunnel_steps.Standing.{standing}
 use Rattle.bearer_defs.specs.chain_defs.Parts as down_parts
 use Rattle.bearer_defs.specs.chain_defs.Orders as down
@@ -30,22 +27,14 @@ use Rattle.proof_bearer_refinement.specs.tie_facts.Asked.{RunCause, IsUpStep, Al
 use Rattle.proof_bearer_refinement.specs.put_ties.Puts.{IsDuStep, AllLead, orders_up, puts_of}
 use Rattle.proof_bearer_refinement.specs.up_ties.Fresh.{UplinksAreFresh}
 use Rattle.proof_bearer_refinement.specs.core_ties.Core.{PathLeads, IsOffer, orders_offered, IsCoreStep, orders_told}
+use Rattle.proof_bearer_refinement.specs.tied_runs.Fair.{IsFair}
 use Rattle.proof_node_orders.specs.core_rows.Shown.{goal_by, IsOne}
-use Rattle.law_terminals_are_isolated.specs.own_events.Passed.{Passes}
 
 -- a state of the run, and the parts then
 pub record Point : Type 0 where
   pub state : RunState
   pub down : down_parts.Part
   pub up : up_parts.Part
-
--- a state that a run from the first one passes, within an event too
-pub record IsPassed (reading : Reading) (s : RunState) : Type 0 where
-  pub events : List Event
-  pub event : Event
-  pub before : RunState
-  pub there : reached (plain_world reading) events new_state ≡ Some before
-  pub passes : Passes (plain_world reading) event before s
 
 -- orders of the terminal and of its radio: no context changes by them, and no tunnel
 abbrev pub IsOfRadio : down.Order → Type 0
@@ -156,7 +145,7 @@ module _ (reading : Reading) (n : Numbering) (ue : UeId) (bearer : BearerId) (sn
 
   pub data Steps : Point → Point → Type 0 where
     not_yet : (p : Point) → Steps p p
-    further : (p q r : Point) → Steps p q → IsPassed reading q.state → IsPassed reading r.state → Step q r → Steps p r
+    further : (p q r : Point) → Steps p q → IsFair q.state → IsFair r.state → Step q r → Steps p r
 
   -- ---- what the parts do meanwhile: orders, each of which asks what it does
 

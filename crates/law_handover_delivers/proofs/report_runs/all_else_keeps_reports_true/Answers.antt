@@ -5,5 +5,5 @@ pub returns : goal.returns
 returns c = record {
   set_up = λ ue bearer deliv plan s told. set_up_told ue bearer deliv plan s told;
   octets = λ reading ue bearer deliv s t reads told. octets_told ue bearer deliv reading s t reads told;
-  others = λ reading ue bearer deliv s t passed acts told. other_told ue bearer deliv reading s t passed acts told;
+  others = λ reading ue bearer deliv s t fair acts told. other_told ue bearer deliv reading s t fair acts told;
 }
