@@ -2,7 +2,7 @@
 use Rattle.std.proofs.Common.{◌≡◌, ℕ, ◌+◌, ◌<◌, ◌≤◌, List, [], ◌∷◌, ◌++◌, Option, Some, map, length, refl, ap, ◌∙◌, sym, subst, arith, append_assoc, inl, inr}
 use Rattle.std.specs.List.{AllByRecursion}
 use Rattle.std.specs.Prelude.{reverse, slice_get}
-use Rattle.std.proofs.lemmas.List.{map-append, append-nil}
+use Rattle.std.proofs.lemmas.List.{map-append, append-nil, reverse-append}
 use Rattle.std.proofs.lemmas.Bool.{cases_lt}
 use Rattle.transcript_defs.specs.declared.line.TextLine.{TextLine}
 use Rattle.transcript_defs.specs.declared.rule.Rule.{Rule}
@@ -47,7 +47,7 @@ small rules.End = (omega arith, omega arith)
 -- ---- the texts of a list of lines
 
 pub texts_more : (line : TextLine) (past : List TextLine) → texts_of (line ∷ past) ≡ texts_of past ++ text_of line ∷ []
-texts_more line past = map-append text_of (reverse past) (line ∷ [])
+texts_more line past = ap (map text_of) (reverse-append (line ∷ []) past) ∙ map-append text_of (reverse past) (line ∷ [])
 
 texts_step : (line : TextLine) (past : List TextLine) (text : List ℕ) (rest : List (List ℕ)) → text ≡ text_of line
     → texts_of past ++ text ∷ rest ≡ texts_of (line ∷ past) ++ rest
@@ -77,8 +77,9 @@ one_more : (spell : Spelling) (past : List TextLine) (at : AtPlace) (rule : Rule
 unfolding Below
 one_more spell past at rule below kept other less =
     elim (cases_lt (rule_number other) (rule_number rule)) [
-        inl lower ↦ below other lower
-      | inr high ↦ subst (λ r. Keeps spell r past at) (one_rule rule other (omega (arith, less, high))) kept ]
+      | inl lower ↦ below other lower
+      | inr high ↦ subst (λ r. Keeps spell r past at) (one_rule rule other (omega (arith, less, high))) kept
+    ]
 
 -- a rule whose lower ones are kept can't be missing
 next : (spell : Spelling) (texts : List (List ℕ)) (past : List TextLine) (rest : List (List ℕ)) (at : AtPlace)
@@ -87,16 +88,16 @@ next : (spell : Spelling) (texts : List (List ℕ)) (past : List TextLine) (rest
 unfolding Below
 next spell texts past rest at neither upto stands rule below go =
     neither.not_unsound (length past + 1) rule (record {
-        past = past;
-        rest = rest;
-        texts_are = upto.texts_are;
-        proper = upto.proper;
-        sound = upto.sound;
-        place_is = refl;
-        at = at;
-        stands = stands;
-        broken = λ kept. go (one_more spell past at rule below kept);
-        least = below;
+      past = past;
+      rest = rest;
+      texts_are = upto.texts_are;
+      proper = upto.proper;
+      sound = upto.sound;
+      place_is = refl;
+      at = at;
+      stands = stands;
+      broken = λ kept. go (one_more spell past at rule below kept);
+      least = below;
     })
 
 none_below : (spell : Spelling) (past : List TextLine) (at : AtPlace) → Below spell past at 1
@@ -116,41 +117,42 @@ all_rules_kept spell texts past rest at neither upto stands go =
     rule rules.Order b5 (λ b6.
     rule rules.Seen b6 (λ b7.
     rule rules.Spelling b7 (λ b8.
-    rule rules.End b8 (λ b9. go (λ r. b9 r (small r).1))))))))
+    rule rules.End b8 (λ b9. go (λ r. b9 r (small r).1)))))))))
 
 neither_from : (spell : Spelling) (texts : List (List ℕ)) → Neither spell texts
     → (rest : List (List ℕ)) (past : List TextLine) → Upto spell texts past rest → ⊥
+unfolding Below
 neither_from spell texts neither [] past upto =
     all_rules_kept spell texts past [] the_end neither upto tt (λ kept.
     neither.not_sound (record {
-        past = past;
-        texts_are = upto.texts_are ∙ append-nil (texts_of past);
-        proper = upto.proper;
-        sound = upto.sound;
-        finished = kept rules.End;
+      past = past;
+      texts_are = upto.texts_are ∙ append-nil (texts_of past);
+      proper = upto.proper;
+      sound = upto.sound;
+      finished = kept rules.End;
     }))
 neither_from spell texts neither (text ∷ rest) past upto =
     neither.not_unsound (length past + 1) rules.Form (record {
-        past = past;
-        rest = text ∷ rest;
-        texts_are = upto.texts_are;
-        proper = upto.proper;
-        sound = upto.sound;
-        place_is = refl;
-        at = no_line;
-        stands = λ line is.
+      past = past;
+      rest = text ∷ rest;
+      texts_are = upto.texts_are;
+      proper = upto.proper;
+      sound = upto.sound;
+      place_is = refl;
+      at = no_line;
+      stands = λ line is.
           all_rules_kept spell texts past (text ∷ rest) (a_line line) neither upto is (λ kept.
           neither_from spell texts neither rest (line ∷ past) (record {
-              texts_are = upto.texts_are ∙ texts_step line past text rest is.text_is;
-              proper = (is.proper, upto.proper);
-              sound = (upto.sound, kept);
+            texts_are = upto.texts_are ∙ texts_step line past text rest is.text_is;
+            proper = (is.proper, upto.proper);
+            sound = (upto.sound, kept);
           }));
-        broken = λ kept. kept;
-        least = none_below spell past no_line;
+      broken = λ kept. kept;
+      least = none_below spell past no_line;
     })
 
 -- A text is sound, or breaks a rule at a first place.
 pub not_neither : (spell : Spelling) (texts : List (List ℕ)) → (Sound spell texts → ⊥)
     → ((place : ℕ) (rule : Rule) → IsUnsound spell texts place rule → ⊥) → ⊥
-not_neither spell texts no nor =
-    neither_from spell texts (record { not_sound = no; not_unsound = nor }) texts [] (record { texts_are = refl; proper = tt; sound = tt })
+not_neither spell texts not_sound not_unsound =
+    neither_from spell texts (record { not_sound = not_sound; not_unsound = not_unsound }) texts [] (record { texts_are = refl; proper = tt; sound = tt })
