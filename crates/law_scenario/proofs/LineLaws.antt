@@ -1,51 +1,20 @@
 -- No two transcripts have one text.
-use Rattle.std.proofs.Common.{◌≡◌, ℕ, zero, suc, ◌-◌, ◌<◌, ◌^◌, Bool, true, false, cond, List, Option, Some, None, Result, [], ◌∷◌, ◌++◌, map, drop, refl, ap, ◌∙◌, sym, subst, inr, arith, nat_eq, codes, append_assoc}
-use Rattle.std.specs.Fmt.{decimal}
-use Rattle.std.specs.Option.{option_map}
-use Rattle.std.specs.Result.{result_ok}
-use Rattle.std.specs.List.{find, slice_split, join_with_byte}
-use Rattle.std.proofs.lemmas.Fmt.{decimal_digit}
-use Rattle.gnb_types.specs.Hex.{hex_of, read_hex}
-use Rattle.gnb_types.proofs.HexLemmas.{hex_is_read, hex_of_is_hex}
-use Rattle.gnb_types.specs.Names.{node_text, ue_text, bearer_text, dir_text}
-use Rattle.gnb_types.specs.Reasons.{drop_text, held_text, cause_text, refuse_text}
-use Rattle.gnb_types.specs.declared.names.Gnb.TheVariants.{A, B}
-use Rattle.gnb_types.specs.declared.names.Dir.{Dir}
-use Rattle.gnb_types.specs.declared.names.Dir.TheVariants.{Dl, Ul}
-use Rattle.gnb_types.specs.declared.names.UeId.{UeId}
-use Rattle.gnb_types.specs.declared.names.BearerId.{BearerId}
-use Rattle.gnb_types.specs.declared.names.NodeId.{NodeId}
-use Rattle.gnb_types.specs.declared.names.NodeId.TheVariants.{CuCp, CuUp, Du, Core, Ue}
-use Rattle.gnb_types.specs.declared.reasons.DropReason.{DropReason}
-use Rattle.gnb_types.specs.declared.reasons.DropReason.TheVariants as drops
-use Rattle.gnb_types.specs.declared.reasons.HeldReason.{HeldReason}
-use Rattle.gnb_types.specs.declared.reasons.HeldReason.TheVariants as helds
-use Rattle.gnb_types.specs.declared.reasons.CauseName.{CauseName}
-use Rattle.gnb_types.specs.declared.reasons.CauseName.TheVariants as causes
-use Rattle.gnb_types.specs.declared.reasons.RefuseReason.{RefuseReason}
-use Rattle.gnb_types.specs.declared.reasons.RefuseReason.TheVariants as refuses
-use Rattle.scenario_text.specs.declared.script_words.reason.TextReason.{TextReason}
-use Rattle.scenario_text.specs.script_words.Forms.{◌is◌, ◌begins◌, number_of, ue_of, bearer_of, node_of, dir_of, message_of, greatest_number}
-use Rattle.scenario_text.specs.script_words.Ranges.{IsWithin, IsNode}
-use Rattle.scenario_text.proofs.script_words.FormLaws.{is_text, ue_again, bearer_again, node_again, number_again, positive_again}
-use Rattle.scenario_text.proofs.script_words.PlaceLaws.{Lacks, Lacks-decimal, Lacks-node, value_words-AreWordsOf}
+use Rattle.std.proofs.Common.{◌≡◌, ℕ, List, [], ◌∷◌, ◌++◌, map, refl, ap, ◌∙◌, sym, subst, nat_eq, append_assoc}
+use Rattle.std.specs.List.{slice_split}
+use Rattle.scenario_text.proofs.script_words.PlaceLaws.{value_words-AreWordsOf}
 use Rattle.scenario_text.specs.declared.event.Event.{Event}
 use Rattle.scenario_text.specs.script_words.Places.{value_words}
 use Rattle.scenario_text.specs.declared.event.Keyword.{Keyword}
 use Rattle.scenario_text.specs.declared.event.Keyword.TheVariants as keywords
-use Rattle.scenario_text.specs.Grammar.{keyword_text, event_of}
+use Rattle.scenario_text.specs.Grammar.{keyword_text}
 use Rattle.scenario_text.specs.Texts.{event_text, InRange}
-use Rattle.scenario_text.specs.declared.line.Link.{Link}
-use Rattle.scenario_text.specs.declared.line.Link.TheVariants.{Tunnel, Radio}
-use Rattle.scenario_text.specs.declared.line.Item.{Item}
-use Rattle.scenario_text.specs.declared.line.Message.{Message}
 use Rattle.scenario_text.specs.declared.line.OutLine.{OutLine}
 use Rattle.scenario_text.specs.declared.line.OutLine.TheVariants as lines
-use Rattle.scenario_text.specs.Print.{link_text, count_text, item_text, message_text, line_text, print}
-use Rattle.scenario_text.proofs.EventLaws.{event_of-event_text, text_by_form}
-use Rattle.transcript_defs.specs.Lines.{AreBytes, IsLink, IsCount, IsItem, IsMessage, IsLine, AreLines}
-use Rattle.proof_transcript_lines.proofs.Solid.{Solid, solid-append, solid-decimal, solid-hex, solid-node, solid-dir, AllSolid, parts_then, parts_one, Without, solid_words, solid_line, solid-places}
-use Rattle.proof_transcript_lines.proofs.ReadLines.{ReadsBack, IsOther, line_reads_all, one_line}
+use Rattle.scenario_text.specs.Print.{line_text, print}
+use Rattle.scenario_text.proofs.EventLaws.{text_by_form}
+use Rattle.transcript_defs.specs.Lines.{IsLine, AreLines}
+use Rattle.proof_transcript_lines.proofs.Solid.{Solid, parts_then, Without, solid_line, solid-places}
+use Rattle.proof_transcript_lines.proofs.ReadLines.{ReadsBack, line_reads_all, one_line}
 
 keyword_solid : (k : Keyword) → Solid (keyword_text k)
 keyword_solid keywords.Static = refl

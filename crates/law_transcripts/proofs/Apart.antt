@@ -1,12 +1,12 @@
 -- A text has one reading: it isn't sound and unsound, and the rule that it breaks first is one.
-use Rattle.std.proofs.Common.{◌≡◌, ◌⊎◌, ℕ, ◌+◌, ◌<◌, ◌≤◌, List, [], ◌∷◌, ◌++◌, map, length, reverse, refl, ap, ◌∙◌, sym, subst, arith, append_assoc, inl, inr}
+use Rattle.std.proofs.Common.{◌≡◌, ◌⊎◌, ℕ, ◌+◌, ◌<◌, List, [], ◌∷◌, ◌++◌, map, length, reverse, refl, ap, ◌∙◌, sym, subst, arith, append_assoc, inl, inr}
 use Rattle.std.specs.List.{AllByRecursion}
 use Rattle.std.proofs.lemmas.List.{append-nil, reverse-append, reverse-reverse}
 use Rattle.std.proofs.lemmas.Bool.{cases_lt}
 use Rattle.transcript_defs.specs.declared.line.TextLine.{TextLine}
 use Rattle.transcript_defs.specs.declared.rule.Rule.{Rule}
 use Rattle.transcript_defs.specs.declared.rule.Rule.TheVariants as rules
-use Rattle.transcript_defs.specs.Lines.{text_of, IsProper, IsLineOf}
+use Rattle.transcript_defs.specs.Lines.{text_of, IsProper}
 use Rattle.transcript_defs.specs.Rules.{Spelling, AtPlace, a_line, no_line, the_end, Keeps, IsFinished, rule_number}
 use Rattle.transcript_defs.specs.Sound.{AreSound, texts_of, Stands, Sound, IsUnsound}
 use Rattle.proof_transcript_lines.proofs.TextLines.{one_text_line}

@@ -7,8 +7,8 @@ use Rattle.std.proofs.lemmas.Bool.{cases_lt}
 use Rattle.transcript_defs.specs.declared.line.TextLine.{TextLine}
 use Rattle.transcript_defs.specs.declared.rule.Rule.{Rule}
 use Rattle.transcript_defs.specs.declared.rule.Rule.TheVariants as rules
-use Rattle.transcript_defs.specs.Lines.{text_of, IsProper, IsLineOf}
-use Rattle.transcript_defs.specs.Rules.{Spelling, AtPlace, a_line, no_line, the_end, Keeps, IsFinished, rule_number}
+use Rattle.transcript_defs.specs.Lines.{text_of, IsProper}
+use Rattle.transcript_defs.specs.Rules.{Spelling, AtPlace, a_line, no_line, the_end, Keeps, rule_number}
 use Rattle.transcript_defs.specs.Sound.{AreSound, texts_of, Stands, Sound, IsUnsound}
 
 -- ---- rules by their numbers

@@ -1,8 +1,6 @@
 -- What soundness gives: deliveries are a prefix of what was offered, and a quiet bearer has delivered all.
-use Rattle.std.proofs.Common.{◌≡◌, ℕ, ◌+◌, Bool, true, false, cond, List, [], ◌∷◌, ◌++◌, Option, Some, None, length, refl, ap, ◌∙◌, sym, subst, arith, append_assoc}
+use Rattle.std.proofs.Common.{◌≡◌, ℕ, ◌+◌, Bool, true, false, cond, List, [], ◌∷◌, ◌++◌, Some, length, refl, ap, ◌∙◌, sym, subst, arith, append_assoc}
 use Rattle.std.specs.Prelude.{slice_get}
-use Rattle.std.specs.List.{flat_map}
-use Rattle.std.specs.Ordering.{eq_by_cmp}
 use Rattle.std.proofs.lemmas.List.{append-nil, length-append}
 use Rattle.std.proofs.lemmas.Grind.{flat_map-append}
 use Rattle.std.specs.Cmp.{Equal-is}
@@ -16,7 +14,7 @@ use Rattle.gnb_types.proofs.OrderLemmas.{entity_exact}
 use Rattle.scenario_text.specs.declared.event.Event.{Event}
 use Rattle.scenario_text.specs.declared.line.OutLine.TheVariants as lines
 use Rattle.transcript_defs.specs.declared.line.TextLine.{TextLine}
-use Rattle.transcript_defs.specs.declared.line.TextLine.TheVariants.{Printed, LostMore, OutstandingWide}
+use Rattle.transcript_defs.specs.declared.line.TextLine.TheVariants.{Printed}
 use Rattle.transcript_defs.specs.declared.rule.Rule.TheVariants as rules
 use Rattle.transcript_defs.specs.Past.{same_entity, accepted, accepted_at, offer_at, offered, delivered, delivery_at}
 use Rattle.transcript_defs.specs.Rules.{Spelling, IsInOrder, ShowsCount}

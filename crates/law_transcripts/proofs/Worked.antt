@@ -1,31 +1,26 @@
 -- Worked transcripts, line by line.
-use Rattle.std.proofs.Common.{◌≡◌, ℕ, ◌<◌, Bool, true, false, List, [], ◌∷◌, Option, Some, None, refl, ap, sym, inl, inr, arith, nat_lt, length, reverse}
-use Rattle.std.specs.List.{list_all, AllByRecursion}
-use Rattle.std.specs.Prelude.{codes}
+use Rattle.std.proofs.Common.{◌≡◌, ℕ, ◌<◌, true, false, List, [], ◌∷◌, Option, Some, None, refl, inl, inr, arith, nat_lt}
+use Rattle.std.specs.List.{list_all}
 use Rattle.std.specs.Fmt.{digits}
 use Rattle.std.proofs.lemmas.List.Sums.{AllPass-from_list_all}
 use Rattle.std.proofs.lemmas.Bool.Decides.{nat_tests}
 use Rattle.gnb_types.specs.declared.names.Gnb.TheVariants.{A}
-use Rattle.gnb_types.specs.declared.names.Dir.{Dir}
-use Rattle.gnb_types.specs.declared.names.Dir.TheVariants.{Dl, Ul}
+use Rattle.gnb_types.specs.declared.names.Dir.TheVariants.{Dl}
 use Rattle.gnb_types.specs.declared.names.SnBits.TheVariants.{Len12}
 use Rattle.gnb_types.specs.declared.names.UeId.{UeId}
 use Rattle.gnb_types.specs.declared.names.BearerId.{BearerId}
 use Rattle.gnb_types.specs.declared.names.NodeId.TheVariants.{CuCp, CuUp, Du, Core}
 use Rattle.gnb_types.specs.declared.plans.Plan.{Plan}
-use Rattle.gnb_types.specs.Hex.{hex_of}
 use Rattle.gtpu.specs.declared.Kind.TheVariants.{GPdu}
-use Rattle.gtpu.specs.Headers.{IsHeader, AreHeaders, Begins}
-use Rattle.gtpu.specs.Packets.{GtpuPacket, Gtpu}
+use Rattle.gtpu.specs.Headers.{AreHeaders}
+use Rattle.gtpu.specs.Packets.{Gtpu}
 use Rattle.pdcp.specs.Pdus.{data_pdu}
-use Rattle.link_defs.specs.Decoding.{Item as Says, fresh, pdu, framed, DecodesOn, f1u_downlink, forwarding_down}
-use Rattle.scenario_text.specs.declared.event.Event.{Event}
+use Rattle.link_defs.specs.Decoding.{fresh, pdu, framed, DecodesOn, f1u_downlink, forwarding_down}
 use Rattle.scenario_text.specs.declared.event.Event.TheVariants as events
 use Rattle.scenario_text.specs.declared.line.Link.{Link}
 use Rattle.scenario_text.specs.declared.line.Link.TheVariants.{Tunnel, Radio}
 use Rattle.scenario_text.specs.declared.line.Item.{Item}
 use Rattle.scenario_text.specs.declared.line.Message.{Message}
-use Rattle.scenario_text.specs.declared.line.OutLine.{OutLine}
 use Rattle.scenario_text.specs.declared.line.OutLine.TheVariants as lines
 use Rattle.scenario_text.specs.Print.{line_text, item_text, message_text}
 use Rattle.scenario_text.specs.Texts.{event_text}
@@ -33,11 +28,11 @@ use Rattle.transcript_defs.specs.declared.line.TextLine.{TextLine}
 use Rattle.transcript_defs.specs.declared.line.TextLine.TheVariants.{Printed}
 use Rattle.transcript_defs.specs.declared.rule.Rule.{Rule}
 use Rattle.transcript_defs.specs.declared.rule.Rule.TheVariants as rules
-use Rattle.transcript_defs.specs.Lines.{text_of, AreBytes, HasOctets, IsProper}
+use Rattle.transcript_defs.specs.Lines.{text_of, AreBytes, IsProper}
 use Rattle.transcript_defs.specs.Past.{events_of, accepted, offered, plans, standing, messages, delivered}
-use Rattle.transcript_defs.specs.Packets.{Reading, LaidOut}
-use Rattle.transcript_defs.specs.Rules.{Spelling, a_line, no_line, the_end, Keeps, KeepsForm, IsOnWire, IsReadable, ShowsCount, IsInOrder, WasSeen, IsSpelled, Brings, rule_number}
-use Rattle.transcript_defs.specs.Sound.{Sound, IsUnsound, Stands}
+use Rattle.transcript_defs.specs.Packets.{Reading}
+use Rattle.transcript_defs.specs.Rules.{Spelling, a_line, the_end, Keeps, KeepsForm, IsOnWire, IsReadable, ShowsCount, IsInOrder, WasSeen, IsSpelled, rule_number}
+use Rattle.transcript_defs.specs.Sound.{Sound, IsUnsound}
 use Rattle.law_transcripts.specs.Worked.{first_packet, counts_no_event, takes_nothing, puts_for_nobody, delivers_no_offer, is_quiet_without_offers, delivers_unseen, spells_nothing, ends_early}
 use Rattle.law_transcripts.proofs.Deciding.{small}
 

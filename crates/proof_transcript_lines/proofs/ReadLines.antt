@@ -1,5 +1,5 @@
 -- A line's text is read back as the line.
-use Rattle.std.proofs.Common.{◌≡◌, ℕ, zero, suc, ◌-◌, ◌<◌, ◌^◌, Bool, true, false, cond, List, Option, Some, None, Result, [], ◌∷◌, ◌++◌, map, drop, refl, ap, ◌∙◌, sym, subst, inr, arith, nat_eq, codes, append_assoc}
+use Rattle.std.proofs.Common.{◌≡◌, ℕ, zero, suc, ◌-◌, ◌<◌, ◌^◌, Bool, true, false, cond, List, Option, Some, None, Result, [], ◌∷◌, ◌++◌, drop, refl, ap, ◌∙◌, subst, inr, arith, nat_eq, codes, append_assoc}
 use Rattle.std.specs.Fmt.{decimal}
 use Rattle.std.specs.Option.{option_map}
 use Rattle.std.specs.Result.{result_ok}
@@ -28,23 +28,19 @@ use Rattle.scenario_text.specs.declared.script_words.reason.TextReason.{TextReas
 use Rattle.scenario_text.specs.script_words.Forms.{◌is◌, ◌begins◌, number_of, ue_of, bearer_of, node_of, dir_of, message_of, greatest_number}
 use Rattle.scenario_text.specs.script_words.Ranges.{IsWithin, IsNode}
 use Rattle.scenario_text.proofs.script_words.FormLaws.{is_text, ue_again, bearer_again, node_again, number_again, positive_again}
-use Rattle.scenario_text.proofs.script_words.PlaceLaws.{Lacks, Lacks-decimal, Lacks-node, value_words-AreWordsOf}
+use Rattle.scenario_text.proofs.script_words.PlaceLaws.{Lacks, Lacks-decimal, Lacks-node}
 use Rattle.scenario_text.specs.declared.event.Event.{Event}
-use Rattle.scenario_text.specs.script_words.Places.{value_words}
-use Rattle.scenario_text.specs.declared.event.Keyword.{Keyword}
-use Rattle.scenario_text.specs.declared.event.Keyword.TheVariants as keywords
-use Rattle.scenario_text.specs.Grammar.{keyword_text, event_of}
-use Rattle.scenario_text.specs.Texts.{event_text, InRange}
+use Rattle.scenario_text.specs.Grammar.{event_of}
 use Rattle.scenario_text.specs.declared.line.Link.{Link}
 use Rattle.scenario_text.specs.declared.line.Link.TheVariants.{Tunnel, Radio}
 use Rattle.scenario_text.specs.declared.line.Item.{Item}
 use Rattle.scenario_text.specs.declared.line.Message.{Message}
 use Rattle.scenario_text.specs.declared.line.OutLine.{OutLine}
 use Rattle.scenario_text.specs.declared.line.OutLine.TheVariants as lines
-use Rattle.scenario_text.specs.Print.{link_text, count_text, item_text, message_text, line_text, print}
-use Rattle.scenario_text.proofs.EventLaws.{event_of-event_text, text_by_form}
-use Rattle.transcript_defs.specs.Lines.{AreBytes, IsLink, IsCount, IsItem, IsMessage, IsLine, AreLines}
-use Rattle.proof_transcript_lines.proofs.Solid.{Solid, solid-append, solid-decimal, solid-hex, solid-node, solid-dir, AllSolid, parts_then, parts_one, Without, solid_words, solid_line, solid-places}
+use Rattle.scenario_text.specs.Print.{link_text, count_text, item_text, message_text, line_text}
+use Rattle.scenario_text.proofs.EventLaws.{event_of-event_text}
+use Rattle.transcript_defs.specs.Lines.{AreBytes, IsLink, IsCount, IsItem, IsMessage, IsLine}
+use Rattle.proof_transcript_lines.proofs.Solid.{Solid, solid-append, solid-decimal, solid-hex, solid-node, solid-dir, AllSolid, parts_then, parts_one, solid_words}
 
 abbrev pub opt_then : {X Y : Type 0} → Option X → (X → Option Y) → Option Y
 opt_then None f = None

@@ -1,5 +1,5 @@
 -- Each line of a transcript is read back from its text, also where its numbers are larger than any that `run` prints.
-use Rattle.std.proofs.Common.{◌≡◌, ℕ, ◌-◌, ◌<◌, ◌≤◌, ◌^◌, ◌==◌, Bool, true, false, cond, List, Option, Some, None, [], ◌∷◌, ◌++◌, refl, ap, ◌∙◌, sym, subst, arith, nat_eq, nat_lt, codes}
+use Rattle.std.proofs.Common.{◌≡◌, ℕ, ◌<◌, ◌≤◌, ◌^◌, true, false, cond, List, Option, Some, None, [], ◌∷◌, ◌++◌, refl, ap, ◌∙◌, sym, arith, nat_eq, nat_lt, codes}
 use Rattle.std.specs.Prelude.{slice_get}
 use Rattle.std.specs.Fmt.{decimal}
 use Rattle.std.specs.List.{slice_split}
@@ -9,7 +9,7 @@ use Rattle.gnb_types.specs.Names.{ue_text, bearer_text, dir_text}
 use Rattle.gnb_types.specs.declared.names.Dir.{Dir}
 use Rattle.gnb_types.specs.declared.names.UeId.{UeId}
 use Rattle.gnb_types.specs.declared.names.BearerId.{BearerId}
-use Rattle.scenario_text.specs.script_words.Forms.{bearer_of, dir_of, message_of, greatest_number}
+use Rattle.scenario_text.specs.script_words.Forms.{bearer_of, dir_of, greatest_number}
 use Rattle.scenario_text.specs.script_words.Ranges.{IsWithin, IsUe, IsBearer}
 use Rattle.scenario_text.proofs.script_words.FormLaws.{ue_again, bearer_again}
 use Rattle.scenario_text.specs.declared.line.OutLine.{OutLine}
@@ -17,8 +17,8 @@ use Rattle.scenario_text.specs.declared.line.OutLine.TheVariants as lines
 use Rattle.scenario_text.specs.Print.{◌then◌, line_text}
 use Rattle.transcript_defs.specs.declared.line.TextLine.{TextLine}
 use Rattle.transcript_defs.specs.declared.line.TextLine.TheVariants.{Printed, LostMore, OutstandingWide}
-use Rattle.transcript_defs.specs.Lines.{text_of, IsLine, IsWhole, IsProper}
-use Rattle.proof_transcript_lines.proofs.Solid.{AllSolid, solid-decimal, solid-dir, solid_words}
+use Rattle.transcript_defs.specs.Lines.{text_of, IsLine, IsProper}
+use Rattle.proof_transcript_lines.proofs.Solid.{solid-decimal, solid-dir, solid_words}
 use Rattle.proof_transcript_lines.proofs.ReadLines.{opt_then, then_some, count_of, count_of-decimal, dir_back, message_back, words_line, ReadsBack, reads_back, line_of, line_back, same_some}
 
 -- the number that is the third word

@@ -1,13 +1,13 @@
 -- Octets say one thing on a radio, and at a CU-UP one thing in each direction.
-use Rattle.std.proofs.Common.{◌≡◌, ◌↔◌, IsTrue, Bool, true, false, ℕ, List, [], ◌∷◌, Option, Some, None, IfSome, IfNone, IsSomeAnd, refl, ap, sym, subst, ◌∙◌, inl, inr, arith}
+use Rattle.std.proofs.Common.{◌≡◌, ◌↔◌, IsTrue, Bool, true, false, ℕ, List, [], None, refl, ap, sym, subst, ◌∙◌, inl, inr, arith}
 use Rattle.gnb_types.specs.declared.names.SnBits.{SnBits}
 use Rattle.gnb_types.specs.declared.names.Dir.{Dir}
 use Rattle.gnb_types.specs.declared.names.Dir.TheVariants.{Dl, Ul}
 use Rattle.gtpu.specs.declared.Kind.TheVariants.{GPdu, EndMarker}
 use Rattle.gtpu.specs.declared.headers.TheConstants.{NR_RAN_CONTAINER}
-use Rattle.gtpu.specs.Packets.{GtpuPacket, Gtpu}
+use Rattle.gtpu.specs.Packets.{GtpuPacket}
 use Rattle.pdcp.specs.Pdus.{Content}
-use Rattle.link_defs.specs.Decoding.{Link, Item as Says, n3, f1u_uplink, forwarding_down, fresh, numbered, pdu, status, end_of_tunnel, CarriesPdu, IsBare, HasHeader, number_code, Says as SaysOn, DecodesOn}
+use Rattle.link_defs.specs.Decoding.{Item as Says, f1u_uplink, forwarding_down, fresh, numbered, pdu, status, end_of_tunnel, CarriesPdu, IsBare, HasHeader, number_code, Says as SaysOn, DecodesOn}
 use Rattle.link_defs.proofs.OneItem.{says_of, one_said, one_item}
 use Rattle.transcript_defs.specs.Packets.{IsOnRadio, FitsDirection, IsAtCuUp}
 

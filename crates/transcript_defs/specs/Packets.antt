@@ -1,6 +1,6 @@
 -- What the octets of an item say on its link. Of a tunnel a transcript shows the end alone: at a DU it is one of F1-U downlink, at a
 -- CU-UP one of N3, of F1-U uplink or of forwarding; no other node ends a tunnel (TS 38.401, 6.1.2).
-use Rattle.std.specs.Prelude.{◌≡◌, ◌⊎◌, ℕ, ◌%◌, ◌≤◌, List, [], ◌∷◌, Option, Some, None, slice_get}
+use Rattle.std.specs.Prelude.{◌≡◌, ◌⊎◌, ℕ, ◌%◌, ◌≤◌, List, Option, Some, None, slice_get}
 use Rattle.gnb_types.specs.declared.names.Dir.{Dir}
 use Rattle.gnb_types.specs.declared.names.Dir.TheVariants.{Dl, Ul}
 use Rattle.gnb_types.specs.declared.names.NodeId.TheVariants.{CuUp, Du}
@@ -9,12 +9,12 @@ use Rattle.gnb_types.specs.declared.keys.EntityKey.{EntityKey}
 use Rattle.gnb_types.specs.declared.plans.Plan.{Plan}
 use Rattle.pdcp.specs.Numbers.{space}
 use Rattle.pdcp.specs.Pdus.{Content, data_pdu, status_report}
-use Rattle.link_defs.specs.Decoding.{Item as Says, fresh, numbered, pdu, framed, poll, status, end_of_tunnel, CarriesPdu, DecodesOn, f1u_downlink, f1u_uplink, forwarding_down}
+use Rattle.link_defs.specs.Decoding.{Item as Says, fresh, numbered, pdu, framed, status, CarriesPdu, DecodesOn, f1u_downlink, f1u_uplink, forwarding_down}
 use Rattle.scenario_text.specs.declared.event.Event.{Event}
 use Rattle.scenario_text.specs.declared.line.Link.{Link}
 use Rattle.scenario_text.specs.declared.line.Link.TheVariants.{Tunnel, Radio}
 use Rattle.scenario_text.specs.declared.line.Item.{Item}
-use Rattle.transcript_defs.specs.Past.{plans, offered}
+use Rattle.transcript_defs.specs.Past.{plans}
 
 -- ---- layouts
 

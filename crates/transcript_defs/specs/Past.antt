@@ -15,7 +15,7 @@ use Rattle.scenario_text.specs.declared.line.Item.{Item}
 use Rattle.scenario_text.specs.declared.line.Message.{Message}
 use Rattle.scenario_text.specs.declared.line.OutLine.TheVariants as lines
 use Rattle.transcript_defs.specs.declared.line.TextLine.{TextLine}
-use Rattle.transcript_defs.specs.declared.line.TextLine.TheVariants.{Printed, LostMore, OutstandingWide}
+use Rattle.transcript_defs.specs.declared.line.TextLine.TheVariants.{Printed}
 
 -- ---- names
 
