@@ -8,7 +8,7 @@ ghost use Rattle.scenario_text.specs.Texts.{event_text, InRange, IsTextOf};
 ghost use Rattle.scenario_text.specs.declared.event.Event.{Event};
 ghost use Rattle.scenario_text.specs.declared.line.OutLine.{OutLine};
 ghost use Rattle.scenario_text.specs.Print.{line_text, print};
-ghost use Rattle.law_scenario.specs.Lines.{IsLine, AreLines};
+ghost use Rattle.transcript_defs.specs.Lines.{IsLine, AreLines};
 ghost use Rattle.law_scenario.specs.FirstWrong.{IsFirstWrong};
 
 /// A line is read as an event exactly where it is a text of it.

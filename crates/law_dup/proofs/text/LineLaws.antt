@@ -5,9 +5,9 @@ use Rattle.std.specs.List.{find, slice_split, join_with_byte}
 use Rattle.gnb_types.specs.Hex.{hex_of, read_hex}
 use Rattle.gnb_types.proofs.HexLemmas.{hex_of_is_hex}
 use Rattle.scenario_text.specs.script_words.Forms.{◌is◌}
-use Rattle.law_scenario.specs.Lines.{AreBytes}
-use Rattle.law_scenario.proofs.Solid.{Solid, solid-decimal, solid-hex, AllSolid, solid_words}
-use Rattle.law_scenario.proofs.LineLaws.{opt_then, then_some, count_of, count_of-decimal, hex_back, same_some}
+use Rattle.transcript_defs.specs.Lines.{AreBytes}
+use Rattle.proof_transcript_lines.proofs.Solid.{Solid, solid-decimal, solid-hex, AllSolid, solid_words}
+use Rattle.proof_transcript_lines.proofs.ReadLines.{opt_then, then_some, count_of, count_of-decimal, hex_back, same_some}
 use Rattle.dup_defs.specs.declared.types.leg.Leg.{Leg}
 use Rattle.dup_defs.specs.declared.types.leg.Leg.TheVariants as legs
 use Rattle.dup_defs.specs.declared.types.line.DupLine.{DupLine}

@@ -1,6 +1,6 @@
 -- The numbers that a line may have: COUNTs and numbers of items and packets of their type, bytes.
 use Rattle.std.specs.Prelude.{◌^◌, ◌<◌}
-use Rattle.law_scenario.specs.Lines.{AreBytes}
+use Rattle.transcript_defs.specs.Lines.{AreBytes}
 use Rattle.dup_defs.specs.declared.types.line.DupLine.{DupLine}
 use Rattle.dup_defs.specs.declared.types.line.DupLine.TheVariants as lines
 

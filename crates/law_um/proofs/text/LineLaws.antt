@@ -6,9 +6,9 @@ use Rattle.gnb_types.specs.Hex.{hex_of, read_hex}
 use Rattle.gnb_types.proofs.HexLemmas.{hex_of_is_hex}
 use Rattle.gnb_types.specs.Reasons.{refuse_text}
 use Rattle.scenario_text.specs.script_words.Forms.{◌is◌, message_of}
-use Rattle.law_scenario.specs.Lines.{AreBytes}
-use Rattle.law_scenario.proofs.Solid.{Solid, solid-append, solid-decimal, solid-hex, AllSolid, solid_words}
-use Rattle.law_scenario.proofs.LineLaws.{opt_then, then_some, count_of, count_of-decimal, hex_back, refuse_of, refuse_back, refuse_solid, message_back, same_some}
+use Rattle.transcript_defs.specs.Lines.{AreBytes}
+use Rattle.proof_transcript_lines.proofs.Solid.{Solid, solid-append, solid-decimal, solid-hex, AllSolid, solid_words}
+use Rattle.proof_transcript_lines.proofs.ReadLines.{opt_then, then_some, count_of, count_of-decimal, hex_back, refuse_of, refuse_back, refuse_solid, message_back, same_some}
 use Rattle.um_defs.specs.declared.types.line.UmLine.{UmLine}
 use Rattle.um_defs.specs.declared.types.line.UmLine.TheVariants as lines
 use Rattle.um.specs.text.Print.{number_text, line_text}

@@ -2,7 +2,7 @@
 use Rattle.std.specs.Prelude.{ℕ, ◌^◌, ◌<◌}
 use Rattle.scenario_text.specs.script_words.Forms.{greatest_number}
 use Rattle.scenario_text.specs.script_words.Ranges.{IsWithin}
-use Rattle.law_scenario.specs.Lines.{AreBytes}
+use Rattle.transcript_defs.specs.Lines.{AreBytes}
 use Rattle.um_defs.specs.declared.types.line.UmLine.{UmLine}
 use Rattle.um_defs.specs.declared.types.line.UmLine.TheVariants as lines
 

@@ -1,0 +1,158 @@
+-- A text that breaks no rule at a first place is sound: it can't be that neither holds.
+use Rattle.std.proofs.Common.{◌≡◌, ℕ, ◌+◌, ◌<◌, ◌≤◌, List, [], ◌∷◌, ◌++◌, Option, Some, map, length, refl, ap, ◌∙◌, sym, subst, arith, append_assoc, inl, inr}
+use Rattle.std.specs.List.{AllByRecursion}
+use Rattle.std.specs.Prelude.{reverse, slice_get}
+use Rattle.std.proofs.lemmas.List.{map-append, append-nil, reverse-append}
+use Rattle.std.proofs.lemmas.Bool.{cases_lt}
+use Rattle.transcript_defs.specs.declared.line.TextLine.{TextLine}
+use Rattle.transcript_defs.specs.declared.rule.Rule.{Rule}
+use Rattle.transcript_defs.specs.declared.rule.Rule.TheVariants as rules
+use Rattle.transcript_defs.specs.Lines.{text_of, IsProper}
+use Rattle.transcript_defs.specs.Rules.{Spelling, AtPlace, a_line, no_line, the_end, Keeps, rule_number}
+use Rattle.transcript_defs.specs.Sound.{AreSound, texts_of, Stands, Sound, IsUnsound}
+
+-- ---- rules by their numbers
+
+all_rules : List Rule
+all_rules = rules.Form ∷ rules.Form ∷ rules.Wire ∷ rules.Packet ∷ rules.Count ∷ rules.Order ∷ rules.Seen ∷ rules.Spelling ∷ rules.End ∷ []
+
+rule_back : (rule : Rule) → slice_get all_rules (rule_number rule) ≡ Some rule
+unfolding all_rules
+rule_back rules.Form = refl
+rule_back rules.Wire = refl
+rule_back rules.Packet = refl
+rule_back rules.Count = refl
+rule_back rules.Order = refl
+rule_back rules.Seen = refl
+rule_back rules.Spelling = refl
+rule_back rules.End = refl
+
+same_found : {X : Type 0} (o : Option X) (a b : X) → o ≡ Some a → o ≡ Some b → a ≡ b
+same_found o a b p q = cc
+
+-- two rules of one number are one
+pub one_rule : (a b : Rule) → rule_number a ≡ rule_number b → a ≡ b
+one_rule a b same = same_found (slice_get all_rules (rule_number a)) a b (rule_back a) (ap (slice_get all_rules) same ∙ rule_back b)
+
+pub small : (rule : Rule) → (1 ≤ rule_number rule) × (rule_number rule < 9)
+small rules.Form = (omega arith, omega arith)
+small rules.Wire = (omega arith, omega arith)
+small rules.Packet = (omega arith, omega arith)
+small rules.Count = (omega arith, omega arith)
+small rules.Order = (omega arith, omega arith)
+small rules.Seen = (omega arith, omega arith)
+small rules.Spelling = (omega arith, omega arith)
+small rules.End = (omega arith, omega arith)
+
+-- ---- the texts of a list of lines
+
+pub texts_more : (line : TextLine) (past : List TextLine) → texts_of (line ∷ past) ≡ texts_of past ++ text_of line ∷ []
+texts_more line past = ap (map text_of) (reverse-append (line ∷ []) past) ∙ map-append text_of (reverse past) (line ∷ [])
+
+texts_step : (line : TextLine) (past : List TextLine) (text : List ℕ) (rest : List (List ℕ)) → text ≡ text_of line
+    → texts_of past ++ text ∷ rest ≡ texts_of (line ∷ past) ++ rest
+texts_step line past text rest is =
+    ap (λ t. texts_of past ++ t ∷ rest) is
+    ∙ sym (append_assoc (texts_of past) (text_of line ∷ []) rest)
+    ∙ ap (λ ts. ts ++ rest) (sym (texts_more line past))
+
+-- ---- neither
+
+pub record Neither (spell : Spelling) (texts : List (List ℕ)) : Type 0 where
+  pub not_sound : Sound spell texts → ⊥
+  pub not_unsound : (place : ℕ) (rule : Rule) → IsUnsound spell texts place rule → ⊥
+
+-- what is known at a place: the lines before it, and the texts from it on
+record Upto (spell : Spelling) (texts : List (List ℕ)) (past : List TextLine) (rest : List (List ℕ)) : Type 0 where
+  texts_are : texts ≡ texts_of past ++ rest
+  proper : AllByRecursion IsProper past
+  sound : AreSound spell past
+
+Below : Spelling → List TextLine → AtPlace → ℕ → Type 0
+Below spell past at n = (other : Rule) → rule_number other < n → Keeps spell other past at
+
+-- the rules below the next number are kept, where this one is
+one_more : (spell : Spelling) (past : List TextLine) (at : AtPlace) (rule : Rule) → Below spell past at (rule_number rule)
+    → Keeps spell rule past at → Below spell past at (rule_number rule + 1)
+unfolding Below
+one_more spell past at rule below kept other less =
+    elim (cases_lt (rule_number other) (rule_number rule)) [
+      | inl lower ↦ below other lower
+      | inr high ↦ subst (λ r. Keeps spell r past at) (one_rule rule other (omega (arith, less, high))) kept
+    ]
+
+-- a rule whose lower ones are kept can't be missing
+next : (spell : Spelling) (texts : List (List ℕ)) (past : List TextLine) (rest : List (List ℕ)) (at : AtPlace)
+    → Neither spell texts → Upto spell texts past rest → Stands rest at
+    → (rule : Rule) → Below spell past at (rule_number rule) → (Below spell past at (rule_number rule + 1) → ⊥) → ⊥
+unfolding Below
+next spell texts past rest at neither upto stands rule below go =
+    neither.not_unsound (length past + 1) rule (record {
+      past = past;
+      rest = rest;
+      texts_are = upto.texts_are;
+      proper = upto.proper;
+      sound = upto.sound;
+      place_is = refl;
+      at = at;
+      stands = stands;
+      broken = λ kept. go (one_more spell past at rule below kept);
+      least = below;
+    })
+
+none_below : (spell : Spelling) (past : List TextLine) (at : AtPlace) → Below spell past at 1
+unfolding Below
+none_below spell past at other less = absurd (let low = (small other).0 in omega arith)
+
+-- every rule is kept
+all_rules_kept : (spell : Spelling) (texts : List (List ℕ)) (past : List TextLine) (rest : List (List ℕ)) (at : AtPlace)
+    → Neither spell texts → Upto spell texts past rest → Stands rest at → (((rule : Rule) → Keeps spell rule past at) → ⊥) → ⊥
+unfolding Below
+all_rules_kept spell texts past rest at neither upto stands go =
+    let rule = next spell texts past rest at neither upto stands in
+    rule rules.Form (none_below spell past at) (λ b2.
+    rule rules.Wire b2 (λ b3.
+    rule rules.Packet b3 (λ b4.
+    rule rules.Count b4 (λ b5.
+    rule rules.Order b5 (λ b6.
+    rule rules.Seen b6 (λ b7.
+    rule rules.Spelling b7 (λ b8.
+    rule rules.End b8 (λ b9. go (λ r. b9 r (small r).1)))))))))
+
+neither_from : (spell : Spelling) (texts : List (List ℕ)) → Neither spell texts
+    → (rest : List (List ℕ)) (past : List TextLine) → Upto spell texts past rest → ⊥
+unfolding Below
+neither_from spell texts neither [] past upto =
+    all_rules_kept spell texts past [] the_end neither upto tt (λ kept.
+    neither.not_sound (record {
+      past = past;
+      texts_are = upto.texts_are ∙ append-nil (texts_of past);
+      proper = upto.proper;
+      sound = upto.sound;
+      finished = kept rules.End;
+    }))
+neither_from spell texts neither (text ∷ rest) past upto =
+    neither.not_unsound (length past + 1) rules.Form (record {
+      past = past;
+      rest = text ∷ rest;
+      texts_are = upto.texts_are;
+      proper = upto.proper;
+      sound = upto.sound;
+      place_is = refl;
+      at = no_line;
+      stands = λ line is.
+          all_rules_kept spell texts past (text ∷ rest) (a_line line) neither upto is (λ kept.
+          neither_from spell texts neither rest (line ∷ past) (record {
+            texts_are = upto.texts_are ∙ texts_step line past text rest is.text_is;
+            proper = (is.proper, upto.proper);
+            sound = (upto.sound, kept);
+          }));
+      broken = λ kept. kept;
+      least = none_below spell past no_line;
+    })
+
+-- A text is sound, or breaks a rule at a first place.
+pub not_neither : (spell : Spelling) (texts : List (List ℕ)) → (Sound spell texts → ⊥)
+    → ((place : ℕ) (rule : Rule) → IsUnsound spell texts place rule → ⊥) → ⊥
+not_neither spell texts not_sound not_unsound =
+    neither_from spell texts (record { not_sound = not_sound; not_unsound = not_unsound }) texts [] (record { texts_are = refl; proper = tt; sound = tt })

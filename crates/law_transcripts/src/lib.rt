@@ -1,0 +1,74 @@
+//! Laws of sound transcripts. Each function does nothing: its contract is the law.
+#![tactic(auto)]
+
+ghost use Rattle.std.specs.Prelude.{◌≡◌, ℕ, List, [], ◌∷◌, ◌++◌};
+ghost use Rattle.transcript_defs.specs.declared.rule.Rule.{Rule};
+ghost use Rattle.gnb_types.specs.declared.names.UeId.{UeId};
+ghost use Rattle.gnb_types.specs.declared.names.BearerId.{BearerId};
+ghost use Rattle.gnb_types.specs.declared.names.Dir.{Dir};
+ghost use Rattle.gnb_types.specs.declared.keys.EntityKey.{EntityKey};
+ghost use Rattle.scenario_text.specs.declared.line.OutLine.TheVariants.{Quiet};
+ghost use Rattle.transcript_defs.specs.declared.line.TextLine.{TextLine};
+ghost use Rattle.transcript_defs.specs.declared.line.TextLine.TheVariants.{Printed};
+ghost use Rattle.transcript_defs.specs.Past.{accepted, offered, delivered};
+ghost use Rattle.transcript_defs.specs.Lines.{text_of, IsProper};
+ghost use Rattle.transcript_defs.specs.Rules.{Spelling};
+ghost use Rattle.transcript_defs.specs.Sound.{AreSound, Sound, IsUnsound};
+ghost use Rattle.transcript_defs.specs.declared.rule.Rule.TheVariants as rules;
+ghost use Rattle.law_transcripts.specs.Worked.{first_packet, counts_no_event, takes_nothing, puts_for_nobody, delivers_no_offer, is_quiet_without_offers, delivers_unseen, spells_nothing, ends_early};
+
+/// A text is sound, or breaks a rule at a first place: it can't be that neither holds.
+pub fn each_text_is_sound_or_breaks_a_rule()
+    ensures { (spell : Spelling) (texts : List (List ℕ)) → (Sound spell texts → ⊥)
+        → ((place : ℕ) (rule : Rule) → IsUnsound spell texts place rule → ⊥) → ⊥ }
+{}
+
+/// No text is sound and breaks a rule.
+pub fn a_sound_text_breaks_no_rule()
+    ensures { (spell : Spelling) (texts : List (List ℕ)) (place : ℕ) (rule : Rule)
+        → Sound spell texts → IsUnsound spell texts place rule → ⊥ }
+{}
+
+/// A text that isn't sound has one place, and one rule that is reported for it.
+pub fn the_first_broken_rule_is_one()
+    ensures { (spell : Spelling) (texts : List (List ℕ)) (place other : ℕ) (rule next : Rule)
+        → IsUnsound spell texts place rule → IsUnsound spell texts other next
+        → (place ≡ other) × (rule ≡ next) }
+{}
+
+/// No two lines of a transcript have one text.
+pub fn texts_tell_lines_apart()
+    ensures { (a b : TextLine) → IsProper a → IsProper b → text_of a ≡ text_of b → a ≡ b }
+{}
+
+/// In a sound transcript the packets that were delivered on a bearer and direction are a prefix of those that were offered there, each once and
+/// in order, whatever the line `next` is that is looked at.
+pub fn deliveries_are_a_prefix()
+    ensures { (spell : Spelling) (key : EntityKey) (next : TextLine) (past : List TextLine) → AreSound spell past
+        → (more : List (List ℕ)) × (offered key (accepted next past) ≡ delivered key past ++ more) }
+{}
+
+/// Where a sound transcript says that a bearer is quiet, all was delivered that was offered there, in both directions.
+pub fn a_quiet_bearer_has_delivered_all()
+    ensures { (spell : Spelling) (past : List TextLine) (ue : UeId) (bearer : BearerId) (downlink uplink : ℕ)
+        → AreSound spell (Printed (Quiet ue bearer downlink uplink) ∷ past) → (dir : Dir)
+        → delivered (record { ue = ue; bearer = bearer; dir = dir }) past
+        ≡ offered (record { ue = ue; bearer = bearer; dir = dir }) (accepted (Printed (Quiet ue bearer downlink uplink)) past) }
+{}
+
+/// The transcript of the first packet of a static terminal is sound.
+pub fn the_first_packet_is_sound()
+    ensures { (spell : Spelling) → Sound spell first_packet }
+{}
+
+/// For each rule there is a text that breaks it and none before it, at the place that is reported.
+pub fn each_rule_can_be_broken()
+    ensures form { (spell : Spelling) → IsUnsound spell counts_no_event 1 rules.Form }
+    ensures wire { (spell : Spelling) → IsUnsound spell takes_nothing 2 rules.Wire }
+    ensures packet { (spell : Spelling) → IsUnsound spell puts_for_nobody 2 rules.Packet }
+    ensures count { (spell : Spelling) → IsUnsound spell delivers_no_offer 2 rules.Count }
+    ensures order { (spell : Spelling) → IsUnsound spell is_quiet_without_offers 2 rules.Order }
+    ensures seen { (spell : Spelling) → IsUnsound spell delivers_unseen 3 rules.Seen }
+    ensures spelling { IsUnsound (λ control. []) spells_nothing 2 rules.Spelling }
+    ensures end { (spell : Spelling) → IsUnsound spell ends_early 2 rules.End }
+{}

@@ -1,0 +1,5 @@
+pub mod Lines
+pub mod Past
+pub mod Packets
+pub mod Rules
+pub mod Sound
