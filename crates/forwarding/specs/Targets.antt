@@ -31,7 +31,7 @@ target sn = target_end sn None false false false
 -- ---- a bearer of the procedure tables with this hop, and the flags of its context
 
 abbrev pub flags_of : TargetEnd → UpFlags
-flags_of t = record { target = true; has_status = is_some t.dl_next; arrived = t.arrived; frozen = false; released = false }
+flags_of t = record { target = true; may_serve = is_some t.dl_next; arrived = t.arrived; frozen = false; released = false }
 
 abbrev pub bearer_of : TargetEnd → UpBearer
 bearer_of t = record (made true 1) { dl_next = unwrap_or t.dl_next 0; down_ended = t.down_ended; up_ended = t.up_ended }

@@ -23,7 +23,7 @@ pub fn orders_put_what_they_send()
         → AllByRecursion (λ (e : ℕ × List ℕ). WasPut (after s (sends_again x)) e.0 e.1)
         (s.members x).bearer.sender.unconfirmed }
     ensures switched { (s : Part) (x : ℕ) (downlink : Downlink)
-        → (s.members x).flags.has_status ≡ true
+        → (s.members x).flags.may_serve ≡ true
         → AllByRecursion (λ (e : ℕ × List ℕ). WasPut (after s (switches x downlink s.epoch)) e.0 e.1)
         (s.members x).bearer.sender.unconfirmed }
     ensures resumed { (s : Part) (x : ℕ) → (s.members x).epoch ≡ s.epoch

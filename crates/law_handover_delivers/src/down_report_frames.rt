@@ -47,7 +47,7 @@ pub fn rows_report_what_is_asked()
 /// reports at a switch was carried up; and so was what an SN status says, in the context where the terminal is, if what its bits say was.
 pub fn kept_orders_report_what_was_carried_up()
     ensures switch { (u : Part) (x : ℕ) (p : UpPart) (du : NodeId) (teid : ℕ) → UpCameAbout u
-        → IsUp (u.members x) p → AreKept u (switches x ∷ []) → p.at.flags.has_status ≡ true
+        → IsUp (u.members x) p → AreKept u (switches x ∷ []) → p.at.flags.may_serve ≡ true
         → ReportIsTrue u.reached (switched_to p du teid).receiver.deliv
         (received_bits (switched_to p du teid).receiver) }
     ensures sn_status { (u : Part) (x : ℕ) (status : SnStatus) → UpCameAbout u
@@ -60,7 +60,7 @@ pub fn kept_orders_report_what_was_carried_up()
 /// so.
 pub fn what_a_source_says_was_carried_up()
     ensures source { (u : Part) (x : ℕ) (p : UpPart) (bearer : BearerId) → UpCameAbout u
-        → IsUp (u.members x) p → x ≡ u.station → p.at.flags.has_status ≡ true
+        → IsUp (u.members x) p → x ≡ u.station → p.at.flags.may_serve ≡ true
         → BitsAreTrue u.reached (status_of bearer p.bearer) }
     ensures later { (reached later : ℕ) (status : SnStatus) → reached ≤ later
         → BitsAreTrue reached status → BitsAreTrue later status }

@@ -7,8 +7,8 @@ use Rattle.aper.specs.declared.error.DecodeError.{DecodeError}
 use Rattle.aper.specs.declared.error.DecodeError.TheVariants as undecodeds
 use Rattle.aper.specs.Refusals.{IsRefused, IsFirstWrong}
 use Rattle.message_defs.specs.Heard.{Cause, unknown_procedure, unknown_element}
-use Rattle.xn_messages.specs.message_values.declared.error.MsgError.{MsgError as NotHeard}
-use Rattle.xn_messages.specs.message_values.declared.error.MsgError.TheVariants as unheards
+use Rattle.message_values.specs.declared.error.MsgError.{MsgError as NotHeard}
+use Rattle.message_values.specs.declared.error.MsgError.TheVariants as unheards
 use Rattle.message_octets.specs.declared.error.MsgError.{MsgError}
 use Rattle.message_octets.specs.declared.error.MsgError.TheVariants as errors
 

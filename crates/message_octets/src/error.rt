@@ -2,7 +2,7 @@
 
 use aper::{DecodeError, Reason};
 use gnb_types::octets::Octets;
-use xn_messages::from_message_values::error::MsgError as NotHeard;
+use message_values::error::MsgError as NotHeard;
 
 /// Why octets say no message.
 #[derive(Debug, Drop)]

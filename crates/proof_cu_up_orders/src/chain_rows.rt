@@ -58,7 +58,7 @@ pub fn what_waits_is_numbered()
 /// to the radio, are those of the row.
 pub fn numbering_is_its_orders()
     ensures asked { (sn : SnBits) (quota x : ℕ) (s : Part) → (s.members x).is_there ≡ true
-        → (s.members x).flags.has_status ≡ true → (s.members x).flags.frozen ≡ false
+        → (s.members x).flags.may_serve ≡ true → (s.members x).flags.frozen ≡ false
         → AreKept sn quota s
         (number_orders sn quota x (s.members x).bearer.waiting (s.members x).bearer.sender) }
     ensures became { (sn : SnBits) (quota x : ℕ) (s : Part) → let b = (s.members x).bearer in

@@ -16,13 +16,13 @@ ghost use Rattle.proof_cu_up_orders.specs.handover_rows.Shown.{Does, handed_up, 
 /// what gets a COUNT then. Before its SN status a target sends nothing.
 pub fn a_switch_begins_the_downlink()
     ensures known_ones { (way : Way (Message Token) Token Pdu) (at : UpAt) (du : NodeId) (teid : ℕ)
-        (b : UpBearer) → at.flags.has_status ≡ true → at.flags.frozen ≡ false
+        (b : UpBearer) → at.flags.may_serve ≡ true → at.flags.frozen ≡ false
         → at.flags.released ≡ false
         → let c = handed_up (on_downlink b (record { du = du; teid = teid; next = 0 })) in
         Does way at.sn (begun at.sn at.quota c.receiver.deliv (received_bits c.receiver) c)
         (deliver b.receiver).packets (numbered_all at.sn at.quota c) (switched way at du teid b) }
     ensures others { (way : Way (Message Token) Token Pdu) (at : UpAt) (du : NodeId) (teid : ℕ)
-        (b : UpBearer) → at.flags.has_status ≡ false
+        (b : UpBearer) → at.flags.may_serve ≡ false
         → Does way at.sn [] (deliver b.receiver).packets
         (handed_up (on_downlink b (record { du = du; teid = teid; next = 0 })))
         (switched way at du teid b) }

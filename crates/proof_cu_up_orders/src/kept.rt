@@ -41,7 +41,7 @@ pub fn items_keep_what_they_ask<P>()
 /// context has its SN status.
 pub fn control_keeps_what_it_asks<P>()
     ensures down { (s : down_parts.Part) (x : ℕ) (p : UpPart) → down_rows.IsDown (s.members x) p
-        → (p.at.flags.frozen ≡ true → p.at.flags.has_status ≡ true) → (epoch : ℕ) (final : Bool)
+        → (p.at.flags.frozen ≡ true → p.at.flags.may_serve ≡ true) → (epoch : ℕ) (final : Bool)
         (order : UpOrder P) → IsTested final p order → down_rows.IsAsked p order
         → asks_down.ControlOwes s x epoch order
         → down_guards.AreKept p.at.sn p.at.quota s (down_rows.control_orders x epoch p order) }

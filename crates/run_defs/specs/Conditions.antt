@@ -19,7 +19,7 @@ use Rattle.tables.specs.Tables.{find, put}
 use Rattle.unit_defs.specs.declared.UeState.{UeState}
 use Rattle.unit_defs.specs.Messages.{is_same_gnb, shares_interface}
 use Rattle.unit_defs.specs.Ue.{UeNode, new_ue, placed, is_connected}
-use Rattle.unit_defs.specs.Accessors.{state_of, taken_epoch, place_of, is_set_up, up_has_context, du_epoch, ue_state, ue_rests}
+use Rattle.unit_defs.specs.Accessors.{state_of, taken_epoch, place_of, is_set_up, up_has_context, du_epoch, ue_state, ue_home, ue_rests}
 use Rattle.unit_defs.specs.Static.{up_placed, du_placed, cp_placed, cp_set_up, up_set_up, du_set_up}
 use Rattle.run_defs.specs.Lines.{RunLine, is_quiet, is_busy}
 use Rattle.run_defs.specs.Units.{Units, gnb_nodes, cp_of, with_cp, up_of, with_up, du_of, with_du, ue_of, with_ue, is_serving, has_attempt, requests_rest, ups_rest, epoch_at}
@@ -112,18 +112,18 @@ abbrev pub same_epoch : Option ℕ → ℕ → Bool
 same_epoch None epoch = false
 same_epoch (Some e) epoch = e == epoch
 
-abbrev pub ready_at : {M C L P : Type 0} → State M C L P → UeNode → Option NodeId → Option NodeId
-ready_at s u None = None
-ready_at s u (Some home) =
-    if is_connected u.state && same_epoch (epoch_at s.units home u.plan.ue) u.epoch then Some home else None
+abbrev pub ready_at : {M C L P : Type 0} → State M C L P → UeId → UeNode → Option NodeId → Option NodeId
+ready_at s ue u None = None
+ready_at s ue u (Some home) =
+    if is_connected u.state && same_epoch (epoch_at s.units home ue) u.epoch then Some home else None
 
-abbrev pub ready_of : {M C L P : Type 0} → State M C L P → Option UeNode → Option NodeId
-ready_of s None = None
-ready_of s (Some u) = ready_at s u u.home
+abbrev pub ready_of : {M C L P : Type 0} → State M C L P → UeId → Option UeNode → Option NodeId
+ready_of s ue None = None
+ready_of s ue (Some u) = ready_at s ue u u.home
 
 -- the home DU of a terminal whose radio is ready
 abbrev pub ready_home : {M C L P : Type 0} → State M C L P → UeId → Option NodeId
-ready_home s ue = ready_of s (ue_of s.units ue)
+ready_home s ue = ready_of s ue (ue_of s.units ue)
 
 abbrev pub receiver_by : Dir → UeId → NodeId → NodeId
 receiver_by Dl ue home = Ue ue.0
@@ -158,6 +158,10 @@ takes_letters s node = true
 abbrev pub state_at : {M C L P : Type 0} → State M C L P → UeId → UeState
 state_at s ue = ue_state (ue_of s.units ue)
 
+-- a terminal has a home DU once it was connected
+abbrev pub has_home : {M C L P : Type 0} → State M C L P → UeId → Bool
+has_home s ue = is_some (ue_home (ue_of s.units ue))
+
 abbrev pub ticking : {M C L P : Type 0} → State M C L P → List NodeId
 ticking s = gnb_nodes ++ flat_map (λ e. if is_gone s e.0 then [] else Ue e.0.0 ∷ []) s.units.ues
 
@@ -180,9 +184,8 @@ is_busy_with s ue = has_attempt s.units ue || not (is_serving (state_of (cp_of s
 
 -- ---- quiet: all is at rest, and nothing of the bearer stands anywhere
 
-abbrev pub is_at_rest : {M C L P : Type 0} → State M C L P → UeNode → Bool
-is_at_rest s u =
-    is_connected u.state && not (has_attempt s.units u.plan.ue) && in_flight_of s.bag u.plan.ue.0 == 0 && requests_rest s.units u.plan.ue
+abbrev pub is_at_rest : {M C L P : Type 0} → State M C L P → UeId → UeNode → Bool
+is_at_rest s ue u = is_connected u.state && not (has_attempt s.units ue) && in_flight_of s.bag ue.0 == 0 && requests_rest s.units ue
 
 abbrev pub links_are_empty : {M C L P : Type 0} → State M C L P → UeId → BearerId → Bool
 links_are_empty s ue bearer =
@@ -192,7 +195,7 @@ links_are_empty s ue bearer =
 abbrev pub is_quiet_with : {M C L P : Type 0} → State M C L P → UeId → BearerId → Option UeNode → Bool
 is_quiet_with s ue bearer None = false
 is_quiet_with s ue bearer (Some u) =
-    is_at_rest s u && links_are_empty s ue bearer && ue_rests u bearer && ups_rest s.units ue bearer
+    is_at_rest s ue u && links_are_empty s ue bearer && ue_rests u bearer && ups_rest s.units ue bearer
 
 unfoldable pub rests : {M C L P : Type 0} → State M C L P → UeId → BearerId → Bool
 rests s ue bearer = is_quiet_with s ue bearer (ue_of s.units ue)

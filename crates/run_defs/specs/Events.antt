@@ -20,15 +20,15 @@ use Rattle.unit_defs.specs.Ways.{teids_spent}
 use Rattle.unit_defs.specs.Messages.{teid_of}
 use Rattle.unit_defs.specs.Core.{CorePath}
 use Rattle.unit_defs.specs.Ue.{new_ue, is_connected, is_accessing, may_return, largest_packet}
-use Rattle.unit_defs.specs.Accessors.{is_unconfirmed, ue_home}
+use Rattle.unit_defs.specs.Accessors.{is_unconfirmed}
 use Rattle.unit_defs.specs.Static.{up_has_room, up_has_teids, du_has_teids}
 use Rattle.run_defs.specs.Lines.{Letter, got_item, got_message, lost_items, lost_message, held_at, tunnel_link, radio_link, shown}
-use Rattle.run_defs.specs.Units.{starting_nodes, up_of, du_of, ue_of, with_ue, is_source}
+use Rattle.run_defs.specs.Units.{starting_nodes, up_of, du_of, with_ue, is_source}
 use Rattle.transport_defs.specs.declared.Item.{Item}
 use Rattle.transport_defs.specs.Links.{letter, landed, is_in, nth}
 use Rattle.run_defs.specs.States.{State, letter_for, item_for, carried_for, confirmed_for, offer_for, tick_for, order_for, octets_from, octets_on, CoreStepped, core_stepped, World, spent_counter, goes, stops, ◌next◌, goes_on, Within, Outcome, as_step, prints, refused, entity, was_attached, is_attached, has_bearer, sn_of, book_of, with_book, radio_of, with_radio}
 use Rattle.run_defs.specs.Steps.{check_spans, put_on_tunnel, put_out_all, lose_radios, connect_in, letters_spent, too_many_letters, Done, is_done, is_held, is_refused, does, ordered_by, step}
-use Rattle.run_defs.specs.Conditions.{serving_gnb, serving_place, seated, statically, is_held_by_units, has_started, ready_home, receiver_of, sender_of, epoch_of, takes_letters, state_at, ticking, goal_of, is_same_place, is_other_up, is_busy_with, ask_line, is_interface}
+use Rattle.run_defs.specs.Conditions.{serving_gnb, serving_place, seated, statically, is_held_by_units, has_started, ready_home, receiver_of, sender_of, epoch_of, takes_letters, state_at, has_home, ticking, goal_of, is_same_place, is_other_up, is_busy_with, ask_line, is_interface}
 
 module _ {M C L P : Type 0} (world : World M C L P) where
   -- ---- static
@@ -254,7 +254,7 @@ module _ {M C L P : Type 0} (world : World M C L P) where
   unfoldable pub come_back : UeId → State M C L P → Outcome M C L P
   come_back ue s =
       if not (is_attached s ue) then refused NoUe s else
-      (if not (is_some (ue_home (ue_of s.units ue))) then refused NoHome s else
+      (if not (has_home s ue) then refused NoHome s else
       (if may_return (state_at s ue) then order_ue ue (orders.Return ue) s else refused Busy s))
 
   -- ---- handover, cancel, release

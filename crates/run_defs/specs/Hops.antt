@@ -1,7 +1,7 @@
--- The hop of a CU-UP for a bearer: the downlink packets that it is to take, in order (TS 38.300, 9.2.3.2.3). Of the first that serves the
--- bearer these are the items of its N3 tunnel. A further one has what the one before put for it when it was frozen (the numbered packets,
--- and those that waited); what that one had not yet taken of its own hop then; and the items of its own N3 tunnel.
-use Rattle.std.specs.Prelude.{ℕ, ◌≡◌, ◌==◌, ◌+◌, Bool, true, false, not, ◌&&◌, List, [], ◌∷◌, ◌++◌, drop, filter, length, Option, Some, None, is_some, slice_get, if◌then◌else◌}
+-- The hop of a CU-UP's context for a bearer: the downlink packets that it is to take, in order (TS 38.300, 9.2.3.2.3). For the first context
+-- that serves the bearer these are the items of its N3 tunnel. A further one has what the one before put for it when it was frozen (the
+-- numbered packets, and those that waited); what that one had not yet taken of its own hop then; and the items of its own N3 tunnel.
+use Rattle.std.specs.Prelude.{ℕ, ◌≡◌, ◌==◌, ◌+◌, Bool, true, false, not, ◌&&◌, List, [], ◌∷◌, ◌++◌, drop, filter, length, Option, Some, None, is_some, slice_get, if◌then◌else◌, Any, ⊥, ◌⊎◌}
 use Rattle.std.specs.List.{flat_map, list_any}
 use Rattle.std.specs.Ordering.{eq_by_cmp}
 use Rattle.gnb_types.specs.declared.names.NodeId.{NodeId}
@@ -24,7 +24,7 @@ use Rattle.run_defs.specs.Said.{same_entity, same_link}
 use Rattle.run_defs.specs.Carried.{Carries}
 use Rattle.run_defs.specs.Local.{Act, item_key}
 
--- a context of the bearer at a CU-UP: the TEIDs of its N3 tunnel and, where it came by a handover, of its forwarding tunnel down
+-- a context of the bearer at a CU-UP: the TEIDs of its N3 tunnel and, where a handover made it, of its forwarding tunnel down
 pub record Leg : Type 0 where
   pub node : NodeId
   pub n3 : ℕ
@@ -87,6 +87,34 @@ pub data Took (sn : Lengths) (key : EntityKey) (acts : List PlainAct) : Leg → 
       → Say sn (tunnel node n3) (gets_from key (tunnel node n3) (lines_of_acts acts)) own
       → Took sn key acts (record { node = node; n3 = n3; forwarding = Some teid }) (forwarded ++ own)
 
+-- ---- the contexts that a CU-UP made so far: each is named by the response that gives its TEIDs. One that `static` made is not
+
+abbrev pub teid_in : EntityKey → Option (List Tunnel) → Option ℕ
+teid_in key None = None
+teid_in key (Some tunnels) = Some (teid_of tunnels key.bearer)
+
+abbrev pub legs_given : EntityKey → NodeId → Message Token → List Leg
+legs_given key node (e1 (e1s.BearerContextSetupResponse ue instance uplinks n3 down up)) =
+    if ue.0 == key.ue.0 then record { node = node; n3 = teid_of n3 key.bearer; forwarding = teid_in key down } ∷ [] else []
+legs_given key node message = []
+
+abbrev pub legs_in : EntityKey → NodeId → PlainLine → List Leg
+legs_in key node (put_message number letter) = if eq_by_cmp node_cmp letter.from node then legs_given key node letter.message else []
+legs_in key node line = []
+
+-- in the order in which they were made; a response that is repeated names its context again
+abbrev pub legs_made : EntityKey → NodeId → List PlainAct → List Leg
+legs_made key node acts = flat_map (legs_in key node) (lines_of_acts acts)
+
+-- the newest context that a node made; where it named none, the one that `static` made there
+abbrev pub last_leg : Option Leg → List Leg → Option Leg
+last_leg leg [] = leg
+last_leg leg (other ∷ others) = last_leg (Some other) others
+
+abbrev pub IsNewest : EntityKey → List PlainAct → Leg → Type 0
+IsNewest key acts leg =
+    (last_leg None (legs_made key leg.node acts) ≡ Some leg) ⊎ ((legs_made key leg.node acts ≡ []) × (leg.forwarding ≡ None))
+
 -- ---- a CU-UP is frozen for a forwarding tunnel of another one: it takes the request, and answers with its SN status
 
 abbrev pub is_cu_up : Peer → NodeId → Bool
@@ -117,11 +145,20 @@ abbrev pub puts_statuses : PlainLine → Bool
 puts_statuses (put_message number letter) = has_statuses letter.message
 puts_statuses line = false
 
--- the act by which the one is frozen for the other's tunnel
-abbrev pub IsFreeze : EntityKey → Leg → Leg → ℕ → PlainAct → Type 0
-IsFreeze key before leg teid act =
-    (act.step.actor ≡ Some before.node) × (list_any (takes_freeze key leg.node teid) act.step.lines ≡ true)
+-- an act by which a node takes the request to freeze for another one's tunnel, and answers with its SN status; a request that is given
+-- again is answered so again
+abbrev pub AnswersFreeze : EntityKey → NodeId → Leg → ℕ → PlainAct → Type 0
+AnswersFreeze key node leg teid act =
+    (act.step.actor ≡ Some node) × (list_any (takes_freeze key leg.node teid) act.step.lines ≡ true)
     × (list_any puts_statuses act.step.lines ≡ true)
+
+-- the act by which a context is frozen for another one's tunnel, after these acts: it is the first that answers so, the context is the
+-- newest of its node then, and the other one was made
+pub record IsFreeze (key : EntityKey) (earlier : List PlainAct) (before leg : Leg) (teid : ℕ) (act : PlainAct) : Type 0 where
+  pub answers : AnswersFreeze key before.node leg teid act
+  pub first : Any (AnswersFreeze key before.node leg teid) earlier → ⊥
+  pub newest : IsNewest key earlier before
+  pub made : Any (λ other. other ≡ leg) (legs_made key leg.node earlier)
 
 -- the items of a list that show a COUNT, and those that don't
 abbrev pub with_count : List Item → List Item
@@ -130,8 +167,8 @@ with_count items = filter (λ item. is_some item.count) items
 abbrev pub without_count : List Item → List Item
 without_count items = filter (λ item. not (is_some item.count)) items
 
--- ---- the hop of the last of the CU-UPs that served a bearer; they stand with the last one first. One whose attempt was cancelled, or whose
--- terminal came back, is frozen for no other one, so it is never before another.
+-- ---- the hop of the last of the contexts that served a bearer; they stand with the last one first. One whose attempt was cancelled, or
+-- whose terminal came back, is frozen for no other one, so it is never before another.
 
 pub data IsHop (sn : Lengths) (key : EntityKey) (acts : List PlainAct) : List Leg → List HopItem → Type 0 where
   of_first : (leg : Leg) (own : List HopItem) → leg.forwarding ≡ None
@@ -139,7 +176,7 @@ pub data IsHop (sn : Lengths) (key : EntityKey) (acts : List PlainAct) : List Le
       → IsHop sn key acts (leg ∷ []) own
   of_further : (leg before : Leg) (legs : List Leg) (teid : ℕ) (earlier later : List PlainAct) (freeze : PlainAct)
       (numbered waiting taken hop own : List HopItem)
-      → leg.forwarding ≡ Some teid → acts ≡ earlier ++ freeze ∷ later → IsFreeze key before leg teid freeze
+      → leg.forwarding ≡ Some teid → acts ≡ earlier ++ freeze ∷ later → IsFreeze key earlier before leg teid freeze
       → Say sn (forwarding_of leg teid) (with_count (puts_on key (forwarding_of leg teid) freeze.step.lines)) numbered
       → Say sn (forwarding_of leg teid) (without_count (puts_on key (forwarding_of leg teid) freeze.step.lines)) waiting
       → IsHop sn key acts (before ∷ legs) hop → Took sn key earlier before taken

@@ -22,7 +22,7 @@ use Rattle.transport_defs.specs.declared.Item.{Item}
 use Rattle.transport_defs.specs.Links.{nth}
 use Rattle.run_defs.specs.States.{State, order_for, World, goes, ◌next◌, goes_on, Outcome, as_step, prints, is_gone, book_of, radio_of}
 use Rattle.run_defs.specs.Steps.{entities_of, bearer_numbers, Done, is_done, is_held, is_refused, does}
-use Rattle.run_defs.specs.Conditions.{serving_gnb, serving_place, state_at, ready_home, epoch_of, receiver_of, rests, ask_line}
+use Rattle.run_defs.specs.Conditions.{serving_gnb, serving_place, state_at, has_home, ready_home, epoch_of, receiver_of, rests, ask_line}
 use Rattle.run_defs.specs.Events.{get_done, carry_done, confirm_done, pump, tick}
 
 -- ---- the attached terminals, their bearers and entities, ascending
@@ -70,11 +70,11 @@ module _ {M C L P : Type 0} (world : World M C L P) where
   abbrev pub quiet_order : NodeId → Order → State M C L P → Outcome M C L P
   quiet_order node order s = quietly_by s (does world node (order_for order) None goes_on s)
 
-  -- ---- 1. each terminal that is accessing arrives, and each that lost its radio returns
+  -- ---- 1. each terminal that is accessing arrives, and each that lost its radio returns, where it was ever connected
 
   abbrev pub move_by : UeId → State M C L P → UeState → Outcome M C L P
   move_by ue s ue_states.Accessing = quiet_order (Ue ue.0) (orders.Arrive ue) s
-  move_by ue s ue_states.Lost = quiet_order (Ue ue.0) (orders.Return ue) s
+  move_by ue s ue_states.Lost = if has_home s ue then quiet_order (Ue ue.0) (orders.Return ue) s else goes_on s
   move_by ue s state = goes_on s
 
   abbrev pub move_each : List (UeId × Plan) → State M C L P → Outcome M C L P
@@ -112,8 +112,9 @@ module _ {M C L P : Type 0} (world : World M C L P) where
   abbrev pub all_tunnels : State M C L P → Outcome M C L P
   all_tunnels s = tunnels_from most_tunnels s (first_entry s.tunnels)
 
-  -- ---- 4. each radio that is ready is aired until nothing is uncarried, then acknowledged until nothing is carried, and so on until it
-  -- is empty; each at most 4,096 times more often than items stood on it when its turn began
+  -- ---- 4. Each radio that is ready is aired until nothing is uncarried or an item is held, then acknowledged until nothing is carried. Where
+  -- anything moved, it is aired and acknowledged again; its turn ends once nothing moved, it is empty or it is no longer ready. It is aired
+  -- and acknowledged each at most 4,096 times more often than items stood on it when its turn began.
 
   abbrev pub further_turns : ℕ
   further_turns = 4096
@@ -160,7 +161,7 @@ module _ {M C L P : Type 0} (world : World M C L P) where
   turn_times zero turn s = goes_on s
   turn_times (suc left) turn s = turn_step (turn_times left) turn s
 
-  -- each air and each acknowledgement is followed by two changes between them at most
+  -- each air and each acknowledgement is followed by two changes between them at most: so many steps are more than a turn takes
   abbrev pub radio_turn : EntityKey → State M C L P → Outcome M C L P
   radio_turn key s =
       let most = length (radio_of s key).items + further_turns in

@@ -1,6 +1,6 @@
 -- What a responder keeps of the requests that it took: for each initiator and terminal the newest instance, and the reply to
 -- it. A request is acted on where its instance is above all earlier ones; the newest one is answered again with its reply.
-use Rattle.std.specs.Prelude.{◌==◌, ℕ, Bool, nat_lt, if◌then◌else◌, List, Option, Some, None}
+use Rattle.std.specs.Prelude.{◌==◌, ℕ, Bool, false, nat_lt, if◌then◌else◌, List, Option, Some, None}
 use Rattle.gnb_types.specs.declared.keys.Channel.{Channel}
 use Rattle.gnb_types.specs.Orders.{channel_cmp}
 use Rattle.tables.specs.Tables.{find, put}
@@ -67,7 +67,7 @@ keep r c reply = with_reply r c reply (kept_at r c)
 
 -- a reply that comes late is kept only while its instance is the newest one
 abbrev pub is_newest : Option ℕ → ℕ → Bool
-is_newest None instance = nat_lt instance instance
+is_newest None instance = false
 is_newest (Some newest) instance = newest == instance
 
 unfoldable pub keep_for : {M : Type 0} → Callee M → Channel → ℕ → M → Callee M

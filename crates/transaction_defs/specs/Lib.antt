@@ -2,4 +2,3 @@ pub mod Callers
 pub mod Callees
 pub mod Applied
 pub mod Taken
-pub use Rattle.tables.specs as tables

@@ -1,2 +1,1 @@
 pub mod Links
-pub use Rattle.tables.specs as tables

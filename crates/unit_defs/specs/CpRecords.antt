@@ -25,7 +25,10 @@ use Rattle.unit_defs.specs.Messages.{channel}
 
 -- ---- the record
 
--- an answer that an attempt awaits: from whom, and of which instance, once its request was put
+-- An answer that an attempt awaits: from whom, and of which instance, once its request was put. What an attempt awaits of a node is to
+-- match what is asked of that node for the terminal: it awaits nothing, and no request to the node that is open or waits is marked as
+-- awaited; or it awaits the instance of the open request, and none that waits is marked; or it awaits an answer without an instance yet,
+-- and exactly one that waits is marked. So an answer is taken for an attempt only where it was asked for that attempt.
 pub record Awaited : Type 0 where
   pub from : NodeId
   pub instance : Option ℕ

@@ -102,9 +102,9 @@ abbrev pub closed_in : {M P : Type 0} → Output M P → List ℕ
 closed_in (closed teid) = teid ∷ []
 closed_in output = []
 
--- a context that is no target has its status, and its terminal is there
+-- a context that is no target may serve from the start, and its terminal is there
 abbrev pub new_flags_of : Bool → UpFlags
-new_flags_of target = record { target = target; has_status = not target; arrived = not target; frozen = false; released = false }
+new_flags_of target = record { target = target; may_serve = not target; arrived = not target; frozen = false; released = false }
 
 module _ {M C P : Type 0} (way : Way M C P) where
   -- ---- a context with its bearers, and the bearers of a context one after another
@@ -267,14 +267,14 @@ module _ {M C P : Type 0} (way : Way M C P) where
 
   unfoldable pub freeze : Channel → UeId → ℕ → Peer → List Tunnel → List Tunnel → UpContext → CuUp M C → Answer M P (CuUp M C)
   freeze ch ue instance peer down up c r =
-      if not c.flags.has_status then replies ch (e1s.BearerContextModificationFailure ue instance cause_busy) r else
+      if not c.flags.may_serve then replies ch (e1s.BearerContextModificationFailure ue instance cause_busy) r else
       (let on = as_frozen c in
       answer_with r ue on (each_bearer (λ bearer. frozen_to way (up_at ue on bearer) (peer_node peer) (teid_of down bearer) (teid_of up bearer)) c.bearers)
       then replies ch (modified ue instance None (Some (statuses c))))
 
   -- `status`: the entities of the target begin where those of the source stood
   abbrev pub as_known : UpContext → UpContext
-  as_known c = record c { flags = record c.flags { has_status = true } }
+  as_known c = record c { flags = record c.flags { may_serve = true } }
 
   abbrev pub status_each : UeId → UpContext → List SnStatus → List (BearerId × UpBearer) → UpStep
   status_each ue c [] bearers = steps [] bearers
@@ -318,7 +318,7 @@ module _ {M C P : Type 0} (way : Way M C P) where
 
   abbrev pub status_if : Channel → UeId → ℕ → Option (List SnStatus) → UpContext → CuUp M C → Answer M P (CuUp M C)
   status_if ch ue instance (Some ss) c r =
-      if c.flags.has_status || not (are_bearers (names c) (statuses_of ss)) then drops Unexpected r else take_status ch ue instance ss c r
+      if c.flags.may_serve || not (are_bearers (names c) (statuses_of ss)) then drops Unexpected r else take_status ch ue instance ss c r
   status_if ch ue instance None c r = drops Unexpected r
 
   abbrev pub resume_if : Channel → UeId → ℕ → UpContext → CuUp M C → Answer M P (CuUp M C)

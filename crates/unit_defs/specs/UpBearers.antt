@@ -184,7 +184,7 @@ module _ {M C P : Type 0} (way : Way M C P) where
       then number_waiting at
 
   abbrev pub begin_where_known : UpAt → UpBearer → Answer M P UpBearer
-  begin_where_known at b = if at.flags.has_status then begin_downlink at b.receiver.deliv (received_bits b.receiver) b else nothing b
+  begin_where_known at b = if at.flags.may_serve then begin_downlink at b.receiver.deliv (received_bits b.receiver) b else nothing b
 
   unfoldable pub switched : UpAt → NodeId → ℕ → UpBearer → Answer M P UpBearer
   switched at du teid b =

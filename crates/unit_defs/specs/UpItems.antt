@@ -28,7 +28,7 @@ is_n3 forwarding_up = false
 
 abbrev pub held_as_target : UpFlags → TunnelKind → UpBearer → List (Bool × HeldReason)
 held_as_target flags kind b =
-    (not flags.has_status, NoStatus)
+    (not flags.may_serve, NoStatus)
     ∷ (not flags.arrived, NotArrived)
     ∷ (is_n3 kind && flags.target && not b.down_ended, Early)
     ∷ []

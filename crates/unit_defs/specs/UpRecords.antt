@@ -48,11 +48,12 @@ pub record UpBearer : Type 0 where
   pub loss_while_frozen : Bool
   pub taken_while_frozen : List ℕ
 
--- what the bearers of a context share. A target has its packets from a source: it goes on once the SN status is there, and
--- serves once the terminal arrived. A released context keeps no packet, and passes on what still comes.
+-- What the bearers of a context share. A target has its packets from a source: it may serve once the SN status is there, and
+-- serves once the terminal arrived. Any other context may serve from the start. A released context keeps no packet, and passes on
+-- what still comes.
 pub record UpFlags : Type 0 where
   pub target : Bool
-  pub has_status : Bool
+  pub may_serve : Bool
   pub arrived : Bool
   pub frozen : Bool
   pub released : Bool

@@ -5,7 +5,7 @@ ghost use Rattle.unit_defs.specs.Ue.{is_connected};
 ghost use Rattle.unit_defs.specs.Accessors.{is_unconfirmed};
 ghost use Rattle.run_defs.specs.Units.{cp_of, up_of, epoch_at};
 ghost use Rattle.run_defs.specs.Steps.{epoch_now, is_on_air};
-ghost use Rattle.run_defs.specs.Conditions.{later, same_epoch, ready_home, serving_gnb, serving_place};
+ghost use Rattle.run_defs.specs.Conditions.{later, same_epoch, state_at, has_home, ready_home, serving_gnb, serving_place};
 ghost use Rattle.run_defs.specs.UnitRuns.{unit_world};
 ghost use Rattle.run_links.specs.Grounds.{OctetWorld, state_of};
 
@@ -64,6 +64,28 @@ impl<U: Units<C> + Drop, C: MessageCodec + Drop> Parts<U, C> {
         }
     }
 
+    /// The state of a terminal; `Idle` where it never came.
+    pub fn state_at(&self, ue: UeId) -> UeState
+        requires { U.ready self.now.units }
+        ensures { result ≡ state_at (state_of (U.records self.now.units) self.now.core self.now.ground) ue }
+    {
+        match self.units.ue_node(ue) {
+            Some(terminal) => terminal.state(),
+            None => UeState::Idle,
+        }
+    }
+
+    /// Whether a terminal was ever connected.
+    pub fn has_home(&self, ue: UeId) -> bool
+        requires { U.ready self.now.units }
+        ensures { result ≡ has_home (state_of (U.records self.now.units) self.now.core self.now.ground) ue }
+    {
+        match self.units.ue_node(ue) {
+            Some(terminal) => terminal.home().is_some(),
+            None => false,
+        }
+    }
+
     /// The epoch of a terminal's context at a DU.
     #[tactic(auto, unfolding(tables::specs::Tables::at, tables::specs::Tables::find))]
     fn epoch_at(&self, node: NodeId, ue: UeId) -> Option<u32>
@@ -83,7 +105,7 @@ impl<U: Units<C> + Drop, C: MessageCodec + Drop> Parts<U, C> {
     {
         let terminal = self.units.ue_node(ue)?;
         let home = terminal.home()?;
-        let there = self.epoch_at(home, terminal.ue());
+        let there = self.epoch_at(home, ue);
         if is_connected(terminal.state()) && is_epoch(there, terminal.epoch()) {
             Some(home)
         } else {

@@ -5,10 +5,3 @@ mod additions;
 mod codes;
 pub mod hearing;
 pub mod writing;
-
-/// Of `message_values`, for crates above.
-pub mod from_message_values {
-    pub mod error {
-        pub use message_values::error::MsgError;
-    }
-}

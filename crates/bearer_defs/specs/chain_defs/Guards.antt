@@ -32,7 +32,7 @@ pub record IsUntouched (m : Member) : Type 0 where
   pub there : m.is_there ≡ true
   pub target : m.flags.target ≡ true
   pub ended : m.bearer.down_ended ≡ false
-  pub status : m.flags.has_status ≡ false
+  pub status : m.flags.may_serve ≡ false
   pub frozen : m.flags.frozen ≡ false
   pub open_ : is_open m.bearer.n3 ≡ true
   pub unconfirmed : m.bearer.sender.unconfirmed ≡ []
@@ -45,8 +45,8 @@ module _ (sn : SnBits) (quota : ℕ) where
   IsReady s (offers packet) = ⊤
   IsReady s (switches_path to) = ⊤
   IsReady s (makes x target teid) = (s.members x).is_there ≡ false
-  IsReady s (freezes x to hop) = let m = s.members x in (m.is_there ≡ true) × (m.flags.has_status ≡ true) × (m.flags.frozen ≡ false)
-  IsReady s (knows x status) = let m = s.members x in (m.is_there ≡ true) × (m.flags.has_status ≡ false)
+  IsReady s (freezes x to hop) = let m = s.members x in (m.is_there ≡ true) × (m.flags.may_serve ≡ true) × (m.flags.frozen ≡ false)
+  IsReady s (knows x status) = let m = s.members x in (m.is_there ≡ true) × (m.flags.may_serve ≡ false)
   IsReady s (switches x downlink epoch) = (s.members x).is_there ≡ true
   IsReady s (resumes x) = let m = s.members x in (m.is_there ≡ true) × (m.flags.frozen ≡ true)
   IsReady s (releases x) = (s.members x).is_there ≡ true
@@ -70,7 +70,7 @@ module _ (sn : SnBits) (quota : ℕ) where
   IsReady s (ends_hop x rest) = OnForwarding (s.members x) end_marker rest
   IsReady s (numbers x packet rest) =
       let m = s.members x in
-      (m.is_there ≡ true) × (m.flags.has_status ≡ true) × (m.flags.frozen ≡ false) × (m.bearer.waiting ≡ packet ∷ rest)
+      (m.is_there ≡ true) × (m.flags.may_serve ≡ true) × (m.flags.frozen ≡ false) × (m.bearer.waiting ≡ packet ∷ rest)
       × (has_room sn quota m.bearer.sender ≡ true)
   IsReady s (confirms x count) = (s.members x).is_there ≡ true
   IsReady s (reports x fmc bits) = (s.members x).is_there ≡ true

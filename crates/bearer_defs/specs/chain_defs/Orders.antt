@@ -113,12 +113,12 @@ after s (freezes x to hop) =
     to (record t { forwarded = t.forwarded ++ forwards m.bearer; promised = m.bearer.sender.next })
 after s (knows x status) =
     let m = s.members x in
-    changed s x (record m { flags = record m.flags { has_status = true }; bearer = known m.bearer status })
+    changed s x (record m { flags = record m.flags { may_serve = true }; bearer = known m.bearer status })
 after s (switches x downlink epoch) =
     let m = s.members x in
     let now : Member = record m
     { flags = record m.flags { frozen = false; arrived = true }; bearer = on_downlink m.bearer downlink; epoch = epoch } in
-    sent (changed s x now) now (if m.flags.has_status then m.bearer.sender.unconfirmed else [])
+    sent (changed s x now) now (if m.flags.may_serve then m.bearer.sender.unconfirmed else [])
 after s (resumes x) =
     let m = s.members x in
     sent (changed s x (record m { flags = record m.flags { frozen = false }; bearer = thawed m.bearer })) m (owed m.bearer)

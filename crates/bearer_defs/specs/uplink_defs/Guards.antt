@@ -34,7 +34,7 @@ IsUnfed s y = (x : ℕ) → Feeds (s.members x) y → ⊥
 pub record IsUntouched (m : Member) : Type 0 where
   pub target : m.flags.target ≡ true
   pub ended : m.bearer.up_ended ≡ false
-  pub status : m.flags.has_status ≡ false
+  pub status : m.flags.may_serve ≡ false
   pub arrived : m.flags.arrived ≡ false
   pub released : m.flags.released ≡ false
   pub forwarded : m.forwarded ≡ []
@@ -50,8 +50,8 @@ IsReady s (numbers packet rest) = (s.connected ≡ true) × (s.terminal.waiting 
 IsReady s (carries teid count packet rest) = s.air ≡ (count, packet) ∷ rest
 IsReady s (acknowledges count rest) = s.carried ≡ count ∷ rest
 IsReady s (makes x teid) = (s.members x).is_there ≡ false
-IsReady s (freezes x to hop) = let m = s.members x in (m.flags.has_status ≡ true) × (m.flags.arrived ≡ true)
-IsReady s (knows x status) = (s.members x).flags.has_status ≡ false
+IsReady s (freezes x to hop) = let m = s.members x in (m.flags.may_serve ≡ true) × (m.flags.arrived ≡ true)
+IsReady s (knows x status) = (s.members x).flags.may_serve ≡ false
 IsReady s (closes x) =
     let m = s.members x in
     (m.flags.released ≡ true) × (no_uplink m.bearer.uplinks ≡ true) × (is_hop_up_done m.flags m.bearer ≡ true)

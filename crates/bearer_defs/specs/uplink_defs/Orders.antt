@@ -144,7 +144,7 @@ after s (freezes x to hop) =
     })
 after s (knows x status) =
     let m = s.members x in
-    changed s x (record m { flags = record m.flags { has_status = true }; bearer = known m.bearer status })
+    changed s x (record m { flags = record m.flags { may_serve = true }; bearer = known m.bearer status })
 after s (switches x) =
     let m = s.members x in
     handed s x (record m { flags = record m.flags { frozen = false; arrived = true }; bearer = thawed m.bearer }) (deliver m.bearer.receiver)

@@ -80,10 +80,10 @@ module _ (codec : Codec) (a : At) where
   abbrev pub known_row : UpBearer → OctetAnswer UpBearer
   known_row b = begin_where_known (octet_way codec) (at_as a) b
 
-  pub knows : (b : UpBearer) → a.flags.has_status ≡ true → known_row b ≡ beginning b.receiver.deliv (received_bits b.receiver) b
+  pub knows : (b : UpBearer) → a.flags.may_serve ≡ true → known_row b ≡ beginning b.receiver.deliv (received_bits b.receiver) b
   knows b is = ap (λ (t : Bool). cond t (beginning b.receiver.deliv (received_bits b.receiver) b) (nothing b)) is
 
-  pub knows_not : (b : UpBearer) → a.flags.has_status ≡ false → known_row b ≡ nothing b
+  pub knows_not : (b : UpBearer) → a.flags.may_serve ≡ false → known_row b ≡ nothing b
   knows_not b is = ap (λ (t : Bool). cond t (beginning b.receiver.deliv (received_bits b.receiver) b) (nothing b)) is
 
   abbrev pub to_tunnel : NodeId → ℕ → Bearer → UpBearer

@@ -17,7 +17,7 @@ IsEmpty b = (b.down.sending.sender.unconfirmed ≡ []) × (b.receiving.receiver.
 
 -- as in a context before the SN status
 abbrev pub IsIdle : At → Bearer → Type 0
-IsIdle a b = a.flags.has_status ≡ false → IsEmpty b
+IsIdle a b = a.flags.may_serve ≡ false → IsEmpty b
 
 -- nothing is frozen any more
 abbrev pub thawed_bearer : Bearer → Bearer

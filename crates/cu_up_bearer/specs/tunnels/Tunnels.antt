@@ -19,7 +19,7 @@ use Rattle.cu_up_bearer.specs.declared.tunnels.hop.Hop.{Hop}
 -- ---- whose order it is
 
 abbrev pub flags_as : Flags → UpFlags
-flags_as f = record { target = f.target; has_status = f.has_status; arrived = f.arrived; frozen = f.frozen; released = f.released }
+flags_as f = record { target = f.target; may_serve = f.may_serve; arrived = f.arrived; frozen = f.frozen; released = f.released }
 
 abbrev pub at_as : At → UpAt
 at_as a = record { ue = a.ue; bearer = a.bearer; sn = a.sn; quota = a.quota; flags = flags_as a.flags }

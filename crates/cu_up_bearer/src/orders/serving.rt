@@ -107,7 +107,7 @@ pub fn switch(
         downlink: Some(Downlink { du, teid, next: 0 }),
         restart: false,
     };
-    if !at.flags.has_status {
+    if !at.flags.may_serve {
         // Before the SN status nothing is stored, and nothing was sent.
         return Ok(());
     }

@@ -7,7 +7,7 @@ use gnb_types::names::{BearerId, SnBits, UeId};
 #[derive(Clone, Copy)]
 pub struct Flags {
     pub target: bool,
-    pub has_status: bool,
+    pub may_serve: bool,
     pub arrived: bool,
     pub frozen: bool,
     pub released: bool,

@@ -30,7 +30,7 @@ module _ {X : Type 0} (result : Result X StepError) (failed : Bool) (is : failed
           differs e = cc
 
   module _ (sn : SnBits) (quota : ℕ) (flags : Flags) (ws vs : List Bearer) (few : length ws ≤ 8)
-      (known : flags.frozen ≡ true → flags.has_status ≡ true) (served : OnOk result (AreServed (shared sn quota flags) ws))
+      (known : flags.frozen ≡ true → flags.may_serve ≡ true) (served : OnOk result (AreServed (shared sn quota flags) ws))
       (kept : failed ≡ false → vs ≡ ws) (none : failed ≡ true → vs ≡ []) where
     pub sound_after : IsContext sn quota flags vs
     sound_after = by failed kept none (λ fine. ok_of (AreServed (shared sn quota flags) ws) fine served)
@@ -48,7 +48,7 @@ module _ (sn : SnBits) (quota : ℕ) (flags : Flags) (bs : List Bearer) (i : ℕ
   here_served =
       subst (λ (x : Bearer). IsServed (shared sn quota flags) x) (sym at) (each_at (λ x. IsServed (shared sn quota flags) x) bs i b within all)
 
-  pub others_served : (result : Result Bool StepError) → OnOk result (IsOf (shared sn quota flags) after) → (flags.has_status ≡ false → after ≡ b)
+  pub others_served : (result : Result Bool StepError) → OnOk result (IsOf (shared sn quota flags) after) → (flags.may_serve ≡ false → after ≡ b)
       → OnOk result (AreServed (shared sn quota flags) (set bs i after))
   others_served (Ok x) of same =
       each_set (λ y. IsServed (shared sn quota flags) y) bs i after

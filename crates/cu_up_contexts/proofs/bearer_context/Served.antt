@@ -10,7 +10,7 @@ use Rattle.cu_up_contexts.specs.bearer_context.Bearers.{IsServed}
 
 abbrev Serves : At → DownSide → DownlinkState → Type 0
 Serves a d u =
-    (IsDown a d × IsUp a u) × (a.flags.has_status ≡ false → (d.sending.sender.unconfirmed ≡ []) × (u.receiver.stored ≡ []))
+    (IsDown a d × IsUp a u) × (a.flags.may_serve ≡ false → (d.sending.sender.unconfirmed ≡ []) × (u.receiver.stored ≡ []))
 
 pub served_as : (a : At) (b c : Bearer) → c.down ≡ b.down → c.receiving ≡ b.receiving → IsServed a b → IsServed a c
 served_as a b c down receiving served =

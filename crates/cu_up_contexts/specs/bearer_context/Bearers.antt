@@ -39,7 +39,7 @@ AreEmpty a bs = AllByRecursion (λ b. IsOf a b × IsEmpty b) bs
 pub record IsContext (sn : SnBits) (quota : ℕ) (flags : Flags) (bs : List Bearer) : Type 0 where
   pub few : length bs ≤ 8
   pub served : AreServed (shared sn quota flags) bs
-  pub known : flags.frozen ≡ true → flags.has_status ≡ true
+  pub known : flags.frozen ≡ true → flags.may_serve ≡ true
 
 -- no bearer of so many has this number
 abbrev pub IsOutside : ℕ → ℕ → Type 0

@@ -14,7 +14,7 @@ use Rattle.cu_up_contexts.specs.declared.bearer_context.context.ContextSetup.{Co
 
 -- the flags of a new one
 abbrev pub flags_at_first : Bool → Flags
-flags_at_first target = record { target = target; has_status = not target; arrived = not target; frozen = false; released = false }
+flags_at_first target = record { target = target; may_serve = not target; arrived = not target; frozen = false; released = false }
 
 -- with TEIDs from this one on
 abbrev pub made_from : ℕ → ContextSetup → UpContext
@@ -48,7 +48,7 @@ with_one c bearer b = record c { bearers = put bearer_cmp c.bearers bearer b }
 
 -- whose order a bearer's part carries out, as the code has it
 abbrev pub flags_of : UpFlags → Flags
-flags_of f = record { target = f.target; has_status = f.has_status; arrived = f.arrived; frozen = f.frozen; released = f.released }
+flags_of f = record { target = f.target; may_serve = f.may_serve; arrived = f.arrived; frozen = f.frozen; released = f.released }
 
 abbrev pub at_in : UeId → UpContext → BearerId → At
 at_in ue c bearer = record { ue = ue; bearer = bearer; sn = c.sn; quota = c.quota; flags = flags_of c.flags }

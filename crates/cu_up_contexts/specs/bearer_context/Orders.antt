@@ -38,8 +38,8 @@ row_of codec order.Resume at b = resumed (octet_way codec) at b
 
 -- only a context that has its SN status is resumed
 abbrev pub IsAllowed : BearerOrder → Bool → Type 0
-IsAllowed order.Resume has_status = has_status ≡ true
-IsAllowed o has_status = Unit {0}
+IsAllowed order.Resume may_serve = may_serve ≡ true
+IsAllowed o may_serve = Unit {0}
 
 -- each bearer of a context begins its downlink on its tunnel of this list; gives all that it holds to its tunnels of these lists; goes on
 abbrev pub switched_each : (codec : Codec) → UeId → NodeId → List Tunnel → UpContext → UpStep (octet_way codec)

@@ -64,7 +64,7 @@ impl ContextSetup {
     {
         Flags {
             target: self.target,
-            has_status: !self.target,
+            may_serve: !self.target,
             arrived: !self.target,
             frozen: false,
             released: false,

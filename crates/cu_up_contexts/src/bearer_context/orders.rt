@@ -65,7 +65,7 @@ fn carry_out(
     bearer: &mut Bearer,
     out: &mut Outputs,
 ) -> Result<(), StepError>
-    requires allowed { IsAllowed order at.now.flags.has_status }
+    requires allowed { IsAllowed order at.now.flags.may_serve }
     requires served { IsServed at.now bearer.old }
     ensures step { (codec : Codec) → IsStep (step_after out.old (row_of codec order.entry (at_as at.now) (kept bearer.old)))
         out.new (kept bearer.new) result }
@@ -96,7 +96,7 @@ fn each(
     bearers: &mut [Bearer],
     out: &mut Outputs,
 ) -> Result<(), StepError>
-    requires allowed { IsAllowed order at.flags.has_status }
+    requires allowed { IsAllowed order at.flags.may_serve }
     requires few { at.bearer.0 + length bearers.old ≤ 255 }
     requires served { AreServed at bearers.old }
     ensures step { (codec : Codec) → IsStep (bearers_after codec out.old (each_bearer (octet_way codec)
@@ -136,7 +136,7 @@ fn go_on_each(
     out: &mut Outputs,
 ) -> Result<(), StepError>
     requires short { AreShort statuses.now }
-    requires known { at.flags.has_status ≡ true }
+    requires known { at.flags.may_serve ≡ true }
     requires few { at.bearer.0 + length bearers.old ≤ 255 }
     requires empty { AreEmpty at bearers.old }
     ensures step { (codec : Codec) (instance : ℕ) (others : List (Id × UpBearer)) → IsStep (bearers_after codec out.old
@@ -194,7 +194,7 @@ impl Context {
         order: BearerOrder<'_>,
         out: &mut Outputs,
     ) -> Result<(), StepError>
-        requires { IsAllowed order self.old.flags.has_status }
+        requires { IsAllowed order self.old.flags.may_serve }
         ensures { (codec : Codec) → IsStep (context_after codec out.old self.old (each_bearer (octet_way codec)
             (λ id b. row_of codec order.entry (up_at ue self.old id) b) self.old.bearers)) out.new self.new result }
     {
@@ -237,7 +237,7 @@ impl Context {
         up: &[Tunnel],
         out: &mut Outputs,
     ) -> Result<(), StepError>
-        requires { self.old.flags.has_status ≡ true }
+        requires { self.old.flags.may_serve ≡ true }
         ensures { (codec : Codec) → IsStep (context_after codec out.old (as_frozen (octet_way codec) self.old)
             (frozen_each codec ue peer down.now up.now (as_frozen (octet_way codec) self.old))) out.new self.new result }
     {
@@ -263,12 +263,12 @@ impl Context {
         statuses: &[SnStatus],
         out: &mut Outputs,
     ) -> Result<(), StepError>
-        requires new { self.old.flags.has_status ≡ false }
+        requires new { self.old.flags.may_serve ≡ false }
         requires short { AreShort statuses.now }
         ensures { (codec : Codec) → IsStep (context_after codec out.old (as_known (octet_way codec) self.old)
             (status_each (octet_way codec) ue (as_known (octet_way codec) self.old) statuses.now self.old.bearers)) out.new self.new result }
     {
-        self.flags.has_status = true;
+        self.flags.may_serve = true;
         let at = At {
             ue,
             bearer: BearerId(1),

@@ -47,7 +47,7 @@ impl Contexts {
         up: &[Tunnel],
         out: &mut Outputs,
     ) -> Result<(), StepError>
-        requires { (c : UpContext) → find ue_cmp self.old.contexts ue ≡ Some c → c.flags.has_status ≡ true }
+        requires { (c : UpContext) → find ue_cmp self.old.contexts ue ≡ Some c → c.flags.may_serve ≡ true }
         ensures { (codec : Codec) (r : OctetUp) → IsStep
             (step_after out.old (frozen_at codec ue peer down.now up.now (with_tables r self.old) (find ue_cmp self.old.contexts ue)))
             out.new (with_tables r self.new) result }
@@ -66,7 +66,7 @@ impl Contexts {
         statuses: &[SnStatus],
         out: &mut Outputs,
     ) -> Result<(), StepError>
-        requires new { (c : UpContext) → find ue_cmp self.old.contexts ue ≡ Some c → c.flags.has_status ≡ false }
+        requires new { (c : UpContext) → find ue_cmp self.old.contexts ue ≡ Some c → c.flags.may_serve ≡ false }
         requires short { AreShort statuses.now }
         ensures { (codec : Codec) (r : OctetUp) → IsStep
             (step_after out.old (known_at codec ue statuses.now (with_tables r self.old) (find ue_cmp self.old.contexts ue)))

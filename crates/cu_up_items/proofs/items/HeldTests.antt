@@ -87,10 +87,10 @@ module _ {P : Type 0} (a : UpAt) (b : UpBearer) (kind : TunnelKind) (item : Take
   room_up count is = near_of a b count (ap first_held (sym is) ∙ has_room)
 
 -- before the SN status each item is held
-pub held_unknown : {P : Type 0} (a : UpAt) (b : UpBearer) (kind : TunnelKind) (t : Taken P) → a.flags.has_status ≡ false
+pub held_unknown : {P : Type 0} (a : UpAt) (b : UpBearer) (kind : TunnelKind) (t : Taken P) → a.flags.may_serve ≡ false
     → held_reason a b kind t ≡ None → ⊥
 unfolding held_reason
-held_unknown a b kind t unknown none = by a.flags.has_status unknown none
+held_unknown a b kind t unknown none = by a.flags.may_serve unknown none
   where
     rest : Option HeldReason
     rest = first_held ((not a.flags.arrived, NotArrived) ∷ (is_n3 kind && a.flags.target && not b.down_ended, Early) ∷ held_by_room a b kind t)

@@ -32,7 +32,7 @@ fn come_as(
     ensures came { (codec : Codec) → IsCame (came_as codec at.now kind teid item.now (kept bearer.old))
         out.old out.new (kept bearer.old) (kept bearer.new) result }
     ensures of { OnOk result (IsOf at.now bearer.new) }
-    ensures idle { at.now.flags.has_status ≡ false → bearer.new ≡ bearer.old }
+    ensures idle { at.now.flags.may_serve ≡ false → bearer.new ≡ bearer.old }
 {
     if let Some(reason) = held_reason(bearer, at, kind, item) {
         out.push(Output::Held(reason))?;
@@ -56,7 +56,7 @@ pub fn come(
     ensures came { (codec : Codec) → ReadsItems codec → IsCame (came codec at.now kind teid octets.now (kept bearer.old))
         out.old out.new (kept bearer.old) (kept bearer.new) result }
     ensures of { OnOk result (IsOf at.now bearer.new) }
-    ensures idle { at.now.flags.has_status ≡ false → bearer.new ≡ bearer.old }
+    ensures idle { at.now.flags.may_serve ≡ false → bearer.new ≡ bearer.old }
 {
     let Some(item) = read_item(kind, at.sn, octets) else {
         out.push(Output::Drop(DropReason::Undecodable))?;

@@ -29,7 +29,7 @@ fn is_n3(kind: Kind) -> bool
 fn held_as_target(bearer: &Bearer, at: &At, kind: Kind) -> Option<HeldReason>
     ensures { result ≡ first_held (held_as_target (flags_as at.now.flags) (kind_as kind) (kept bearer.now)) }
 {
-    if !at.flags.has_status {
+    if !at.flags.may_serve {
         return Some(HeldReason::NoStatus);
     }
     if !at.flags.arrived {

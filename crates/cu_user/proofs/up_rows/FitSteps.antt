@@ -43,5 +43,5 @@ first_not true b e = cc
 pub is_frozen_where : (codec : Codec) (c : UpContext) → true ≡ may_resume codec (Some c) → c.flags.frozen ≡ true
 is_frozen_where codec c e = first_is c.flags.frozen c.flags.released e
 
-pub is_new_where : (codec : Codec) (ss : List SnStatus) (c : UpContext) → true ≡ may_know codec ss (Some c) → c.flags.has_status ≡ false
-is_new_where codec ss c e = first_not c.flags.has_status (are_bearers (names (octet_way codec) c) (statuses_of ss)) e
+pub is_new_where : (codec : Codec) (ss : List SnStatus) (c : UpContext) → true ≡ may_know codec ss (Some c) → c.flags.may_serve ≡ false
+is_new_where codec ss c e = first_not c.flags.may_serve (are_bearers (names (octet_way codec) c) (statuses_of ss)) e

@@ -23,7 +23,7 @@ use Rattle.unit_messages.specs.declared.steps.StepError.{StepError}
 use Rattle.unit_requests.proofs.Thens.{goes_on, stops}
 use Rattle.cu_up_contexts.specs.contexts.Tables.{OctetUp}
 use Rattle.cu_up_contexts.specs.contexts.Rows.{switched_at, known_at, resumed_at, added_at, uplinks_at}
-use Rattle.cu_user.specs.up_rows.Modes.{refused_on, is_named, may_add, may_switch, may_freeze, may_know, may_resume, has_status, uplinks_on, switch_on, freeze_on, status_on, resume_on, frozen_and_told}
+use Rattle.cu_user.specs.up_rows.Modes.{refused_on, is_named, may_add, may_switch, may_freeze, may_know, may_resume, may_serve, uplinks_on, switch_on, freeze_on, status_on, resume_on, frozen_and_told}
 
 -- ---- the tests, the other way round
 
@@ -104,18 +104,18 @@ module _ (codec : Codec) (ch : Channel) (ue : UeId) (instance : ℕ) (r : OctetU
   switch_is du downlinks (Some c) = two (drops Unexpected r) (switched_and_told du downlinks (Some c)) c.flags.released (is_named codec c downlinks)
 
   pub freeze_is : (peer : Peer) (down up : List Tunnel) (o : Option UpContext) → freeze_on codec ch ue instance (Some peer) (Some down) (Some up) r o
-      ≡ cond (may_freeze codec down up o) (cond (has_status codec o) (frozen_and_told codec ch ue instance peer down up r o) busy) (refused_on r o)
+      ≡ cond (may_freeze codec down up o) (cond (may_serve codec o) (frozen_and_told codec ch ue instance peer down up r o) busy) (refused_on r o)
   unfolding freeze
   freeze_is peer down up None = refl
   freeze_is peer down up (Some c) =
       five (drops Unexpected r) (freeze (octet_way codec) ch ue instance peer down up c r) c.flags.frozen c.flags.released c.flags.arrived
       (is_named codec c down) (is_named codec c up)
       ∙ ap (λ (a : OctetAnswer OctetUp). cond (may_freeze codec down up (Some c)) a (drops Unexpected r))
-      (sym (one (frozen_and_told codec ch ue instance peer down up r (Some c)) busy c.flags.has_status))
+      (sym (one (frozen_and_told codec ch ue instance peer down up r (Some c)) busy c.flags.may_serve))
 
   module _ (peer : Peer) (down up : List Tunnel) (o : Option UpContext) where
     abbrev frozen_if : OctetAnswer OctetUp
-    frozen_if = cond (has_status codec o) (frozen_and_told codec ch ue instance peer down up r o) busy
+    frozen_if = cond (may_serve codec o) (frozen_and_told codec ch ue instance peer down up r o) busy
 
     abbrev freezing : OctetAnswer OctetUp
     freezing = freeze_on codec ch ue instance (Some peer) (Some down) (Some up) r o
@@ -126,10 +126,10 @@ module _ (codec : Codec) (ch : Channel) (ue : UeId) (instance : ℕ) (r : OctetU
     fits_status : true ≡ may_freeze codec down up o → freezing ≡ frozen_if
     fits_status e = freeze_is peer down up o ∙ ap (λ (b : Bool). cond b frozen_if (refused_on r o)) (sym e)
 
-    pub is_busy : true ≡ may_freeze codec down up o → false ≡ has_status codec o → freezing ≡ busy
+    pub is_busy : true ≡ may_freeze codec down up o → false ≡ may_serve codec o → freezing ≡ busy
     is_busy e h = fits_status e ∙ ap (λ (b : Bool). cond b (frozen_and_told codec ch ue instance peer down up r o) busy) (sym h)
 
-    pub is_frozen : true ≡ may_freeze codec down up o → true ≡ has_status codec o → freezing ≡ frozen_and_told codec ch ue instance peer down up r o
+    pub is_frozen : true ≡ may_freeze codec down up o → true ≡ may_serve codec o → freezing ≡ frozen_and_told codec ch ue instance peer down up r o
     is_frozen e h = fits_status e ∙ ap (λ (b : Bool). cond b (frozen_and_told codec ch ue instance peer down up r o) busy) (sym h)
 
   pub status_is : (ss : List SnStatus) (o : Option UpContext)
@@ -137,7 +137,7 @@ module _ (codec : Codec) (ch : Channel) (ue : UeId) (instance : ℕ) (r : OctetU
   unfolding take_status
   status_is ss None = refl
   status_is ss (Some c) =
-      two (drops Unexpected r) (known_and_told ss (Some c)) c.flags.has_status (are_bearers (names (octet_way codec) c) (statuses_of ss))
+      two (drops Unexpected r) (known_and_told ss (Some c)) c.flags.may_serve (are_bearers (names (octet_way codec) c) (statuses_of ss))
 
   pub resume_is : (o : Option UpContext) → resume_on codec ch ue instance r o ≡ cond (may_resume codec o) (resumed_and_told o) (refused_on r o)
   unfolding resume

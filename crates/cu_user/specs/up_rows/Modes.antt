@@ -41,15 +41,15 @@ module _ (codec : Codec) where
 
   abbrev pub may_know : List SnStatus → Option UpContext → Bool
   may_know ss None = false
-  may_know ss (Some c) = not c.flags.has_status && are_bearers (names (octet_way codec) c) (statuses_of ss)
+  may_know ss (Some c) = not c.flags.may_serve && are_bearers (names (octet_way codec) c) (statuses_of ss)
 
   abbrev pub may_resume : Option UpContext → Bool
   may_resume None = false
   may_resume (Some c) = c.flags.frozen && not c.flags.released
 
-  abbrev pub has_status : Option UpContext → Bool
-  has_status None = false
-  has_status (Some c) = c.flags.has_status
+  abbrev pub may_serve : Option UpContext → Bool
+  may_serve None = false
+  may_serve (Some c) = c.flags.may_serve
 
   -- where the target of a freeze is to go on
   abbrev pub statuses_on : Option UpContext → List SnStatus

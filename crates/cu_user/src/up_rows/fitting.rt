@@ -3,7 +3,7 @@
 ghost use Rattle.std.specs.Prelude.{◌≡◌, Some, IfOk};
 ghost use Rattle.unit_defs.specs.CuUp.{context_of};
 ghost use Rattle.unit_defs.specs.octet_defs.Codec.{Codec};
-ghost use Rattle.cu_user.specs.up_rows.Modes.{may_add, may_switch, may_freeze, may_know, may_resume, has_status, statuses_on};
+ghost use Rattle.cu_user.specs.up_rows.Modes.{may_add, may_switch, may_freeze, may_know, may_resume, may_serve, statuses_on};
 
 use crate::up_rows::record::UpRecord;
 use cu_up_contexts::contexts::Context;
@@ -48,7 +48,7 @@ fn may_know(context: &Context, statuses: &[SnStatus]) -> bool
     ensures { (codec : Codec) → result ≡ may_know codec statuses.now (Some context.now) }
 {
     let flags = context.flags();
-    if flags.has_status {
+    if flags.may_serve {
         return false;
     }
     context.is_named_by_statuses(statuses)
@@ -106,11 +106,11 @@ impl UpRecord {
     }
 
     /// Whether it has its SN status.
-    pub(crate) fn has_status(&self, ue: UeId) -> bool
-        ensures { (codec : Codec) → result ≡ has_status codec (context_of self.now ue) }
+    pub(crate) fn may_serve(&self, ue: UeId) -> bool
+        ensures { (codec : Codec) → result ≡ may_serve codec (context_of self.now ue) }
     {
         match self.contexts.get(ue) {
-            Some(context) => context.flags().has_status,
+            Some(context) => context.flags().may_serve,
             None => false,
         }
     }

@@ -8,7 +8,7 @@ ghost use Rattle.unit_defs.specs.Messages.{cause_busy};
 ghost use Rattle.unit_defs.specs.CuUp.{context_of, replies, modified, modify_on};
 ghost use Rattle.unit_defs.specs.octet_defs.Codec.{Codec, octet_way};
 ghost use Rattle.unit_messages.specs.steps.Steps.{IsStep, step_after};
-ghost use Rattle.cu_user.specs.up_rows.Modes.{refused_on, uplinks_on, switch_on, freeze_on, status_on, resume_on, has_status, frozen_and_told};
+ghost use Rattle.cu_user.specs.up_rows.Modes.{refused_on, uplinks_on, switch_on, freeze_on, status_on, resume_on, may_serve, frozen_and_told};
 
 use crate::up_rows::bearers::{CAUSE_BUSY, UeRequest};
 use crate::up_rows::record::UpRecord;
@@ -151,7 +151,7 @@ impl UpRecord {
         up: &[Tunnel],
         outputs: &mut Outputs,
     ) -> Result<(), StepError>
-        requires { has_status C.codec (context_of self.old request.ue) ≡ true }
+        requires { may_serve C.codec (context_of self.old request.ue) ≡ true }
         ensures { IsStep
             (step_after outputs.old (frozen_and_told C.codec request.channel request.ue request.instance peer down.now up.now self.old
             (context_of self.old request.ue)))
@@ -183,7 +183,7 @@ impl UpRecord {
         if !self.may_freeze(request.ue, down, up) {
             return self.refuse(request.ue, outputs);
         }
-        if !self.has_status(request.ue) {
+        if !self.may_serve(request.ue) {
             return self.fail_freeze(alloc, codec, request, outputs);
         }
         self.freeze_known(alloc, codec, request, peer, down, up, outputs)

@@ -37,8 +37,8 @@ taken_of_all p low held sent h = upto-filter (pairs p) (λ e. is_one_of (upto (�
     within i l o = grind arith
 
 -- a target that nothing has come to yet has no SN status, which the context that freezes has
-pub target_apart : (s : Part) (x y : ℕ) → (s.members x).flags.has_status ≡ true → IsUntouched (s.members y) → y ≢ x
-target_apart s x y has_status u same = apart has_status (subst (λ q. (s.members q).flags.has_status ≡ false) same u.status)
+pub target_apart : (s : Part) (x y : ℕ) → (s.members x).flags.may_serve ≡ true → IsUntouched (s.members y) → y ≢ x
+target_apart s x y may_serve u same = apart may_serve (subst (λ q. (s.members q).flags.may_serve ≡ false) same u.status)
 
 module _ (p : ℕ → List ℕ) (w : ℕ) (s : Part) (g : ℕ → Ghost) (k : Kept p w s g) (x : ℕ) where
   abbrev m : Member
@@ -174,14 +174,14 @@ module _ (p : ℕ → List ℕ) (w : ℕ) (s : Part) (g : ℕ → Ghost) (k : Ke
 
   -- ---- the SN status
 
-  pub kept_knows : (status : SnStatus) → m.is_there ≡ true → m.flags.has_status ≡ false → status.dl_next ≡ m.promised
+  pub kept_knows : (status : SnStatus) → m.is_there ≡ true → m.flags.may_serve ≡ false → status.dl_next ≡ m.promised
       → Good p w (after s (knows x status))
   unfolding after
   kept_knows status there unknown says =
       let f = k.each x in
       let o = f.own there in (
         set g x h,
-        kept_one p w s s g x (record m { flags = record m.flags { has_status = true }; bearer = known m.bearer status }) h k
+        kept_one p w s s g x (record m { flags = record m.flags { may_serve = true }; bearer = known m.bearer status }) h k
             (record {
               own = λ _. record {
                 lists = o.lists;
@@ -213,12 +213,12 @@ module _ (p : ℕ → List ℕ) (w : ℕ) (s : Part) (g : ℕ → Ghost) (k : Ke
       let st = f.station is_station in
       let now : Member = record m
       { flags = record m.flags { frozen = false; arrived = true }; bearer = on_downlink m.bearer downlink; epoch = epoch } in
-      let items : List (ℕ × List ℕ) = if m.flags.has_status then m.bearer.sender.unconfirmed else [] in
+      let items : List (ℕ × List ℕ) = if m.flags.may_serve then m.bearer.sender.unconfirmed else [] in
       let most : h.held ≤ s.offered =
       (let a = o.numbers.held_next in let b = o.numbers.next_top in let d = o.numbers.top_offered in omega arith) in
       let low : h.low ≤ reach s.terminal.deliv s.air =
       (let a = o.numbers.low_deliv in let b = reach-le s.terminal.deliv s.air in omega arith) in
-      let are : items ≡ upto (pairs p) h.low h.held = by m.flags.has_status (o.lists.unconfirmed_are st.keeps) (λ e. o.status.early e) in
+      let are : items ≡ upto (pairs p) h.low h.held = by m.flags.may_serve (o.lists.unconfirmed_are st.keeps) (λ e. o.status.early e) in
       let r = said p s now items h.low h.held k.radio are most (λ _. low) in
       let t : Part = record s { air = if epoch == s.epoch then s.air ++ items else s.air } in
       let later : Later (view s) (view t) = record
@@ -405,11 +405,11 @@ module _ (p : ℕ → List ℕ) (w : ℕ) (s : Part) (g : ℕ → Ghost) (k : Ke
 
   -- ---- a freeze
 
-  pub kept_freezes : (y : ℕ) (hop : SourceHop) → m.is_there ≡ true → m.flags.has_status ≡ true → m.flags.frozen ≡ false
+  pub kept_freezes : (y : ℕ) (hop : SourceHop) → m.is_there ≡ true → m.flags.may_serve ≡ true → m.flags.frozen ≡ false
       → x ≡ s.station → y ≢ s.path → IsUntouched (s.members y) → IsUnfed s y → Good p w (after s (freezes x y hop))
   unfolding after
-  kept_freezes y hop there has_status unfrozen is_station not_path u unfed =
-      let far = target_apart s x y has_status u in
+  kept_freezes y hop there may_serve unfrozen is_station not_path u unfed =
+      let far = target_apart s x y may_serve u in
       let f = k.each x in
       let o = f.own there in
       let n = o.numbers in
@@ -464,7 +464,7 @@ module _ (p : ℕ → List ℕ) (w : ℕ) (s : Part) (g : ℕ → Ghost) (k : Ke
                   taken_are = λ _ e. apart e u.frozen;
                   waiting_are = λ _. u.waiting ∙ sym (upto-nil p h.next h.next (omega arith));
                 };
-                status = record { next_is = λ e. apart e u.status; promised_is = λ _. o.status.next_is has_status; early = λ _. refl };
+                status = record { next_is = λ e. apart e u.status; promised_is = λ _. o.status.next_is may_serve; early = λ _. refl };
                 tunnels = record {
                   is_fed = λ _. record {
                     items = rw (u.forwarded, o.lists.unconfirmed_are keeps.0, o.lists.waiting_are keeps.0)

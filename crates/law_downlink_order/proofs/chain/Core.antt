@@ -359,7 +359,7 @@ module _ (p : ℕ → List ℕ) (sn : SnBits) (quota : ℕ) (s : Part) (g : ℕ 
       let sent : (g x).sent ≤ (g x).held + 1 = (let a = n.sent_held in omega arith) in
       let j = took_numbered p (window sn quota) (view s) (is_fed c) (is_open c.bearer.n3) c.forwarded c.n3 (g x) o.tunnels n count
       (g x).sent packet rest sent on.stands in
-      let number = o.status.next_is (not_held c.flags.has_status c.flags.arrived false on.passes).0 in
+      let number = o.status.next_is (not_held c.flags.may_serve c.flags.arrived false on.passes).0 in
       let un = o.lists.unconfirmed_are keeps in
       let a : nat_le ((g x).next - window sn quota) (g x).held ≡ true = (let b = n.window in let d = n.low_held in grind arith) in
       let b : nat_lt (g x).held (g x).next ≡ true = (let d = j.2 in let e = n.base_next in grind arith) in

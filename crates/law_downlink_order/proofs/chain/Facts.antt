@@ -136,7 +136,7 @@ pub record Numbers (w offered deliv low held sent base next top : ℕ) : Type 0 
 pub record Own (p : ℕ → List ℕ) (w : ℕ) (b : View) (m : Member) (g : Ghost) : Type 0 where
   pub lists : Lists p m.flags.released m.flags.frozen m.bearer.sender.unconfirmed m.bearer.taken_while_frozen m.bearer.waiting g.low
       g.held g.sent g.next g.top
-  pub status : Status m.flags.has_status m.bearer.sender.next m.promised g.low g.held g.next
+  pub status : Status m.flags.may_serve m.bearer.sender.next m.promised g.low g.held g.next
   pub tunnels : Tunnels p b.offered (is_fed m) (is_open m.bearer.n3) m.forwarded m.n3 (ends_of g)
   pub flags : Flags m.flags.frozen m.flags.released (is_some m.bearer.hop) g.sent g.held g.gone
   pub spoken : Spoken m.epoch b.epoch g.sent b.reached

@@ -100,7 +100,7 @@ module _ (p : ℕ → List ℕ) (w : ℕ) (s : Part) (g : ℕ → Ghost) (k : Ke
   kept_keeps_n3 packet rest on unfrozen =
       let f = k.each x in
       let o = f.own on.1.there in
-      let shut = (not_held m.flags.has_status m.flags.arrived (is_fed m) on.1.passes).1 in
+      let shut = (not_held m.flags.may_serve m.flags.arrived (is_fed m) on.1.passes).1 in
       let j = took_n3 p w (view s) (is_fed m) (is_open m.bearer.n3) m.forwarded m.n3 h o.tunnels o.numbers packet rest shut on.0
       on.1.stands in
       let now : Ghost = record h { top = h.top + 1; n3_low = h.n3_low + 1 } in (
@@ -143,7 +143,7 @@ module _ (p : ℕ → List ℕ) (w : ℕ) (s : Part) (g : ℕ → Ghost) (k : Ke
   kept_passes_n3 packet rest on frozen =
       let f = k.each x in
       let o = f.own on.1.there in
-      let shut = (not_held m.flags.has_status m.flags.arrived (is_fed m) on.1.passes).1 in
+      let shut = (not_held m.flags.may_serve m.flags.arrived (is_fed m) on.1.passes).1 in
       let j = took_n3 p w (view s) (is_fed m) (is_open m.bearer.n3) m.forwarded m.n3 h o.tunnels o.numbers packet rest shut on.0
       on.1.stands in
       let now : Ghost = record h { top = h.top + 1; n3_low = h.n3_low + 1 } in
@@ -241,7 +241,7 @@ module _ (p : ℕ → List ℕ) (w : ℕ) (s : Part) (g : ℕ → Ghost) (k : Ke
                 status = record {
                   next_is = o.status.next_is;
                   promised_is = o.status.promised_is;
-                  early = λ e. apart (not_held m.flags.has_status m.flags.arrived false on.passes).0 e;
+                  early = λ e. apart (not_held m.flags.may_serve m.flags.arrived false on.passes).0 e;
                 };
                 tunnels = j.4.tunnels;
                 flags = record { serves = λ e. (keeps.0, refl); leads = o.flags.leads; gone_frozen = o.flags.gone_frozen };
@@ -278,7 +278,7 @@ module _ (p : ℕ → List ℕ) (w : ℕ) (s : Part) (g : ℕ → Ghost) (k : Ke
           status = record {
             next_is = o.status.next_is;
             promised_is = o.status.promised_is;
-            early = λ e. apart (not_held m.flags.has_status m.flags.arrived false on.passes).0 e;
+            early = λ e. apart (not_held m.flags.may_serve m.flags.arrived false on.passes).0 e;
           };
           tunnels = j.4.tunnels;
           flags = record { serves = λ e. apart frozen e; leads = o.flags.leads; gone_frozen = o.flags.gone_frozen };
@@ -320,7 +320,7 @@ module _ (p : ℕ → List ℕ) (w : ℕ) (s : Part) (g : ℕ → Ghost) (k : Ke
   kept_ends_n3 rest on =
       let f = k.each x in
       let o = f.own on.1.there in
-      let shut = (not_held m.flags.has_status m.flags.arrived (is_fed m) on.1.passes).1 in
+      let shut = (not_held m.flags.may_serve m.flags.arrived (is_fed m) on.1.passes).1 in
       let j = took_n3_end p w (view s) (is_fed m) (is_open m.bearer.n3) m.forwarded m.n3 h o.tunnels o.numbers rest shut on.0 on.1.stands in
       kept_pass p w s g x (record m { n3 = rest; bearer = record m.bearer { n3 = None } }) h (end_marker ∷ [])
       i.hop_held i.hop_top true k (on.1.there, o.flags.gone_frozen j.0, on.0, refl)

@@ -41,7 +41,7 @@ module _ (p : ℕ → List ℕ) (sn : SnBits) (quota : ℕ) (s : Part) (g : ℕ 
   abbrev h : Ghost
   h = g x
 
-  pub kept_numbers : (packet : List ℕ) (rest : List (List ℕ)) → m.is_there ≡ true → m.flags.has_status ≡ true → m.flags.frozen ≡ false
+  pub kept_numbers : (packet : List ℕ) (rest : List (List ℕ)) → m.is_there ≡ true → m.flags.may_serve ≡ true → m.flags.frozen ≡ false
       → m.bearer.waiting ≡ packet ∷ rest → has_room sn quota m.bearer.sender ≡ true → Good p (window sn quota)
       (after s (numbers x packet rest))
   unfolding after with_next has_room first

@@ -135,7 +135,7 @@ module _ (s : Part) (count : ℕ) (packet : List ℕ) (h : WasPut s count packet
   put_stays (arrives x) leaves = absurd leaves
   put_stays fails leaves = absurd leaves
   put_stays (carries c x rest) leaves = absurd leaves
-  put_stays (switches x downlink epoch) leaves = grown (record (s.members x) { epoch = epoch }) (if (s.members x).flags.has_status then (s.members x).bearer.sender.unconfirmed else []) _ refl
+  put_stays (switches x downlink epoch) leaves = grown (record (s.members x) { epoch = epoch }) (if (s.members x).flags.may_serve then (s.members x).bearer.sender.unconfirmed else []) _ refl
   put_stays (resumes x) leaves = grown (s.members x) (owed (s.members x).bearer) _ refl
   put_stays (sends x c y rest) leaves = grown (s.members x) ((c, y) ∷ []) _ refl
   put_stays (numbers x y rest) leaves = grown (s.members x) (((s.members x).bearer.sender.next, y) ∷ []) _ refl

@@ -64,7 +64,7 @@ module _ (s : Part) (x : ℕ) where
   unfolding after
   sent_again same = all_put s (s.members x).epoch same (s.members x).bearer.sender.unconfirmed
 
-  pub switched : (downlink : Downlink) → (s.members x).flags.has_status ≡ true
+  pub switched : (downlink : Downlink) → (s.members x).flags.may_serve ≡ true
       → AllByRecursion (λ (e : ℕ × List ℕ). WasPut (after s (switches x downlink s.epoch)) e.0 e.1) (s.members x).bearer.sender.unconfirmed
   unfolding after
   switched downlink known =

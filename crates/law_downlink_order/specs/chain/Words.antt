@@ -28,5 +28,5 @@ pub record CountsArePlaces (offered : List (List ℕ)) (s : Part) : Type 0 where
 -- as many COUNTs are under way as the window allows, at most
 unfoldable pub KeepsWindow : SnBits → ℕ → Part → Type 0
 KeepsWindow sn quota s =
-    (q : ℕ) → (s.members q).is_there ≡ true → (s.members q).flags.released ≡ false → (s.members q).flags.has_status ≡ true
+    (q : ℕ) → (s.members q).is_there ≡ true → (s.members q).flags.released ≡ false → (s.members q).flags.may_serve ≡ true
     → (s.members q).bearer.sender.next - first (s.members q).bearer.sender ≤ window sn quota

@@ -299,8 +299,8 @@ module _ (reading : Reading) (s : PlainState) (owned : AreOwned s.units) (all : 
     -- its radio is ready at the DU of its plan alone
     pub at_the_du : (v : View) → Sees s ue bearer v → (home : NodeId) → ready_home s ue ≡ Some home → home ≡ du_id v.plan.gnb v.plan.du
     at_the_du v sees home ready =
-        by (is_connected sees.terminal.node.state && same_epoch (epoch_at s.units (du_id v.plan.gnb v.plan.du) sees.terminal.node.plan.ue) sees.terminal.node.epoch)
-        (sym (ap (ready_of s) sees.terminal.there ∙ ap (ready_at s sees.terminal.node) sees.terminal.home) ∙ ready)
+        by (is_connected sees.terminal.node.state && same_epoch (epoch_at s.units (du_id v.plan.gnb v.plan.du) ue) sees.terminal.node.epoch)
+        (sym (ap (ready_of s ue) sees.terminal.there ∙ ap (ready_at s ue sees.terminal.node) sees.terminal.home) ∙ ready)
       where
         by : (t : Bool) → (if t then Some (du_id v.plan.gnb v.plan.du) else None) ≡ Some home → home ≡ du_id v.plan.gnb v.plan.du
         by true e = cc

@@ -22,7 +22,7 @@ use Rattle.transport_defs.specs.Links.{nth}
 use Rattle.run_defs.specs.Said.{OnLinks, WiresFrom}
 use Rattle.run_defs.specs.States.{State, order_for, World, goes, goes_on, Outcome, as_step, prints, radio_of}
 use Rattle.run_defs.specs.Steps.{Done, is_done, is_held, is_refused, does}
-use Rattle.run_defs.specs.Conditions.{serving_gnb, serving_place, state_at, ready_home, epoch_of, receiver_of, rests, ask_line}
+use Rattle.run_defs.specs.Conditions.{serving_gnb, serving_place, state_at, has_home, ready_home, epoch_of, receiver_of, rests, ask_line}
 use Rattle.run_defs.specs.Events.{get_done, carry_done, confirm_done, pump, tick}
 use Rattle.run_defs.specs.Settling.{attached_plans, attached_entities, attached_bearers, Turn, to_acks, to_airs, after_air, after_ack, quietly_by, quiet_order, move_by, move_each, got_in_turn, get_items, get_times, tunnel_turn, tunnels_from, most_tunnels, all_tunnels, aired_by, air_next, acked_by, turn_over, ack_next, turn_at, turn_step, turn_times, radio_turn, all_radios, poll_at, poll_each, round, all_quiet, ask_lines, rounds_from, round_limit, settle}
 use Rattle.law_downlink_scripts.proofs.wires.Endings.{after_lines}
@@ -54,7 +54,9 @@ module _ {M C L P : Type 0} (world : World M C L P) where
 
   goes_move_by : (ue : UeId) (state : UeState) → Keeps world (λ s. move_by world ue s state)
   goes_move_by ue ue_states.Accessing on s k = goes_quiet_order (Ue ue.0) (orders.Arrive ue) on s k
-  goes_move_by ue ue_states.Lost on s k = goes_quiet_order (Ue ue.0) (orders.Return ue) on s k
+  goes_move_by ue ue_states.Lost on s k =
+      choose world on (has_home s ue) (quiet_order world (Ue ue.0) (orders.Return ue) s) (goes_on s)
+      (goes_quiet_order (Ue ue.0) (orders.Return ue) on s k) (just_goes_on world on s k)
   goes_move_by ue state on s k = just_goes_on world on s k
 
   goes_move_each : (es : List (UeId × Plan)) → Keeps world (move_each world es)

@@ -61,11 +61,11 @@ more_came u v os came is kept =
 
 -- ---- what a status report of the terminal's context says
 
-says_there : (v : Part) (x : ℕ) (m : Member) (i : ℕ) → v.station ≡ x → v.members x ≡ m → m.flags.has_status ≡ true
+says_there : (v : Part) (x : ℕ) (m : Member) (i : ℕ) → v.station ≡ x → v.members x ≡ m → m.flags.may_serve ≡ true
     → is_reported m.bearer.receiver.deliv (received_bits m.bearer.receiver) i ≡ true → Reports v i
 unfolding Reports
 says_there v x m i at is known said =
-    subst (λ (k : Member). (k.flags.has_status ≡ true) × (is_reported k.bearer.receiver.deliv (received_bits k.bearer.receiver) i ≡ true))
+    subst (λ (k : Member). (k.flags.may_serve ≡ true) × (is_reported k.bearer.receiver.deliv (received_bits k.bearer.receiver) i ≡ true))
     (sym (ap v.members at ∙ is)) (known, said)
 
 -- ---- each COUNT above the first one, of which the bit is set, is reported
@@ -109,20 +109,20 @@ module _ (u : Part) (came : UpCameAbout u) where
 
     -- ---- what its source says, in an SN status
 
-    pub source_says : (p : UpPart) (bearer : BearerId) → IsUp m p → x ≡ u.station → p.at.flags.has_status ≡ true
+    pub source_says : (p : UpPart) (bearer : BearerId) → IsUp m p → x ≡ u.station → p.at.flags.may_serve ≡ true
         → BitsAreTrue u.reached (status_of bearer p.bearer)
     source_says p bearer up at known = λ i above set.
         let same : m.bearer.receiver ≡ p.bearer.receiver = ap (λ (b : UpBearer). b.receiver) up.bearer in
         let its : is_set (received_bits p.bearer.receiver) (i - p.bearer.receiver.deliv - 1) ≡ true
         = subst (λ (bits : List Bool). is_set bits (i - p.bearer.receiver.deliv - 1) ≡ true) (bits_back (received_bits p.bearer.receiver)) set in
         reported_here i
-        (says_there u x m i (sym at) refl (ap (λ (f : UpFlags). f.has_status) up.flags ∙ known)
+        (says_there u x m i (sym at) refl (ap (λ (f : UpFlags). f.may_serve) up.flags ∙ known)
         (subst (λ (r : Receiver (List ℕ)). is_reported r.deliv (received_bits r) i ≡ true) (sym same)
         (reported p.bearer.receiver.deliv (received_bits p.bearer.receiver) i above its)))
 
     -- ---- at a switch
 
-    pub switch_reports : (p : UpPart) (du : NodeId) (teid : ℕ) → IsUp m p → AreKept u (switches x ∷ []) → p.at.flags.has_status ≡ true
+    pub switch_reports : (p : UpPart) (du : NodeId) (teid : ℕ) → IsUp m p → AreKept u (switches x ∷ []) → p.at.flags.may_serve ≡ true
         → ReportIsTrue u.reached (switched_to p du teid).receiver.deliv (received_bits (switched_to p du teid).receiver)
     unfolding after AreKept IsOwed
     switch_reports p du teid up kept known = λ i said.
@@ -135,14 +135,14 @@ module _ (u : Part) (came : UpCameAbout u) where
         = subst (λ (r : Receiver (List ℕ)). is_reported (deliver r).after.deliv (received_bits (deliver r).after) i ≡ true) (sym same) said in
         reported_below (switches x) kept i
         (says_there (after u (switches x)) x now i (sym kept.1) (set_here u.members x now)
-        (ap (λ (f : UpFlags). f.has_status) up.flags ∙ known) said_there)
+        (ap (λ (f : UpFlags). f.may_serve) up.flags ∙ known) said_there)
 
     -- ---- at an SN status
 
     status_below : (status : SnStatus) → AreKept u (knows x status ∷ []) → x ≡ u.station → (i : ℕ) → nat_lt i status.ul_first ≡ true → i < u.reached
     unfolding after
     status_below status kept at i low =
-        let now : Member = record m { flags = record m.flags { has_status = true }; bearer = known m.bearer status } in
+        let now : Member = record m { flags = record m.flags { may_serve = true }; bearer = known m.bearer status } in
         reported_below (knows x status) kept i
         (says_there (after u (knows x status)) x now i (sym at) (set_here u.members x now) refl
         (ap (λ (t : Bool). t || (nat_lt status.ul_first i && is_set (received_bits (known m.bearer status).receiver) (i - status.ul_first - 1))) low))

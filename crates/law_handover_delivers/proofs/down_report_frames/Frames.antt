@@ -79,7 +79,7 @@ module _ (reached : ℕ) where
     item_true kind item = tt
 
     switch_true : (du : NodeId) (teid : ℕ) → OrderIsTrue reached p (switches du teid) → AreTrue (sent_by_switch p du teid)
-    switch_true du teid told = by p.at.flags.has_status told
+    switch_true du teid told = by p.at.flags.may_serve told
       where
         c : UpBearer
         c = switched_to p du teid

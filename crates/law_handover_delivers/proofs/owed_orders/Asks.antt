@@ -86,10 +86,10 @@ module _ (n : Numbering) (ue : UeId) (bearer : BearerId) (units : PlainUnits) (o
   up_stands = record { hop = has_hop p steady.stands; passes = serves p steady.stands steady.frozen }
 
   -- a hop that a freeze gives leads to another context: that one has no SN status yet
-  freeze_far : (to : ℕ) (hop : SourceHop) → p.at.flags.has_status ≡ true → down_guards.IsOwed d (down.freezes x to hop) → to ≢ x
+  freeze_far : (to : ℕ) (hop : SourceHop) → p.at.flags.may_serve ≡ true → down_guards.IsOwed d (down.freezes x to hop) → to ≢ x
   unfolding down_guards.IsOwed
   freeze_far to hop has owed same =
-      clash (sym owed.2.status ∙ ap (λ (z : ℕ). (d.members z).flags.has_status) same ∙ ap (λ f. f.has_status) is_down.flags ∙ has)
+      clash (sym owed.2.status ∙ ap (λ (z : ℕ). (d.members z).flags.may_serve) same ∙ ap (λ f. f.may_serve) is_down.flags ∙ has)
 
   pub all_asked : (order : UpOrder Pdu) → IsTested b.final p order → FitsIn p order → Owes n ue bearer units d u x b p order → All order
   all_asked (makes instance its_sn its_quota target teid) tested fit owed = absurd tested

@@ -143,7 +143,7 @@ order_none x b (Some p) (makes instance sn quota target teid) = tt
 order_none x b (Some p) (adds teid) = tt
 order_none x b (Some p) (switches du teid) =
     let now : UpBearer = down.on_downlink p.bearer (record { du = du; teid = teid; next = 0 }) in
-    (tt, numbers_after p.at.flags.has_status (rows.numbers_if x (on_switch p).at now) (numbers_none x (on_switch p).at now))
+    (tt, numbers_after p.at.flags.may_serve (rows.numbers_if x (on_switch p).at now) (numbers_none x (on_switch p).at now))
 order_none x b (Some p) (freezes peer down_teid up_teid) = (tt, tt)
 order_none x b (Some p) (knows its_status) =
     let now : UpBearer = down.known p.bearer its_status in

@@ -97,7 +97,7 @@ sent_end p (takes kind teid item) on = item_end p kind item
 sent_end p polls on = (frame_keeps true false None p.bearer).end
 
 switch_end : (p : UpPart) (to : NodeId) (teid : ℕ) → end_of (sent_by_switch p to teid).bearer.downlink ≡ Some (record { node = to; teid = teid })
-switch_end p to teid = by p.at.flags.has_status
+switch_end p to teid = by p.at.flags.may_serve
   where
     c : UpBearer
     c = switched_to p to teid
@@ -295,7 +295,7 @@ module _ (x : ℕ) where
   unfolding down.run down.after
   switched_epoch s b p to teid =
       run_same first x more
-      (if_keeps p.at.flags.has_status (rows.numbers_if x (on_switch p).at now) [] (numbers_if_keep (on_switch p).at now) tt)
+      (if_keeps p.at.flags.may_serve (rows.numbers_if x (on_switch p).at now) [] (numbers_if_keep (on_switch p).at now) tt)
       ∙ ap (λ (m : Member). m.epoch) (set_here s.members x _)
     where
       downlink : Downlink
@@ -308,7 +308,7 @@ module _ (x : ℕ) where
       first = down.after s (down.switches x downlink b.epoch)
 
       more : List down.Order
-      more = if p.at.flags.has_status then rows.numbers_if x (on_switch p).at now else []
+      more = if p.at.flags.may_serve then rows.numbers_if x (on_switch p).at now else []
 
 -- ---- kept orders after kept orders
 

@@ -73,19 +73,19 @@ no_if : (t : Bool) (node home : NodeId) → (if t && false then Some node else N
 no_if true node home is = absurd cc
 no_if false node home is = absurd cc
 
-home_is_du : (s : RunState) (u : UeNode) (h : Option NodeId) (home : NodeId) → ready_at s u h ≡ Some home → (g : Gnb) (k : ℕ) → home ≡ CuUp g k → ⊥
-home_is_du s u None home is g k at = absurd cc
-home_is_du s u (Some (Du h m)) home is g k at =
-    let same : Du h m ≡ home = if_so (is_connected u.state && same_epoch (epoch_at s.units (Du h m) u.plan.ue) u.epoch) (Du h m) home is in
+home_is_du : (s : RunState) (ue : UeId) (u : UeNode) (h : Option NodeId) (home : NodeId) → ready_at s ue u h ≡ Some home → (g : Gnb) (k : ℕ) → home ≡ CuUp g k → ⊥
+home_is_du s ue u None home is g k at = absurd cc
+home_is_du s ue u (Some (Du h m)) home is g k at =
+    let same : Du h m ≡ home = if_so (is_connected u.state && same_epoch (epoch_at s.units (Du h m) ue) u.epoch) (Du h m) home is in
     let never : Du h m ≡ CuUp g k = same ∙ at in absurd cc
-home_is_du s u (Some (CuCp h)) home is g k at = no_if (is_connected u.state) (CuCp h) home is
-home_is_du s u (Some (CuUp h m)) home is g k at = no_if (is_connected u.state) (CuUp h m) home is
-home_is_du s u (Some Core) home is g k at = no_if (is_connected u.state) Core home is
-home_is_du s u (Some (Ue w)) home is g k at = no_if (is_connected u.state) (Ue w) home is
+home_is_du s ue u (Some (CuCp h)) home is g k at = no_if (is_connected u.state) (CuCp h) home is
+home_is_du s ue u (Some (CuUp h m)) home is g k at = no_if (is_connected u.state) (CuUp h m) home is
+home_is_du s ue u (Some Core) home is g k at = no_if (is_connected u.state) Core home is
+home_is_du s ue u (Some (Ue w)) home is g k at = no_if (is_connected u.state) (Ue w) home is
 
-ready_no_up : (s : RunState) (o : Option UeNode) (home : NodeId) → ready_of s o ≡ Some home → (g : Gnb) (k : ℕ) → home ≡ CuUp g k → ⊥
-ready_no_up s None home is g k at = absurd cc
-ready_no_up s (Some u) home is g k at = home_is_du s u u.home home is g k at
+ready_no_up : (s : RunState) (ue : UeId) (o : Option UeNode) (home : NodeId) → ready_of s ue o ≡ Some home → (g : Gnb) (k : ℕ) → home ≡ CuUp g k → ⊥
+ready_no_up s ue None home is g k at = absurd cc
+ready_no_up s ue (Some u) home is g k at = home_is_du s ue u u.home home is g k at
 
 module _ (event : Event) (s : RunState) (ue : UeId) (bearer : BearerId) (g : Gnb) (k : ℕ) where
   apart_if : (from : EntityKey) → (up_key ue bearer ≡ from → ⊥) → eq_by_cmp entity_cmp (up_key ue bearer) from ≡ false
@@ -99,7 +99,7 @@ module _ (event : Event) (s : RunState) (ue : UeId) (bearer : BearerId) (g : Gnb
   pub up_leaves : (c : RunCause) → node_of c ≡ CuUp g k → Stands event s c → Leaves (up_key ue bearer) c
   up_leaves (by_air from home item) at stands =
       apart_if from (λ same.
-      ready_no_up s (ue_of s.units ue) home (ap (λ (x : EntityKey). ready_of s (ue_of s.units x.ue)) same ∙ stands.0) g k
+      ready_no_up s ue (ue_of s.units ue) home (ap (λ (x : EntityKey). ready_of s x.ue (ue_of s.units x.ue)) same ∙ stands.0) g k
       (ap (λ (x : EntityKey). receiver_of x home) same ∙ at))
   up_leaves (by_ack from home item rest) at stands =
       apart_if from (λ same. let never : Ue ue.0 ≡ CuUp g k = ap (λ (x : EntityKey). sender_of x home) same ∙ at in absurd cc)

@@ -15,6 +15,6 @@ FramesAreTrue reached fs = AllByRecursion (λ (f : Frame). PayloadIsTrue reached
 
 abbrev pub OrderIsTrue : ℕ → UpPart → UpOrder Pdu → Type 0
 OrderIsTrue reached p (switches du teid) =
-    p.at.flags.has_status ≡ true → ReportIsTrue reached (switched_to p du teid).receiver.deliv (received_bits (switched_to p du teid).receiver)
+    p.at.flags.may_serve ≡ true → ReportIsTrue reached (switched_to p du teid).receiver.deliv (received_bits (switched_to p du teid).receiver)
 OrderIsTrue reached p (knows status) = p.at.flags.arrived ≡ true → ReportIsTrue reached status.ul_first (bits_in status.ul_received)
 OrderIsTrue reached p order = Unit {0}

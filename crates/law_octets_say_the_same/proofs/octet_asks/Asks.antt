@@ -85,11 +85,11 @@ module _ (codec : Codec) (s : PlainState) (ue : UeId) (bearer : BearerId) (idle 
   quiet_same : (o : Option UeNode) → is_quiet_with there ue bearer o ≡ is_quiet_with s ue bearer o
   quiet_same None = refl
   quiet_same (Some u) = λ i.
-      (is_connected u.state && not (has_attempt s.units u.plan.ue) && flight_same (spelled codec) s.bag u.plan.ue.0 i == 0 && asked i)
+      (is_connected u.state && not (has_attempt s.units ue) && flight_same (spelled codec) s.bag ue.0 i == 0 && asked i)
       && (tunnels_same ue bearer s.tunnels i && radios_same ue bearer s.radios i) && ue_rests u bearer && ups_same ue bearer s.units.ups i
     where
-      asked : requests_rest (units_again s.units) u.plan.ue ≡ requests_rest s.units u.plan.ue
-      asked = none_asked s.units u.plan.ue ∙ sym (idle u.plan.ue)
+      asked : requests_rest (units_again s.units) ue ≡ requests_rest s.units ue
+      asked = none_asked s.units ue ∙ sym (idle ue)
 
   pub asks_alike : RestsAlike codec s ue bearer
   unfolding rests

@@ -139,11 +139,11 @@ module _ (codec : Codec) (reading : Reading) where
   ready_again : (s : PlainState) (ue : UeId) → ready_home (over codec s) ue ≡ ready_home s ue
   ready_again s ue = by (ue_of s.units ue)
     where
-      at_home : (u : UeNode) (o : Option NodeId) → ready_at (over codec s) u o ≡ ready_at s u o
+      at_home : (u : UeNode) (o : Option NodeId) → ready_at (over codec s) ue u o ≡ ready_at s ue u o
       at_home u None = refl
-      at_home u (Some home) = ap (λ e. if is_connected u.state && same_epoch e u.epoch then Some home else None) (epoch_again s home u.plan.ue)
+      at_home u (Some home) = ap (λ e. if is_connected u.state && same_epoch e u.epoch then Some home else None) (epoch_again s home ue)
 
-      by : (o : Option UeNode) → ready_of (over codec s) o ≡ ready_of s o
+      by : (o : Option UeNode) → ready_of (over codec s) ue o ≡ ready_of s ue o
       by None = refl
       by (Some u) = at_home u u.home
 

@@ -22,7 +22,7 @@ use Rattle.transport_defs.specs.declared.Item.{Item}
 use Rattle.transport_defs.specs.Links.{nth}
 use Rattle.run_defs.specs.States.{State, order_for, goes, goes_on, Outcome, as_step, radio_of}
 use Rattle.run_defs.specs.Steps.{Done, is_done, is_held, is_refused, does}
-use Rattle.run_defs.specs.Conditions.{serving_gnb, serving_place, state_at, ready_home, epoch_of, receiver_of}
+use Rattle.run_defs.specs.Conditions.{serving_gnb, serving_place, state_at, has_home, ready_home, epoch_of, receiver_of}
 use Rattle.run_defs.specs.Events.{get_done, carry_done, confirm_done, pump, tick}
 use Rattle.run_defs.specs.Settling.{attached_plans, attached_entities, attached_bearers, Turn, to_acks, to_airs, after_air, after_ack, quietly_by, quiet_order, move_by, move_each, got_in_turn, get_items, get_times, tunnel_turn, tunnels_from, most_tunnels, all_tunnels, aired_by, air_next, acked_by, turn_over, ack_next, turn_at, turn_step, turn_times, radio_turn, all_radios, poll_at, poll_each, round, all_quiet, rounds_from, round_limit, settle}
 use Rattle.proof_run_steps.specs.steps.Causes.{IsNoAttach, by_order, by_item, by_air, by_ack}
@@ -46,7 +46,10 @@ module _ {M C L P : Type 0} (two : Two M C L P) (there : SameThere two) (event :
 
   both_move_by : (ue : UeId) (state : UeState) → BothKeep two (λ s. move_by (first two) ue s state) (λ s. move_by (second two) ue s state)
   both_move_by ue ue_states.Accessing s h = both_quiet_order (Ue ue.0) (orders.Arrive ue) tt s h
-  both_move_by ue ue_states.Lost s h = both_quiet_order (Ue ue.0) (orders.Return ue) tt s h
+  both_move_by ue ue_states.Lost s h =
+      both_choose two (has_home s ue) (quiet_order (first two) (Ue ue.0) (orders.Return ue) s) (goes_on s)
+      (quiet_order (second two) (Ue ue.0) (orders.Return ue) s) (goes_on s)
+      (λ there. both_quiet_order (Ue ue.0) (orders.Return ue) tt s h) (λ never. (refl, h))
   both_move_by ue ue_states.Idle s h = (refl, h)
   both_move_by ue ue_states.Connected s h = (refl, h)
   both_move_by ue ue_states.Returning s h = (refl, h)

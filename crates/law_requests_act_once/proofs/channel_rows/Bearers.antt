@@ -115,7 +115,7 @@ module _ {M C P : Type 0} (way : Way M C P) (n : NodeId) where
   switched_quiet at du teid b =
       quiet_then (deliver_stored way at (record (thawed b) { downlink = Some (record { du = du; teid = teid; next = 0 }); restart = false })) (begin_where_known way at)
       (deliver_quiet at (record (thawed b) { downlink = Some (record { du = du; teid = teid; next = 0 }); restart = false }))
-      (λ c. quiet_if at.flags.has_status (begin_downlink way at c.receiver.deliv (received_bits c.receiver) c) (nothing c)
+      (λ c. quiet_if at.flags.may_serve (begin_downlink way at c.receiver.deliv (received_bits c.receiver) c) (nothing c)
       (begin_quiet at c.receiver.deliv (received_bits c.receiver) c) refl)
 
   numbered_quiet : (at : UpAt) (es : List (ℕ × List ℕ)) (b : UpBearer) → Quiet (forward_numbered way at es b)

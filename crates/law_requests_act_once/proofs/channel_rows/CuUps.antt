@@ -242,7 +242,7 @@ module _ {M C P : Type 0} (talk : Talk M C P) (n : NodeId) where
       freeze_fine (Some p) (Some a) (Some b) c =
           choose (c.flags.frozen || c.flags.released || not c.flags.arrived || not (are_bearers (names talk.way c) (bearers_of a)) || not (are_bearers (names talk.way c) (bearers_of b)))
           (drops Unexpected q) _ drop
-          (choose (not c.flags.has_status) _ _ refused_replies
+          (choose (not c.flags.may_serve) _ _ refused_replies
           (done_replies q at (as_frozen talk.way c)
           (each_bearer talk.way (λ x. frozen_to talk.way (up_at owner (as_frozen talk.way c) x) (peer_node talk.way p) (teid_of a x) (teid_of b x)) c.bearers)
           (each_quiet (λ x. frozen_to talk.way (up_at owner (as_frozen talk.way c) x) (peer_node talk.way p) (teid_of a x) (teid_of b x))
@@ -255,7 +255,7 @@ module _ {M C P : Type 0} (talk : Talk M C P) (n : NodeId) where
       status_fine : (list : Option (List SnStatus)) (c : UpContext) → Fine (status_if talk.way here owner instance list c q)
       unfolding take_status
       status_fine (Some list) c =
-          choose (c.flags.has_status || not (are_bearers (names talk.way c) (statuses_of list))) (drops Unexpected q) _ drop
+          choose (c.flags.may_serve || not (are_bearers (names talk.way c) (statuses_of list))) (drops Unexpected q) _ drop
           (done_replies q at (as_known talk.way c) (status_each talk.way owner (as_known talk.way c) list c.bearers)
           (statuses_quiet owner (as_known talk.way c) list c.bearers) None None)
       status_fine None c = drop

@@ -61,17 +61,17 @@ no_home s home who none is = by (ue_of s.units who) is
     named : (h : NodeId) → Some h ≡ Some home → h ≡ home
     named h e = cc
 
-    chosen : (u : UeNode) (h : NodeId) (b : Bool) → (is_connected u.state && same_epoch (epoch_at s.units h u.plan.ue) u.epoch) ≡ b
+    chosen : (u : UeNode) (h : NodeId) (b : Bool) → (is_connected u.state && same_epoch (epoch_at s.units h who) u.epoch) ≡ b
         → (if b then Some h else None) ≡ Some home → ⊥
-    chosen u h true e at = never (is_connected u.state) (epoch_at s.units home u.plan.ue) u.epoch (none u.plan.ue)
-        (subst (λ (x : NodeId). is_connected u.state && same_epoch (epoch_at s.units x u.plan.ue) u.epoch ≡ true) (named h at) e)
+    chosen u h true e at = never (is_connected u.state) (epoch_at s.units home who) u.epoch (none who)
+        (subst (λ (x : NodeId). is_connected u.state && same_epoch (epoch_at s.units x who) u.epoch ≡ true) (named h at) e)
     chosen u h false e at = absurd cc
 
-    at_home : (u : UeNode) (o : Option NodeId) → ready_at s u o ≡ Some home → ⊥
+    at_home : (u : UeNode) (o : Option NodeId) → ready_at s who u o ≡ Some home → ⊥
     at_home u None e = absurd cc
-    at_home u (Some h) e = chosen u h (is_connected u.state && same_epoch (epoch_at s.units h u.plan.ue) u.epoch) refl e
+    at_home u (Some h) e = chosen u h (is_connected u.state && same_epoch (epoch_at s.units h who) u.epoch) refl e
 
-    by : (o : Option UeNode) → ready_of s o ≡ Some home → ⊥
+    by : (o : Option UeNode) → ready_of s who o ≡ Some home → ⊥
     by None e = absurd cc
     by (Some u) e = at_home u u.home e
 

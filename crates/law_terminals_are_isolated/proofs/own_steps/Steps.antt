@@ -83,17 +83,17 @@ no_terminal t who n is = by (ue_of t.units who) is
     named : (home : NodeId) → Some home ≡ Some (Ue n) → home ≡ Ue n
     named home e = cc
 
-    chosen : (u : UeNode) (home : NodeId) (b : Bool) → (is_connected u.state && same_epoch (epoch_at t.units home u.plan.ue) u.epoch) ≡ b
+    chosen : (u : UeNode) (home : NodeId) (b : Bool) → (is_connected u.state && same_epoch (epoch_at t.units home who) u.epoch) ≡ b
         → (if b then Some home else None) ≡ Some (Ue n) → ⊥
     chosen u home true e is = never (is_connected u.state)
-        (subst (λ (h : NodeId). is_connected u.state && same_epoch (epoch_at t.units h u.plan.ue) u.epoch ≡ true) (named home is) e)
+        (subst (λ (h : NodeId). is_connected u.state && same_epoch (epoch_at t.units h who) u.epoch ≡ true) (named home is) e)
     chosen u home false e is = absurd cc
 
-    at_home : (u : UeNode) (home : Option NodeId) → ready_at t u home ≡ Some (Ue n) → ⊥
+    at_home : (u : UeNode) (home : Option NodeId) → ready_at t who u home ≡ Some (Ue n) → ⊥
     at_home u None e = absurd cc
-    at_home u (Some home) e = chosen u home (is_connected u.state && same_epoch (epoch_at t.units home u.plan.ue) u.epoch) refl e
+    at_home u (Some home) e = chosen u home (is_connected u.state && same_epoch (epoch_at t.units home who) u.epoch) refl e
 
-    by : (o : Option UeNode) → ready_of t o ≡ Some (Ue n) → ⊥
+    by : (o : Option UeNode) → ready_of t who o ≡ Some (Ue n) → ⊥
     by None e = absurd cc
     by (Some u) e = at_home u u.home e
 

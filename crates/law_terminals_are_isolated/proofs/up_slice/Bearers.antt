@@ -117,7 +117,7 @@ module _ {M C P : Type 0} (way : Way M C P) (at : UpAt) where
       (frame_puts false false (Some (way.write at.sn (report_pdu fmc bits))) Absent b) (λ c. again_puts c.sender.unconfirmed c)) waiting_puts
 
   known_puts : (b : UpBearer) → Puts (begin_where_known way at b)
-  known_puts b = either at.flags.has_status _ _ (begin_puts b.receiver.deliv (received_bits b.receiver) b) (tt, tt)
+  known_puts b = either at.flags.may_serve _ _ (begin_puts b.receiver.deliv (received_bits b.receiver) b) (tt, tt)
 
   pub switched_puts : (du : NodeId) (teid : ℕ) (b : UpBearer) → Puts (switched way at du teid b)
   unfolding switched

@@ -204,7 +204,7 @@ module _ {M C P : Type 0} (way : Way M C P) where
   freeze_steps from ue instance (Some peer) (Some down) (Some up) c r q stays =
       either ue r (c.flags.frozen || c.flags.released || not c.flags.arrived || not (are_bearers (names way c) (bearers_of down))
       || not (are_bearers (names way c) (bearers_of up))) _ _ (drops_steps ue r q stays)
-      (either ue r (not c.flags.has_status) _ _ (replies_steps ue from (e1s.BearerContextModificationFailure ue instance cause_busy) r q stays)
+      (either ue r (not c.flags.may_serve) _ _ (replies_steps ue from (e1s.BearerContextModificationFailure ue instance cause_busy) r q stays)
       (answered_steps ue from (modified way ue instance None (Some (statuses way c))) (as_frozen way c) _ r q stays
       (each_for ue.0 (λ bearer. frozen_to way (up_at ue (as_frozen way c) bearer) (peer_node way peer) (teid_of down bearer) (teid_of up bearer))
       (λ bearer b. frozen_puts way (up_at ue (as_frozen way c) bearer) (peer_node way peer) (teid_of down bearer) (teid_of up bearer) b) c.bearers)))
@@ -214,7 +214,7 @@ module _ {M C P : Type 0} (way : Way M C P) where
       → Steps ue r (status_if way (channel ue.0 from) ue instance o c q)
   unfolding take_status
   status_steps from ue instance (Some ss) c r q stays =
-      either ue r (c.flags.has_status || not (are_bearers (names way c) (statuses_of ss))) _ _ (drops_steps ue r q stays)
+      either ue r (c.flags.may_serve || not (are_bearers (names way c) (statuses_of ss))) _ _ (drops_steps ue r q stays)
       (answered_steps ue from (modified way ue instance None None) (as_known way c) _ r q stays (statuses_for ue (as_known way c) ss c.bearers))
   status_steps from ue instance None c r q stays = drops_steps ue r q stays
 

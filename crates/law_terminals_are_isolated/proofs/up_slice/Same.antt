@@ -249,7 +249,7 @@ module _ {M C P : Type 0} (way : Way M C P) where
       → Same ue (freeze way (channel ue.0 from) ue instance peer down up c r) (freeze way (channel ue.0 from) ue instance peer down up c q)
   unfolding freeze
   freeze_same from ue instance peer down up c r q e =
-      same_if (up_view ue) (not c.flags.has_status) (not c.flags.has_status) _ _ _ _ refl
+      same_if (up_view ue) (not c.flags.may_serve) (not c.flags.may_serve) _ _ _ _ refl
       (replies_same ue from (e1s.BearerContextModificationFailure ue instance cause_busy) r q e)
       (answered_same ue from (modified way ue instance None (Some (statuses way c))) (as_frozen way c) _ r q e)
 
@@ -279,7 +279,7 @@ module _ {M C P : Type 0} (way : Way M C P) where
       → Same ue (status_if way (channel ue.0 from) ue instance ss c r) (status_if way (channel ue.0 from) ue instance ss c q)
   unfolding take_status
   status_if_same from ue instance (Some ss) c r q e =
-      either_same ue (c.flags.has_status || not (are_bearers (names way c) (statuses_of ss))) _ _ _ _ (drops_same ue r q e)
+      either_same ue (c.flags.may_serve || not (are_bearers (names way c) (statuses_of ss))) _ _ _ _ (drops_same ue r q e)
       (answered_same ue from (modified way ue instance None None) (as_known way c) _ r q e)
   status_if_same from ue instance None c r q e = drops_same ue r q e
 

@@ -242,7 +242,7 @@ module _ (node : NodeId) (at_up : IsCuUp node) (taken : Option ℕ) where
     freeze_fits (Some peer) (Some a) (Some b) c all =
         either (c.flags.frozen || c.flags.released || not c.flags.arrived || not (are_bearers (names plain_way c) (bearers_of a)) || not (are_bearers (names plain_way c) (bearers_of b)))
         (drops Unexpected r) _ (p, (tt, tt))
-        (either (not c.flags.has_status) (replies plain_way ch (e1s.BearerContextModificationFailure ue instance cause_busy) r) _
+        (either (not c.flags.may_serve) (replies plain_way ch (e1s.BearerContextModificationFailure ue instance cause_busy) r) _
         (replies_fit ch (e1s.BearerContextModificationFailure ue instance cause_busy) r p)
         (steps_fit r ch ue (as_frozen plain_way c)
         (each_bearer plain_way (λ x. frozen_to plain_way (up_at ue (as_frozen plain_way c) x) (peer_node plain_way peer) (teid_of a x) (teid_of b x)) c.bearers)
@@ -256,7 +256,7 @@ module _ (node : NodeId) (at_up : IsCuUp node) (taken : Option ℕ) where
     known_fits : (list : Option (List SnStatus)) (c : UpContext) → BearersName c.bearers → Fits (status_if plain_way ch ue instance list c r)
     unfolding take_status
     known_fits (Some list) c all =
-        either (c.flags.has_status || not (are_bearers (names plain_way c) (statuses_of list))) (drops Unexpected r) _ (p, (tt, tt))
+        either (c.flags.may_serve || not (are_bearers (names plain_way c) (statuses_of list))) (drops Unexpected r) _ (p, (tt, tt))
         (steps_fit r ch ue (as_known plain_way c) (status_each plain_way ue (as_known plain_way c) list c.bearers) (modified plain_way ue instance None None) p
         (statuses_fit ue (as_known plain_way c) list c.bearers all))
     known_fits None c all = (p, (tt, tt))

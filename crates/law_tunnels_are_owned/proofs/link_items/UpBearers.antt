@@ -115,7 +115,7 @@ module _ (node : NodeId) (at_up : IsCuUp node) (taken : Option ℕ) where
   switched_fits at du teid b is =
       after (deliver_stored plain_way at (record (thawed b) { downlink = Some (record { du = du; teid = teid; next = 0 }); restart = false })) (begin_where_known plain_way at)
       (deliver_fits at (record (thawed b) { downlink = Some (record { du = du; teid = teid; next = 0 }); restart = false }) (is, tt))
-      (λ c p. either at.flags.has_status (begin_downlink plain_way at c.receiver.deliv (received_bits c.receiver) c) (nothing c)
+      (λ c p. either at.flags.may_serve (begin_downlink plain_way at c.receiver.deliv (received_bits c.receiver) c) (nothing c)
       (begin_fits at c.receiver.deliv (received_bits c.receiver) c p) (p, tt))
 
   numbered_fits : (at : UpAt) (es : List (ℕ × List ℕ)) (b : UpBearer) → BearerNames b → Fits (forward_numbered plain_way at es b)

@@ -213,7 +213,7 @@ module _ {M C P : Type 0} (way : Way M C P) where
     freeze_keeps (Some peer) (Some a) (Some b) c is =
         keeps_if (c.flags.frozen || c.flags.released || not c.flags.arrived || not (are_bearers (names way c) (bearers_of a)) || not (are_bearers (names way c) (bearers_of b)))
         (drops Unexpected r) _ p
-        (keeps_if (not c.flags.has_status) _ _ (replies_keep ch (e1s.BearerContextModificationFailure ue instance cause_busy) r p)
+        (keeps_if (not c.flags.may_serve) _ _ (replies_keep ch (e1s.BearerContextModificationFailure ue instance cause_busy) r p)
         (steps_keep r ch ue c (as_frozen way c)
         (each_bearer way (λ x. frozen_to way (up_at ue (as_frozen way c) x) (peer_node way peer) (teid_of a x) (teid_of b x)) c.bearers)
         (modified way ue instance None (Some (statuses way c))) p is refl
@@ -226,7 +226,7 @@ module _ {M C P : Type 0} (way : Way M C P) where
     status_keeps : (list : Option (List SnStatus)) (c : UpContext) → find ue_cmp r.contexts ue ≡ Some c → Keeps (status_if way ch ue instance list c r)
     unfolding take_status
     status_keeps (Some list) c is =
-        keeps_if (c.flags.has_status || not (are_bearers (names way c) (statuses_of list))) (drops Unexpected r) _ p
+        keeps_if (c.flags.may_serve || not (are_bearers (names way c) (statuses_of list))) (drops Unexpected r) _ p
         (steps_keep r ch ue c (as_known way c) (status_each way ue (as_known way c) list c.bearers) (modified way ue instance None None) p is refl
         (statuses_keep ue (as_known way c) list c.bearers))
     status_keeps None c is = p

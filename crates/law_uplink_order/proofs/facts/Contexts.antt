@@ -132,10 +132,10 @@ module _ (p : ℕ → List ℕ) (s : Part) (d : ℕ) (g : ℕ → Ghost) (k : Ke
       more i (there, inl (inr (t, is, h))) = (there, inl (inr (t, still_open m.bearer.uplinks teid t is, h)))
       more i (there, inr h) = (there, inr h)
 
-  pub kept_knows : (status : SnStatus) → m.flags.has_status ≡ false → status.ul_first ≡ m.promised → Good p (after s (knows x status))
+  pub kept_knows : (status : SnStatus) → m.flags.may_serve ≡ false → status.ul_first ≡ m.promised → Good p (after s (knows x status))
   unfolding after Passed
   kept_knows status unknown is =
-      let c : Member = record m { flags = record m.flags { has_status = true }; bearer = known m.bearer status } in (
+      let c : Member = record m { flags = record m.flags { may_serve = true }; bearer = known m.bearer status } in (
         d,
         g,
         kept_one p s s d d g x c k (later_same s d x)

@@ -62,10 +62,10 @@ pub record Placed (station done q : ℕ) (is_frozen is_known : Bool) (deliv rank
 
 pub record Own (p : ℕ → List ℕ) (b : View) (q : ℕ) (m : Member) (rank : ℕ) : Type 0 where
   pub tunnels : Tunnels p b.reached m.uplink m.forwarded (is_hop_up_done m.flags m.bearer)
-  pub holds : Holds p b.reached m.flags.frozen m.flags.released m.flags.has_status m.bearer.receiver.deliv m.bearer.receiver.stored
-  pub flags : Flags m.flags.frozen m.flags.released m.flags.has_status m.flags.arrived m.bearer.hop (no_uplink m.bearer.uplinks)
+  pub holds : Holds p b.reached m.flags.frozen m.flags.released m.flags.may_serve m.bearer.receiver.deliv m.bearer.receiver.stored
+  pub flags : Flags m.flags.frozen m.flags.released m.flags.may_serve m.flags.arrived m.bearer.hop (no_uplink m.bearer.uplinks)
       (is_hop_up_done m.flags m.bearer) rank
-  pub placed : Placed b.station b.done q m.flags.frozen m.flags.has_status m.bearer.receiver.deliv rank
+  pub placed : Placed b.station b.done q m.flags.frozen m.flags.may_serve m.bearer.receiver.deliv rank
 
 pub record IsStation (is_there is_released is_known : Bool) (deliv promised rank done : ℕ) : Type 0 where
   pub there : is_there ≡ true
@@ -75,7 +75,7 @@ pub record IsStation (is_there is_released is_known : Bool) (deliv promised rank
   pub unknown : is_known ≡ false → promised ≡ done
 
 abbrev pub StationIs : ℕ → Member → ℕ → Type 0
-StationIs done m rank = IsStation m.is_there m.flags.released m.flags.has_status m.bearer.receiver.deliv m.promised rank done
+StationIs done m rank = IsStation m.is_there m.flags.released m.flags.may_serve m.bearer.receiver.deliv m.promised rank done
 
 pub record Fine (p : ℕ → List ℕ) (b : View) (q : ℕ) (m : Member) (rank : ℕ) : Type 0 where
   pub own : m.is_there ≡ true → Own p b q m rank
@@ -111,7 +111,7 @@ into m g = record {
   target = m.flags.target;
   arrived = m.flags.arrived;
   released = m.flags.released;
-  known = m.flags.has_status;
+  known = m.flags.may_serve;
   up_ended = m.bearer.up_ended;
   deliv = m.bearer.receiver.deliv;
   promised = m.promised;

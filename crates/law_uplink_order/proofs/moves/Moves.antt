@@ -30,7 +30,7 @@ pub record Awaits (x deliv : ℕ) (stored : List (ℕ × List ℕ)) (t : Member)
   pub no_end : NoEnd t.forwarded
   pub arrived : t.flags.arrived ≡ false
   pub keeps : t.flags.released ≡ false
-  pub unknown : t.flags.has_status ≡ false
+  pub unknown : t.flags.may_serve ≡ false
   pub promised : t.promised ≡ deliv
   pub forwarded : (j : ℕ) → has stored j ≡ true → Stands j t.forwarded
 
@@ -42,7 +42,7 @@ module _ (p : ℕ → List ℕ) (s : Part) (d : ℕ) (g : ℕ → Ghost) (k : Ke
   before = view s d
 
   -- a context freezes whose target is so far
-  pub kept_halts : (y : ℕ) (hop : SourceHop) → y ≢ x → source.flags.has_status ≡ true → source.flags.arrived ≡ true
+  pub kept_halts : (y : ℕ) (hop : SourceHop) → y ≢ x → source.flags.may_serve ≡ true → source.flags.arrived ≡ true
       → Awaits x source.bearer.receiver.deliv source.bearer.receiver.stored (s.members y) (g y)
       → Kept p (record s { members = set s.members x (halted source y hop) }) d g
   kept_halts y hop far known arrived a = kept_one p s s d d g x (halted source y hop) k (later_same s d x)
@@ -159,7 +159,7 @@ module _ (p : ℕ → List ℕ) (s : Part) (d : ℕ) (g : ℕ → Ghost) (k : Ke
       more i (there, inl (inr a)) = (there, inl (inr a))
       more i (there, inr a) = (there, inr a)
 
-  pub kept_freezes : (y : ℕ) (hop : SourceHop) → m.flags.has_status ≡ true → m.flags.arrived ≡ true → IsUntouched (s.members y)
+  pub kept_freezes : (y : ℕ) (hop : SourceHop) → m.flags.may_serve ≡ true → m.flags.arrived ≡ true → IsUntouched (s.members y)
       → IsUnfed s y → Good p (after s (freezes x y hop))
   unfolding after NoEnd
   kept_freezes y hop known arrived u unfed = (
@@ -168,7 +168,7 @@ module _ (p : ℕ → List ℕ) (s : Part) (d : ℕ) (g : ℕ → Ghost) (k : Ke
     subst (λ c. Kept p (record s { members = set (set s.members y (forwarded_to y)) x (halted c y hop) }) d (set g y (fed_by y)))
         here
         (kept_halts p s1 d (set g y (fed_by y)) (kept_forwards y far u unfed) x is y hop far
-        (subst (λ c. c.flags.has_status ≡ true) (sym here) known) (subst (λ c. c.flags.arrived ≡ true) (sym here) arrived)
+        (subst (λ c. c.flags.may_serve ≡ true) (sym here) known) (subst (λ c. c.flags.arrived ≡ true) (sym here) arrived)
         (subst (λ c. Awaits x c.bearer.receiver.deliv c.bearer.receiver.stored (set s.members y (forwarded_to y) y) (set g y (fed_by y) y))
         (sym here)
         (subst (λ c. Awaits x m.bearer.receiver.deliv m.bearer.receiver.stored c (set g y (fed_by y) y))
@@ -177,7 +177,7 @@ module _ (p : ℕ → List ℕ) (s : Part) (d : ℕ) (g : ℕ → Ghost) (k : Ke
   )
     where
       far : y ≢ x
-      far e = apart (subst (λ q. (s.members q).flags.has_status ≡ true) (sym e) known) u.status
+      far e = apart (subst (λ q. (s.members q).flags.may_serve ≡ true) (sym e) known) u.status
 
       s1 : Part
       s1 = record s { members = set s.members y (forwarded_to y) }

@@ -91,12 +91,12 @@ module _ (p : ℕ → List ℕ) (s : Part) (d : ℕ) (g : ℕ → Ghost) (k : Ke
     pub keeps : c.flags.released ≡ false
     pub unfrozen : c.flags.frozen ≡ false
     pub tunnels : Tunnels p s.reached c.uplink c.forwarded (is_hop_up_done c.flags c.bearer)
-    pub flags : Flags c.flags.frozen c.flags.released c.flags.has_status c.flags.arrived c.bearer.hop (no_uplink c.bearer.uplinks)
+    pub flags : Flags c.flags.frozen c.flags.released c.flags.may_serve c.flags.arrived c.bearer.hop (no_uplink c.bearer.uplinks)
         (is_hop_up_done c.flags c.bearer) (g x).rank
     pub rises : Rises c.bearer.receiver.deliv c.bearer.receiver.stored
     pub right : AllByRecursion (IsRight p s.reached) c.bearer.receiver.stored
-    pub known : c.flags.has_status ≡ true → c.bearer.receiver.deliv ≡ d
-    pub unknown : c.flags.has_status ≡ false → (c.promised ≡ d) × (c.bearer.receiver.stored ≡ [])
+    pub known : c.flags.may_serve ≡ true → c.bearer.receiver.deliv ≡ d
+    pub unknown : c.flags.may_serve ≡ false → (c.promised ≡ d) × (c.bearer.receiver.stored ≡ [])
     -- what feeds it sees of it what it saw before
     pub target : m.flags.target ≡ true → c.flags.target ≡ true
     pub up_ended : m.bearer.up_ended ≡ false → c.bearer.up_ended ≡ false
@@ -159,14 +159,14 @@ module _ (p : ℕ → List ℕ) (s : Part) (d : ℕ) (g : ℕ → Ghost) (k : Ke
       y : Delivery (List ℕ)
       y = deliver c.bearer.receiver
 
-      both : (e : ℕ) × Delivers p s.reached d s.delivered c.flags.has_status c.promised c.bearer.receiver.stored (deliver c.bearer.receiver) e
+      both : (e : ℕ) × Delivers p s.reached d s.delivered c.flags.may_serve c.promised c.bearer.receiver.stored (deliver c.bearer.receiver) e
       both = hands_up p s.reached d s.delivered c.promised c.bearer.receiver k.terminal.done_reached k.terminal.delivered_are r.rises r.right
-          c.flags.has_status r.known r.unknown
+          c.flags.may_serve r.known r.unknown
 
       e : ℕ
       e = both.0
 
-      h : Delivers p s.reached d s.delivered c.flags.has_status c.promised c.bearer.receiver.stored (deliver c.bearer.receiver) both.0
+      h : Delivers p s.reached d s.delivered c.flags.may_serve c.promised c.bearer.receiver.stored (deliver c.bearer.receiver) both.0
       h = both.1
 
       t : Part

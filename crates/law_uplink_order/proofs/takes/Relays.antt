@@ -61,7 +61,7 @@ module _ (p : ℕ → List ℕ) (s : Part) (d : ℕ) (g : ℕ → Ghost) (k : Ke
   open_ : is_ended m.bearer.hop ≡ false
   open_ = not_ended p b x m (g x).rank from count packet rest o taken
 
-  pos : (m.flags.has_status ≡ true) × (m.flags.arrived ≡ true) × (0 < (g x).rank)
+  pos : (m.flags.may_serve ≡ true) × (m.flags.arrived ≡ true) × (0 < (g x).rank)
   pos = passes p b x m (g x).rank from (numbered count packet) rest o taken
 
   link : t.is_there ≡ true → Link s.station d x (out m (g x)) m.next_hop (into t (g m.next_hop))
@@ -93,7 +93,7 @@ module _ (p : ℕ → List ℕ) (s : Part) (d : ℕ) (g : ℕ → Ghost) (k : Ke
       (omega arith) (u, inl (inl (stands-right count t.forwarded items (stands-first count packet []))))
 
   kept_relay : (es : List (ℕ × List ℕ))
-      → Holds p s.reached m.flags.frozen m.flags.released m.flags.has_status m.bearer.receiver.deliv es
+      → Holds p s.reached m.flags.frozen m.flags.released m.flags.may_serve m.bearer.receiver.deliv es
       → ((i : ℕ) → has m.bearer.receiver.stored i ≡ true → has es i ≡ true)
       → ((i : ℕ) → has es i ≡ true → (i ≡ count) ⊎ (has m.bearer.receiver.stored i ≡ true))
       → (x ≡ s.station → has es count ≡ true)

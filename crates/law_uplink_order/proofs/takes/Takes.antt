@@ -143,15 +143,15 @@ abbrev tests : Bool → Bool → Type 0
 tests u v = first_held ((not u, NoStatus) ∷ (not v, NotArrived) ∷ (false, Early) ∷ []) ≡ None
 
 pub passes : (p : ℕ → List ℕ) (b : View) (q : ℕ) (m : Member) (rank : ℕ) (from : Source) (item : Item) (rest : List Item)
-    → Own p b q m rank → IsTaken m from item rest → (m.flags.has_status ≡ true) × (m.flags.arrived ≡ true) × (0 < rank)
-passes p b q m rank from item rest o taken = by m.flags.has_status m.flags.arrived refl refl (held from taken.passes)
+    → Own p b q m rank → IsTaken m from item rest → (m.flags.may_serve ≡ true) × (m.flags.arrived ≡ true) × (0 < rank)
+passes p b q m rank from item rest o taken = by m.flags.may_serve m.flags.arrived refl refl (held from taken.passes)
   where
-    held : (f : Source) → first_held (held_as_target m.flags (kind_of f) m.bearer) ≡ None → tests m.flags.has_status m.flags.arrived
+    held : (f : Source) → first_held (held_as_target m.flags (kind_of f) m.bearer) ≡ None → tests m.flags.may_serve m.flags.arrived
     held (uplink_tunnel teid) h = h
     held forwarding h = h
 
-    by : (u v : Bool) → m.flags.has_status ≡ u → m.flags.arrived ≡ v → tests u v
-        → (m.flags.has_status ≡ true) × (m.flags.arrived ≡ true) × (0 < rank)
+    by : (u v : Bool) → m.flags.may_serve ≡ u → m.flags.arrived ≡ v → tests u v
+        → (m.flags.may_serve ≡ true) × (m.flags.arrived ≡ true) × (0 < rank)
     by true true u v h = (u, v, o.flags.was_there v)
     by true false u v h = absurd cc
     by false v u w h = absurd cc
@@ -177,7 +177,7 @@ module _ (p : ℕ → List ℕ) (s : Part) (d : ℕ) (g : ℕ → Ghost) (k : Ke
   -- of a context that is c, where all this is so
   abbrev pub IsTakenAt : Member → List (ℕ × List ℕ) → Type 0
   IsTakenAt c es = IsTaken c from (numbered count packet) rest
-      → Holds p s.reached c.flags.frozen c.flags.released c.flags.has_status c.bearer.receiver.deliv es
+      → Holds p s.reached c.flags.frozen c.flags.released c.flags.may_serve c.bearer.receiver.deliv es
       → ((i : ℕ) → has c.bearer.receiver.stored i ≡ true → has es i ≡ true)
       → Goes es
       → (x ≢ s.station → (i : ℕ) → has es i ≡ true → Beyond b s.members g ((g x).rank + 1) i)

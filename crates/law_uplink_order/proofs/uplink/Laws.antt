@@ -189,7 +189,7 @@ module _ (x teid : ℕ) (os : List Order) (kept : AreKept (start x teid) os) whe
       next_one (inr (r, l, (there, inl (inl h)))) = stands-none good.0 (s.members r).forwarded (quiet.forwarded r there) h
       next_one (inr (r, l, (there, inl (inr (t, open_, h))))) =
           stands-none good.0 ((s.members r).uplink t) (quiet.uplink r t there open_) h
-      next_one (inr (r, l, (there, inr (at, h)))) = stored (s.members s.station).flags.has_status refl
+      next_one (inr (r, l, (there, inr (at, h)))) = stored (s.members s.station).flags.may_serve refl
         where
           here : has (s.members s.station).bearer.receiver.stored good.0 ≡ true
           here = subst (λ q. has (s.members q).bearer.receiver.stored good.0 ≡ true) at h
@@ -200,7 +200,7 @@ module _ (x teid : ℕ) (os : List Order) (kept : AreKept (start x teid) os) whe
           o : Own p (view s good.0) s.station (s.members s.station) (good.1 s.station).rank
           o = (k.each s.station).own st.there
 
-          stored : (t : Bool) → (s.members s.station).flags.has_status ≡ t → ⊥
+          stored : (t : Bool) → (s.members s.station).flags.may_serve ≡ t → ⊥
           stored true known =
               let e = st.known known in
               let f = rises_has ((s.members s.station).bearer.receiver.deliv + 1) good.0 (s.members s.station).bearer.receiver.stored

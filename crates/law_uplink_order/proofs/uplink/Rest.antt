@@ -105,7 +105,7 @@ module _ (q : ℕ) where
       )
   stays_gone s (knows x status) os h n =
       let m = s.members x in
-      (keeps s.members x (record m { flags = record m.flags { has_status = true }; bearer = known m.bearer status }) refl h, n)
+      (keeps s.members x (record m { flags = record m.flags { may_serve = true }; bearer = known m.bearer status }) refl h, n)
   stays_gone s (switches x) os h n =
       let m = s.members x in (
         keeps s.members x (record m {

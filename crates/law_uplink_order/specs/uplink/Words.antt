@@ -47,4 +47,4 @@ HasDeliveredAll offered s = s.delivered ≡ enumerate_from 0 offered
 unfoldable pub Reports : Part → ℕ → Type 0
 Reports s i =
     let m = s.members s.station in
-    (m.flags.has_status ≡ true) × (is_reported m.bearer.receiver.deliv (received_bits m.bearer.receiver) i ≡ true)
+    (m.flags.may_serve ≡ true) × (is_reported m.bearer.receiver.deliv (received_bits m.bearer.receiver) i ≡ true)

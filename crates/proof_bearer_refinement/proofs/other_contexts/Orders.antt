@@ -273,7 +273,7 @@ module _ (x y : ℕ) (far : y ≢ x) where
   order_far b (Some p) (adds teid) = tt
   order_far b (Some p) (switches du teid) =
       let now : UpBearer = down.on_downlink p.bearer (record { du = du; teid = teid; next = 0 }) in
-      (far, if_far p.at.flags.has_status (rows.numbers_if x (on_switch p).at now) [] (numbers_if_far (on_switch p).at now) tt)
+      (far, if_far p.at.flags.may_serve (rows.numbers_if x (on_switch p).at now) [] (numbers_if_far (on_switch p).at now) tt)
   order_far b (Some p) (freezes peer down_teid up_teid) = (far, tt)
   order_far b (Some p) (knows its_status) =
       let now : UpBearer = down.known p.bearer its_status in

@@ -315,7 +315,7 @@ module _ (reading : Reading) (s : RunState) (ue : UeId) (bearer : BearerId) (b :
     aired : (from : EntityKey) (home : NodeId) (item : OnRadio) (dir : Dir) → from.dir ≡ dir → receiver_by dir from.ue home ≡ Ue ue.0
         → Stands {M = Message Token} {C = Token} {L = Written (Load Pdu)} {P = Written Pdu} event s (by_air from home item)
         → Given (by_air from home item) → Takes (by_air from home item)
-    aired from home item Ul is node stands given = absurd (ready_is_du s (ue_of s.units from.ue) home stands.0 ue.0 node)
+    aired from home item Ul is node stands given = absurd (ready_is_du s from.ue (ue_of s.units from.ue) home stands.0 ue.0 node)
     aired from home item Dl is node stands given =
         subst (λ (i : Input Token Pdu). IsTaken (after_taking {M = Message Token} {L = Written (Load Pdu)} key (by_air from home item) air) i) input_is
         (subst (λ (k : EntityKey). IsTaken (if eq_by_cmp entity_cmp key k then carried_more else air)
@@ -346,7 +346,7 @@ module _ (reading : Reading) (s : RunState) (ue : UeId) (bearer : BearerId) (b :
     acked : (from : EntityKey) (home : NodeId) (item : OnRadio) (rest : List OnRadio) (dir : Dir) → from.dir ≡ dir → sender_by dir from.ue home ≡ Ue ue.0
         → Stands {M = Message Token} {C = Token} {L = Written (Load Pdu)} {P = Written Pdu} event s (by_ack from home item rest)
         → Given (by_ack from home item rest) → Takes (by_ack from home item rest)
-    acked from home item rest Dl is node stands given = absurd (ready_is_du s (ue_of s.units from.ue) home stands.0 ue.0 node)
+    acked from home item rest Dl is node stands given = absurd (ready_is_du s from.ue (ue_of s.units from.ue) home stands.0 ue.0 node)
     acked from home item rest Ul is node stands given =
         subst (λ (t : Bool). IsTaken (if t then record air { radio = record { items = rest; carried = air.radio.carried - 1 } } else air) input) (sym (up_key from is))
         (given_so (confirm_input item.key.ue item.key.bearer item.key.dir item.content.says (content_of item.content.says)) given tt)

@@ -198,7 +198,7 @@ module _ (reading : Reading) where
       other_home = by home refl
         where
           by : (h : NodeId) → home ≡ h → IsOther ue h
-          by (Ue w) is = absurd (ready_is_du s (ue_of s.units ue) home stands.0 w is)
+          by (Ue w) is = absurd (ready_is_du s ue (ue_of s.units ue) home stands.0 w is)
           by (CuCp g) is = tt
           by (CuUp g k) is = tt
           by (Du g k) is = tt

@@ -42,19 +42,19 @@ if_so : (t : Bool) (node home : NodeId) → (if t then Some node else None) ≡ 
 if_so true node home is = cc
 if_so false node home is = absurd cc
 
-home_is_du : (s : RunState) (u : UeNode) (h : Option NodeId) (home : NodeId) → ready_at s u h ≡ Some home → (w : ℕ) → home ≡ Ue w → ⊥
-home_is_du s u None home is w at = absurd cc
-home_is_du s u (Some (du_id g k)) home is w at =
-    let same : du_id g k ≡ home = if_so (is_connected u.state && same_epoch (epoch_at s.units (du_id g k) u.plan.ue) u.epoch) (du_id g k) home is in
+home_is_du : (s : RunState) (ue : UeId) (u : UeNode) (h : Option NodeId) (home : NodeId) → ready_at s ue u h ≡ Some home → (w : ℕ) → home ≡ Ue w → ⊥
+home_is_du s ue u None home is w at = absurd cc
+home_is_du s ue u (Some (du_id g k)) home is w at =
+    let same : du_id g k ≡ home = if_so (is_connected u.state && same_epoch (epoch_at s.units (du_id g k) ue) u.epoch) (du_id g k) home is in
     let never : du_id g k ≡ Ue w = same ∙ at in absurd cc
-home_is_du s u (Some (CuCp g)) home is w at = if_not (is_connected u.state) (CuCp g) home is
-home_is_du s u (Some (CuUp g k)) home is w at = if_not (is_connected u.state) (CuUp g k) home is
-home_is_du s u (Some Core) home is w at = if_not (is_connected u.state) Core home is
-home_is_du s u (Some (Ue k)) home is w at = if_not (is_connected u.state) (Ue k) home is
+home_is_du s ue u (Some (CuCp g)) home is w at = if_not (is_connected u.state) (CuCp g) home is
+home_is_du s ue u (Some (CuUp g k)) home is w at = if_not (is_connected u.state) (CuUp g k) home is
+home_is_du s ue u (Some Core) home is w at = if_not (is_connected u.state) Core home is
+home_is_du s ue u (Some (Ue k)) home is w at = if_not (is_connected u.state) (Ue k) home is
 
-pub ready_is_du : (s : RunState) (o : Option UeNode) (home : NodeId) → ready_of s o ≡ Some home → (w : ℕ) → home ≡ Ue w → ⊥
-ready_is_du s None home is w at = absurd cc
-ready_is_du s (Some u) home is w at = home_is_du s u u.home home is w at
+pub ready_is_du : (s : RunState) (ue : UeId) (o : Option UeNode) (home : NodeId) → ready_of s ue o ≡ Some home → (w : ℕ) → home ≡ Ue w → ⊥
+ready_is_du s ue None home is w at = absurd cc
+ready_is_du s ue (Some u) home is w at = home_is_du s ue u u.home home is w at
 
 -- ---- what is confirmed is the oldest one that was carried
 
@@ -139,14 +139,14 @@ module _ (s : RunState) (ue : UeId) (bearer : BearerId) (b : Parts) (there : IsO
 
     aired : (from : EntityKey) (home : NodeId) (item : OnRadio) (dir : Dir) → from.dir ≡ dir → receiver_by dir from.ue home ≡ Ue ue.0
         → ready_home s from.ue ≡ Some home → Given (by_air from home item) → Takes (by_air from home item)
-    aired from home item Ul is node ready given = absurd (ready_is_du s (ue_of s.units from.ue) home ready ue.0 node)
+    aired from home item Ul is node ready given = absurd (ready_is_du s from.ue (ue_of s.units from.ue) home ready ue.0 node)
     aired from home item Dl is node ready given =
         subst (λ (t : Bool). IsTaken (if t then record air { radio = record air.radio { carried = air.radio.carried + 1 } } else air) input) (sym (down_key from is))
         (rests (radio_input item.key.ue item.key.bearer item.key.dir item.content.says (content_of item.content.says)) given refl tt)
 
     acked : (from : EntityKey) (home : NodeId) (item : OnRadio) (rest : List OnRadio) (dir : Dir) → from.dir ≡ dir → sender_by dir from.ue home ≡ Ue ue.0
         → Stands event s (by_ack from home item rest) → Given (by_ack from home item rest) → Takes (by_ack from home item rest)
-    acked from home item rest Dl is node stands given = absurd (ready_is_du s (ue_of s.units from.ue) home stands.0 ue.0 node)
+    acked from home item rest Dl is node stands given = absurd (ready_is_du s from.ue (ue_of s.units from.ue) home stands.0 ue.0 node)
     acked from home item rest Ul is node stands given =
         subst (λ (i : Input Token Pdu). IsTaken (after_taking {M = Message Token} {L = Written (Load Pdu)} (up_key ue bearer) (by_ack from home item rest) air) i) input_is
         (subst (λ (k : EntityKey). IsTaken (if eq_by_cmp entity_cmp (up_key ue bearer) k then record air { radio = record { items = rest; carried = air.radio.carried - 1 } } else air)

@@ -115,7 +115,7 @@ order_down x b p (ups.switches du teid) =
     let downlink : Downlink = record { du = du; teid = teid; next = 0 } in
     let later : UpBearer = down.on_downlink p.bearer downlink in (
       tt,
-      if_downs p.at.flags.has_status (down_rows.numbers_if x (ups.on_switch p).at later) [] (numbers_if_down x (ups.on_switch p).at later) tt,
+      if_downs p.at.flags.may_serve (down_rows.numbers_if x (ups.on_switch p).at later) [] (numbers_if_down x (ups.on_switch p).at later) tt,
     )
 order_down x b p (ups.knows its) =
     let later : UpBearer = down.known p.bearer its in (

@@ -76,7 +76,7 @@ module _ (r : UpRecord) (ue : UeId) (bearer : BearerId) where
     freeze_are : (peer : Option Peer) (down up : Option (List Tunnel)) (c : UpContext) → Are (freezes_if plain_way bearer peer down up c)
     freeze_are (Some peer) (Some down) (Some up) c =
         only (not (c.flags.frozen || c.flags.released || not c.flags.arrived || not (are_bearers (names plain_way c) (bearers_of down))
-        || not (are_bearers (names plain_way c) (bearers_of up))) && c.flags.has_status)
+        || not (are_bearers (names plain_way c) (bearers_of up))) && c.flags.may_serve)
         (freezes (peer_node plain_way peer) (teid_of down bearer) (teid_of up bearer) ∷ []) (λ e. (tt, tt))
     freeze_are (Some peer) (Some down) None c = tt
     freeze_are (Some peer) None up c = tt
@@ -84,7 +84,7 @@ module _ (r : UpRecord) (ue : UeId) (bearer : BearerId) where
 
     knows_are : (ss : Option (List SnStatus)) (c : UpContext) → Are (knows_if plain_way bearer ss c)
     knows_are (Some ss) c =
-        only (not (c.flags.has_status || not (are_bearers (names plain_way c) (statuses_of ss)))) (knows (status_in plain_way ss bearer) ∷ []) (λ e. (tt, tt))
+        only (not (c.flags.may_serve || not (are_bearers (names plain_way c) (statuses_of ss)))) (knows (status_in plain_way ss bearer) ∷ []) (λ e. (tt, tt))
     knows_are None c = tt
 
     modify_are : (u : UeId) (instance : ℕ) (downlinks : Option (List Tunnel)) (mode : ℕ) (peer : Option Peer) (down up : Option (List Tunnel))

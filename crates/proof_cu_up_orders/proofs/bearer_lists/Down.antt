@@ -98,7 +98,7 @@ confirms_quiet x (Some count) = (tt, tt)
 control_quiet : {P : Type 0} (x epoch : ℕ) (p : UpPart) (order : UpOrder P) → AllQuiet (control_orders x epoch p order)
 control_quiet x epoch p (ups.switches du teid) = (
   tt,
-  quiet_if p.at.flags.has_status (numbers_if x (on_switch p).at (on_downlink p.bearer (record { du = du; teid = teid; next = 0 }))) []
+  quiet_if p.at.flags.may_serve (numbers_if x (on_switch p).at (on_downlink p.bearer (record { du = du; teid = teid; next = 0 }))) []
       (numbers_quiet x (on_switch p).at (on_downlink p.bearer (record { du = du; teid = teid; next = 0 }))) tt,
 )
 control_quiet x epoch p (ups.knows status) = (

@@ -137,7 +137,7 @@ module _ {M C P : Type 0} (way : Way M C P) (at : UpAt) (h : Option HopEnds) whe
   goes_switched du teid b is =
       let on : UpBearer = record (thawed b) { downlink = Some (record { du = du; teid = teid; next = 0 }); restart = false } in
       goes_then (deliver_stored way at on) (begin_where_known way at) (goes_deliver on is)
-      (λ d k. goes_if at.flags.has_status (begin_downlink way at d.receiver.deliv (received_bits d.receiver) d) (nothing d)
+      (λ d k. goes_if at.flags.may_serve (begin_downlink way at d.receiver.deliv (received_bits d.receiver) d) (nothing d)
       (goes_begin d.receiver.deliv (received_bits d.receiver) d k) (stays d k))
 
   goes_resumed : (b : UpBearer) → None ≡ h → Goes (resumed way at b)

@@ -167,7 +167,7 @@ module _ {M C P : Type 0} (way : Way M C P) (ue : UeId) (bearer : BearerId) (sn 
       Comes os order = AreKept sn quota s os × Has sn quota (run s os) (set cs x (kept_of (Some p) (done way order p)))
 
       control_step : (b : Beside) (order : UpOrder P) → IsGiven (done way order p)
-          → (p.at.flags.frozen ≡ true → p.at.flags.has_status ≡ true) → IsTested b.final p order → IsAsked p order → ControlOwes s x b.epoch order
+          → (p.at.flags.frozen ≡ true → p.at.flags.may_serve ≡ true) → IsTested b.final p order → IsAsked p order → ControlOwes s x b.epoch order
           → Comes (control_orders x b.epoch p order) order
       control_step b order given known tested asked owed = (
         here_kept (control_orders x b.epoch p order) (control_kept s x p is.0 known b.epoch b.final order tested asked owed),
@@ -194,7 +194,7 @@ module _ {M C P : Type 0} (way : Way M C P) (ue : UeId) (bearer : BearerId) (sn 
             here_kept os (freeze_kept s x p is.0 free.0 free.3 b.to (hop_to peer down up) owed),
             frozen_in (run s os) b.to p.bearer.sender.next (done way (ups.freezes peer down up) p) given
                 (freeze_shows way s x p is.0 b.to peer down up
-                (target_apart s x b.to (ap (λ (f : UpFlags). f.has_status) is.0.flags ∙ free.3) owed.2)) (done_at p (ups.freezes peer down up)),
+                (target_apart s x b.to (ap (λ (f : UpFlags). f.may_serve) is.0.flags ∙ free.3) owed.2)) (done_at p (ups.freezes peer down up)),
           )
       step_of b ups.closes given owed =
           let ended = end_is s x in (

@@ -161,11 +161,11 @@ module _ {M C P : Type 0} (way : Way M C P) (ue : UeId) (bearer : BearerId) wher
           )
       step_of b (ups.freezes peer down up) given (free, owed) =
           let os : List Order = freezes x b.to (hop_to peer down up) ∷ [] in
-          let status : (s.members x).flags.has_status ≡ true = ap (λ (f : UpFlags). f.has_status) is.flags ∙ free.3 in (
+          let status : (s.members x).flags.may_serve ≡ true = ap (λ (f : UpFlags). f.may_serve) is.flags ∙ free.3 in (
             freeze_kept s x p is free.3 free.2 b.to (hop_to peer down up) owed,
             frozen_in (run s os) b.to p.bearer.receiver.deliv (done way (ups.freezes peer down up) p) given
                 (freeze_shows way s x p is b.to peer down up
-                (λ same. apart status (subst (λ y. (s.members y).flags.has_status ≡ false) same owed.1.status))),
+                (λ same. apart status (subst (λ y. (s.members y).flags.may_serve ≡ false) same owed.1.status))),
           )
       step_of b ups.closes given owed = by (is_done p) refl
         where

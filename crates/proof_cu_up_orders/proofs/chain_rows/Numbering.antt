@@ -37,7 +37,7 @@ pdus_are sn quota (p ∷ ps) q = by (has_room sn quota q) (pdus_are sn quota ps 
 
 module _ (sn : SnBits) (quota x : ℕ) where
   -- what the orders ask of the unit
-  pub numbering_kept : (ps : List (List ℕ)) (s : Part) (m : Member) → s.members x ≡ m → m.is_there ≡ true → m.flags.has_status ≡ true
+  pub numbering_kept : (ps : List (List ℕ)) (s : Part) (m : Member) → s.members x ≡ m → m.is_there ≡ true → m.flags.may_serve ≡ true
       → m.flags.frozen ≡ false → m.bearer.waiting ≡ ps → AreKept sn quota s (number_orders sn quota x ps m.bearer.sender)
   unfolding AreKept number_orders IsReady IsOwed after
   numbering_kept [] s m here there known unfrozen waits = tt
@@ -53,7 +53,7 @@ module _ (sn : SnBits) (quota x : ℕ) where
       by true room rest = (
         (
           ap (λ c. c.is_there) here ∙ there,
-          ap (λ c. c.flags.has_status) here ∙ known,
+          ap (λ c. c.flags.may_serve) here ∙ known,
           ap (λ c. c.flags.frozen) here ∙ unfrozen,
           ap (λ c. c.bearer.waiting) here ∙ waits,
           ap (λ c. has_room sn quota c.bearer.sender) here ∙ room,

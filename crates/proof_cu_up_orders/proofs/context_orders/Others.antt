@@ -174,7 +174,7 @@ module _ {M C P : Type 0} (way : Way M C P) (ue : UeId) (bearer : BearerId) wher
     off_switched du teid b =
         let on : UpBearer = record (thawed b) { downlink = Some (record { du = du; teid = teid; next = 0 }); restart = false } in
         after (deliver_stored way at on) (begin_where_known way at) (off_deliver on)
-        (λ c. either at.flags.has_status (begin_downlink way at c.receiver.deliv (received_bits c.receiver) c) (nothing c)
+        (λ c. either at.flags.may_serve (begin_downlink way at c.receiver.deliv (received_bits c.receiver) c) (nothing c)
         (off_begins c.receiver.deliv (received_bits c.receiver) c) refl)
 
     off_numbered : (es : List (ℕ × List ℕ)) (b : UpBearer) → Quiet (forward_numbered way at es b)

@@ -112,13 +112,13 @@ module _ {M C P : Type 0} (way : Way M C P) (r : CuUp M C) (ue : UeId) (bearer :
     freeze_pass : (peer : Option Peer) (down up : Option (List Tunnel)) → AllPass (freezes_if way bearer peer down up c)
     freeze_pass (Some peer) (Some down) (Some up) =
         none_if _ _ (not_frozen_again c.flags.frozen c.flags.released gone c.flags.arrived (are_bearers (names way c) (bearers_of down))
-        (are_bearers (names way c) (bearers_of up)) c.flags.has_status)
+        (are_bearers (names way c) (bearers_of up)) c.flags.may_serve)
     freeze_pass (Some peer) (Some down) None = tt
     freeze_pass (Some peer) None up = tt
     freeze_pass None down up = tt
 
     knows_pass : (ss : Option (List SnStatus)) → AllPass (knows_if way bearer ss c)
-    knows_pass (Some ss) = pass_if (not (c.flags.has_status || not (are_bearers (names way c) (statuses_of ss)))) (knows (status_in way ss bearer) ∷ []) (tt, tt)
+    knows_pass (Some ss) = pass_if (not (c.flags.may_serve || not (are_bearers (names way c) (statuses_of ss)))) (knows (status_in way ss bearer) ∷ []) (tt, tt)
     knows_pass None = tt
 
     modify_pass : (u : UeId) (instance : ℕ) (downlinks : Option (List Tunnel)) (mode : ℕ) (peer : Option Peer) (down up : Option (List Tunnel))

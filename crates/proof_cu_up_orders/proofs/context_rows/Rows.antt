@@ -174,7 +174,7 @@ module _ {M C P : Type 0} (way : Way M C P) (ue : UeId) (bearer : BearerId) wher
       freeze_here (Some peer) (Some a) (Some b) =
           unless_and way ue bearer now
           (c.flags.frozen || c.flags.released || not c.flags.arrived || not (are_bearers (names way c) (bearers_of a)) || not (are_bearers (names way c) (bearers_of b)))
-          c.flags.has_status _ _ (drops Unexpected r) (replies way ch (e1s.BearerContextModificationFailure ue instance cause_busy) r) unexpected
+          c.flags.may_serve _ _ (drops Unexpected r) (replies way ch (e1s.BearerContextModificationFailure ue instance cause_busy) r) unexpected
           (replies_keep way ue bearer ch (e1s.BearerContextModificationFailure ue instance cause_busy) r order)
           (reply_last (freezes (peer_node way peer) (teid_of a bearer) (teid_of b bearer) ∷ [])
           (answer_with way r ue (as_frozen way c) (each_bearer way row c.bearers)) (modified way ue instance None (Some (statuses way c)))
@@ -192,7 +192,7 @@ module _ {M C P : Type 0} (way : Way M C P) (ue : UeId) (bearer : BearerId) wher
 
       status_here : (list : Option (List SnStatus)) → Is (knows_if way bearer list c) (status_if way ch ue instance list c r)
       unfolding take_status
-      status_here (Some ss) = by c.flags.has_status (are_bearers (names way c) (statuses_of ss)) refl
+      status_here (Some ss) = by c.flags.may_serve (are_bearers (names way c) (statuses_of ss)) refl
         where
           on : UpContext
           on = as_known way c
@@ -266,7 +266,7 @@ module _ {M C P : Type 0} (way : Way M C P) (ue : UeId) (bearer : BearerId) wher
           keeps_if way ue bearer r
           (c.flags.frozen || c.flags.released || not c.flags.arrived || not (are_bearers (names way c) (bearers_of a)) || not (are_bearers (names way c) (bearers_of b)))
           (drops Unexpected r) _ unexpected
-          (keeps_if way ue bearer r (not c.flags.has_status) (replies way ch (e1s.BearerContextModificationFailure u instance cause_busy) r) _
+          (keeps_if way ue bearer r (not c.flags.may_serve) (replies way ch (e1s.BearerContextModificationFailure u instance cause_busy) r) _
           (replies_keep way ue bearer ch (e1s.BearerContextModificationFailure u instance cause_busy) r order)
           (reply_after _ _ (answer_off way ue bearer u other r c (as_frozen way c) (each_bearer way row c.bearers) is order
           (off_bearers way ue bearer row
@@ -280,7 +280,7 @@ module _ {M C P : Type 0} (way : Way M C P) (ue : UeId) (bearer : BearerId) wher
 
       status_off : (list : Option (List SnStatus)) → Same (status_if way ch u instance list c r)
       unfolding take_status
-      status_off (Some ss) = keeps_if way ue bearer r (c.flags.has_status || not (are_bearers (names way c) (statuses_of ss))) (drops Unexpected r) _ unexpected
+      status_off (Some ss) = keeps_if way ue bearer r (c.flags.may_serve || not (are_bearers (names way c) (statuses_of ss))) (drops Unexpected r) _ unexpected
           (reply_after _ _ (answer_off way ue bearer u other r c (as_known way c) (status_each way u (as_known way c) ss c.bearers) is order
           (off_statuses way ue bearer u other (as_known way c) ss c.bearers)))
       status_off None = unexpected

@@ -147,7 +147,7 @@ module _ {M C P : Type 0} (way : Way M C P) where
     hop_after_switch du teid b p =
         let on : UpBearer = record (thawed b) { downlink = Some (record { du = du; teid = teid; next = 0 }); restart = false } in
         after (deliver_stored way at on) (begin_where_known way at) (hop_deliver on p)
-        (λ c q. either at.flags.has_status (begin_downlink way at c.receiver.deliv (received_bits c.receiver) c) (nothing c)
+        (λ c q. either at.flags.may_serve (begin_downlink way at c.receiver.deliv (received_bits c.receiver) c) (nothing c)
         (hop_begins c.receiver.deliv (received_bits c.receiver) c q) q)
 
     pub hop_after_resume : (b : UpBearer) → false ≡ h → Is (resumed way at b)

@@ -17,7 +17,7 @@ module _ {M C P : Type 0} (way : Way M C P) (ue : UeId) (bearer : BearerId) wher
   Part = Option UpPart
 
   -- a row that leaves the hop as the flags say
-  kept_stands : (q : UpPart) (a : Answer M P UpBearer) → (q.at.flags.frozen ≡ true → q.at.flags.has_status ≡ true)
+  kept_stands : (q : UpPart) (a : Answer M P UpBearer) → (q.at.flags.frozen ≡ true → q.at.flags.may_serve ≡ true)
       → (q.at.flags.frozen ≡ true → q.at.flags.arrived ≡ true) → HopIs way q.at.flags.frozen a → StandsAfter (kept_in q a)
   kept_stands q (gives os d) status arrived hop = record { hop = hop; status = status; arrived = arrived }
   kept_stands q (spent k) status arrived hop = tt

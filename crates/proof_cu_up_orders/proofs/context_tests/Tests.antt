@@ -223,17 +223,17 @@ module _ {M C P : Type 0} (way : Way M C P) (r : CuUp M C) (ue : UeId) (bearer :
     freeze_tested (Some peer) (Some down) (Some up) =
         let order : UpOrder P = freezes (peer_node way peer) (teid_of down bearer) (teid_of up bearer) in
         only_tested false (not (c.flags.frozen || c.flags.released || not c.flags.arrived || not (are_bearers (names way c) (bearers_of down))
-        || not (are_bearers (names way c) (bearers_of up))) && c.flags.has_status) (order ∷ [])
+        || not (are_bearers (names way c) (bearers_of up))) && c.flags.may_serve) (order ∷ [])
         (λ e. one_tested false order tt (λ b. may_freeze c.flags.frozen c.flags.released c.flags.arrived (are_bearers (names way c) (bearers_of down))
-        (are_bearers (names way c) (bearers_of up)) c.flags.has_status e))
+        (are_bearers (names way c) (bearers_of up)) c.flags.may_serve e))
     freeze_tested (Some peer) (Some down) None = tt
     freeze_tested (Some peer) None up = tt
     freeze_tested None down up = tt
 
     knows_tested : (ss : Option (List SnStatus)) → Is false (knows_if way bearer ss c)
     knows_tested (Some ss) =
-        only_tested false (not (c.flags.has_status || not (are_bearers (names way c) (statuses_of ss)))) (knows (status_in way ss bearer) ∷ [])
-        (λ e. one_tested false (knows (status_in way ss bearer)) tt (λ b. none_of_two c.flags.has_status (not (are_bearers (names way c) (statuses_of ss))) e))
+        only_tested false (not (c.flags.may_serve || not (are_bearers (names way c) (statuses_of ss)))) (knows (status_in way ss bearer) ∷ [])
+        (λ e. one_tested false (knows (status_in way ss bearer)) tt (λ b. none_of_two c.flags.may_serve (not (are_bearers (names way c) (statuses_of ss))) e))
     knows_tested None = tt
 
     modify_tested : (u : UeId) (instance : ℕ) (downlinks : Option (List Tunnel)) (mode : ℕ) (peer : Option Peer) (down up : Option (List Tunnel))

@@ -52,7 +52,7 @@ module _ {M C P : Type 0} (way : Way M C P) (s : Part) (x : ℕ) where
     switch_shows : (epoch : ℕ) (du : NodeId) (teid : ℕ) → p.at.flags.released ≡ false
         → Shows way s (run s (switch_orders x epoch du teid p)) x (kept_in (on_switch p) (switched way (on_switch p).at du teid b))
     unfolding run after packets_of
-    switch_shows epoch du teid kept = by p.at.flags.has_status refl
+    switch_shows epoch du teid kept = by p.at.flags.may_serve refl
       where
         on : UpPart
         on = on_switch p
@@ -72,14 +72,14 @@ module _ {M C P : Type 0} (way : Way M C P) (s : Part) (x : ℕ) where
         bearer : down_of n.bearer ≡ down_of c
         bearer = ap (λ (u : UpBearer). record u { hop = None; loss_while_frozen = false; taken_while_frozen = []; downlink = Some downlink }) is.bearer
 
-        went : (t : Bool) → p.at.flags.has_status ≡ t
+        went : (t : Bool) → p.at.flags.may_serve ≡ t
             → Went s (after s (switches x downlink epoch)) x n [] (if t then b.sender.unconfirmed else [])
         went t e = subst (λ (es : List (ℕ × List ℕ)). Went s (after s (switches x downlink epoch)) x n [] es)
-            ((λ i. if (is.flags i).has_status then (is.bearer i).sender.unconfirmed else [])
+            ((λ i. if (is.flags i).may_serve then (is.bearer i).sender.unconfirmed else [])
             ∙ ap (λ (k : Bool). if k then b.sender.unconfirmed else []) e)
-            (went_sent s x n n (if m.flags.has_status then m.bearer.sender.unconfirmed else []) refl)
+            (went_sent s x n n (if m.flags.may_serve then m.bearer.sender.unconfirmed else []) refl)
 
-        by : (t : Bool) → p.at.flags.has_status ≡ t
+        by : (t : Bool) → p.at.flags.may_serve ≡ t
             → Shows way s (run s (switches x downlink epoch ∷ (if t then numbers_if x on.at (on_downlink b downlink) else []))) x
             (kept_in on (switched way on.at du teid b))
         by true e =
@@ -107,13 +107,13 @@ module _ {M C P : Type 0} (way : Way M C P) (s : Part) (x : ℕ) where
         c = handed_up (known b status)
 
         n : Member
-        n = record m { flags = record m.flags { has_status = true }; bearer = known m.bearer status }
+        n = record m { flags = record m.flags { may_serve = true }; bearer = known m.bearer status }
 
         t1 : Part
         t1 = after s (knows x status)
 
         flags : n.flags ≡ on.at.flags
-        flags = ap (λ (f : UpFlags). record f { has_status = true }) is.flags
+        flags = ap (λ (f : UpFlags). record f { may_serve = true }) is.flags
 
         bearer : down_of n.bearer ≡ down_of c
         bearer = ap (λ (u : UpBearer). record u { dl_next = status.dl_next; sender = record u.sender { next = status.dl_next } }) is.bearer

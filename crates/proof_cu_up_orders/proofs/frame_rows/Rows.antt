@@ -200,11 +200,11 @@ module _ {M C P : Type 0} (way : Way M C P) (at : UpAt) where
 
   switched_one : (b : UpBearer) (du : NodeId) (teid : ℕ)
       → let c = handed_up (anew b (record { du = du; teid = teid; next = 0 })) in
-      Puts way at (Some (record { node = du; teid = teid })) (if at.flags.has_status
+      Puts way at (Some (record { node = du; teid = teid })) (if at.flags.may_serve
       then and_then (sent_anew c.receiver.deliv (received_bits c.receiver) c) (λ d. packets_sent (packets_if at c) d) else none_sent c)
       (switched way at du teid b)
   unfolding switched deliver_stored
-  switched_one b du teid = by at.flags.has_status
+  switched_one b du teid = by at.flags.may_serve
     where
       on : UpBearer
       on = anew b (record { du = du; teid = teid; next = 0 })

@@ -52,7 +52,7 @@ module _ (s : Part) (x : ℕ) (p : UpPart) (is : IsDown (s.members x) p) (facts 
       c = handed_up (known b status)
 
       n : Member
-      n = record m { flags = record m.flags { has_status = true }; bearer = known m.bearer status }
+      n = record m { flags = record m.flags { may_serve = true }; bearer = known m.bearer status }
 
       t0 : Part
       t0 = changed s x n

@@ -64,7 +64,7 @@ module _ (sn : SnBits) (quota : ℕ) (s : Part) (x : ℕ) (p : UpPart) (is : IsD
   status_free : (status : SnStatus) → AreKept sn quota s (status_orders x status p) → p.at.flags.arrived ≡ true → m.flags.frozen ≡ false
   unfolding AreKept IsReady after
   status_free status kept e =
-      let n : Member = record m { flags = record m.flags { has_status = true }; bearer = known m.bearer status } in
+      let n : Member = record m { flags = record m.flags { may_serve = true }; bearer = known m.bearer status } in
       let behind = subst (λ (u : Bool). AreKept sn quota (after s (knows x status))
       (if u then sends_again x ∷ numbers_if x (on_status p).at (known b status) else [])) e kept.2 in
       ap (λ (k : Member). k.flags.frozen) (sym (set_here s.members x n)) ∙ behind.0.1
@@ -76,7 +76,7 @@ module _ (sn : SnBits) (quota : ℕ) (s : Part) (x : ℕ) (p : UpPart) (is : IsD
   order_one beside (ups.adds teid) on kept = still
   order_one beside (ups.switches du teid) on kept = absurd on
   order_one beside (ups.freezes peer down up) on kept = control.freeze_one s x p is facts w i beside.to (hop_to peer down up) kept.0.2
-      (λ e. absurd (true≢false (sym kept.0.1 ∙ ap (λ (q : ℕ). (s.members q).flags.has_status) (sym e) ∙ kept.1.2.status)))
+      (λ e. absurd (true≢false (sym kept.0.1 ∙ ap (λ (q : ℕ). (s.members q).flags.may_serve) (sym e) ∙ kept.1.2.status)))
   order_one beside (ups.knows status) on kept = control.status_one s x p is facts w i status (status_free status kept)
   order_one beside ups.resumes on kept = control.resume_one s x p is facts w i kept.0.1
   order_one beside ups.releases on kept = control.release_one s x p is facts w i

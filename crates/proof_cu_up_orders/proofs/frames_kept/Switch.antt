@@ -43,7 +43,7 @@ module _ (s : Part) (x : ℕ) (p : UpPart) (is : IsDown (s.members x) p) (facts 
       → let t = run s (switch_orders x epoch to teid p) in Later t x
       → IsSending t x (sent_by_switch p to teid).bearer (record { du = fresh teid; frames = (sent_by_switch p to teid).frames; waits = waits })
   unfolding run after packets_sent HasNoGap reach
-  switch_begins epoch to teid present = by p.at.flags.has_status refl
+  switch_begins epoch to teid present = by p.at.flags.may_serve refl
     where
       downlink : Downlink
       downlink = record { du = to; teid = teid; next = 0 }
@@ -55,7 +55,7 @@ module _ (s : Part) (x : ℕ) (p : UpPart) (is : IsDown (s.members x) p) (facts 
       n = record m { flags = record m.flags { frozen = false; arrived = true }; bearer = on_downlink m.bearer downlink; epoch = epoch }
 
       first : Packets
-      first = if m.flags.has_status then m.bearer.sender.unconfirmed else []
+      first = if m.flags.may_serve then m.bearer.sender.unconfirmed else []
 
       t1 : Part
       t1 = sent (changed s x n) n first
@@ -66,7 +66,7 @@ module _ (s : Part) (x : ℕ) (p : UpPart) (is : IsDown (s.members x) p) (facts 
       as_one : Sending
       as_one = sent_anew c.receiver.deliv (received_bits c.receiver) c
 
-      knows_it : p.at.flags.has_status ≡ true → let t = run t1 (numbers_if x (on_switch p).at (on_downlink b downlink)) in Later t x
+      knows_it : p.at.flags.may_serve ≡ true → let t = run t1 (numbers_if x (on_switch p).at (on_downlink b downlink)) in Later t x
           → IsSending t x (and_then as_one (λ d. packets_sent (packets_if (on_switch p).at c) d)).bearer
           (record { du = fresh teid; frames = (and_then as_one (λ d. packets_sent (packets_if (on_switch p).at c) d)).frames; waits = waits })
       knows_it known behind =
@@ -76,7 +76,7 @@ module _ (s : Part) (x : ℕ) (p : UpPart) (is : IsDown (s.members x) p) (facts 
           (ap (λ (u : UpBearer). u.waiting) is.bearer) (ap (λ (u : UpBearer). u.sender) is.bearer) in
           let un : m.bearer.sender.unconfirmed ≡ b.sender.unconfirmed = ap (λ (u : UpBearer). u.sender.unconfirmed) is.bearer in
           let all_there : first ≡ b.sender.unconfirmed =
-          ap (λ (f : UpFlags). if f.has_status then m.bearer.sender.unconfirmed else []) is.flags
+          ap (λ (f : UpFlags). if f.may_serve then m.bearer.sender.unconfirmed else []) is.flags
           ∙ ap (λ (u : Bool). if u then m.bearer.sender.unconfirmed else []) known ∙ un in
           let member_free : k.member.flags.frozen ≡ false = ap (λ (f : UpFlags). f.frozen) k.flags in
           let keeps : k.member.flags.released ≡ false =
@@ -96,17 +96,17 @@ module _ (s : Part) (x : ℕ) (p : UpPart) (is : IsDown (s.members x) p) (facts 
           (subst (λ (i : ℕ). reach s.terminal.deliv m.bearer.sender.unconfirmed ≤ reach i m.bearer.sender.unconfirmed) same (omega arith)))
           (λ e. absurd (true≢false (sym e)))
 
-      waits_for_it : p.at.flags.has_status ≡ false → Later t1 x
+      waits_for_it : p.at.flags.may_serve ≡ false → Later t1 x
           → IsSending t1 x c (record { du = fresh teid; frames = []; waits = waits })
       waits_for_it unknown behind =
           let g = goes s t1 x n [] first went present is.there in
           let none_there : first ≡ [] =
-          ap (λ (f : UpFlags). if f.has_status then m.bearer.sender.unconfirmed else []) is.flags
+          ap (λ (f : UpFlags). if f.may_serve then m.bearer.sender.unconfirmed else []) is.flags
           ∙ ap (λ (u : Bool). if u then m.bearer.sender.unconfirmed else []) unknown in
           let same : s.terminal.deliv ≡ t1.terminal.deliv = ap (λ r. r.deliv) (sym g.terminal) in
           let keeps : n.flags.released ≡ false =
           ap (λ (o : Member). o.flags.released) (sym g.here) ∙ (facts_here s t1 x n first g behind).serves (ap (λ (o : Member). o.flags.frozen) g.here) in
-          let none_held : m.bearer.sender.unconfirmed ≡ [] = facts.early (ap (λ (f : UpFlags). f.has_status) is.flags ∙ unknown) keeps in
+          let none_held : m.bearer.sender.unconfirmed ≡ [] = facts.early (ap (λ (f : UpFlags). f.may_serve) is.flags ∙ unknown) keeps in
           let begun : IsSender t1 c (fresh teid) [] waits t1.terminal.deliv = record {
             downlink = downlink;
             there = refl;
@@ -118,7 +118,7 @@ module _ (s : Part) (x : ℕ) (p : UpPart) (is : IsDown (s.members x) p) (facts 
           (λ e. subst (λ (xs : Packets). reach s.terminal.deliv xs ≤ t1.terminal.deliv) (sym none_held) (omega (arith, same)))
           (λ e. absurd (true≢false (sym e)))
 
-      by : (u : Bool) → p.at.flags.has_status ≡ u
+      by : (u : Bool) → p.at.flags.may_serve ≡ u
           → let t = run s (switches x downlink epoch ∷ (if u then numbers_if x (on_switch p).at (on_downlink b downlink) else [])) in Later t x
           → IsSending t x (if u then and_then as_one (λ d. packets_sent (packets_if (on_switch p).at c) d) else none_sent c).bearer
           (record { du = fresh teid; frames = (if u then and_then as_one (λ d. packets_sent (packets_if (on_switch p).at c) d) else none_sent c).frames; waits = waits })

@@ -196,14 +196,14 @@ module _ {M C P : Type 0} (way : Way M C P) (at : UpAt) where
   abbrev on_new : UpBearer → NodeId → ℕ → UpBearer
   on_new b du teid = record (thawed b) { downlink = Some (record { du = du; teid = teid; next = 0 }); restart = false }
 
-  begins_known : (d : UpBearer) → at.flags.has_status ≡ true
+  begins_known : (d : UpBearer) → at.flags.may_serve ≡ true
       → begin_where_known way at d ≡ begin_downlink way at d.receiver.deliv (received_bits d.receiver) d
   begins_known d known i = if known i then begin_downlink way at d.receiver.deliv (received_bits d.receiver) d else nothing d
 
-  begins_unknown : (d : UpBearer) → at.flags.has_status ≡ false → begin_where_known way at d ≡ nothing d
+  begins_unknown : (d : UpBearer) → at.flags.may_serve ≡ false → begin_where_known way at d ≡ nothing d
   begins_unknown d unknown i = if unknown i then begin_downlink way at d.receiver.deliv (received_bits d.receiver) d else nothing d
 
-  pub switch_begins : (du : NodeId) (teid : ℕ) (b : UpBearer) → at.flags.has_status ≡ true → at.flags.frozen ≡ false
+  pub switch_begins : (du : NodeId) (teid : ℕ) (b : UpBearer) → at.flags.may_serve ≡ true → at.flags.frozen ≡ false
       → at.flags.released ≡ false → let c = handed_up (on_downlink b (record { du = du; teid = teid; next = 0 })) in
       Does way at.sn (begun at.sn at.quota c.receiver.deliv (received_bits c.receiver) c)
       (deliver b.receiver).packets (numbered_all at.sn at.quota c) (switched way at du teid b)
@@ -221,7 +221,7 @@ module _ {M C P : Type 0} (way : Way M C P) (at : UpAt) where
       (numbered_all at.sn at.quota d) (begin_downlink way at d.receiver.deliv (received_bits d.receiver) d)) e
       (begins unfrozen kept d.receiver.deliv (received_bits d.receiver) d (still_there d.downlink c.downlink (ap (λ u. u.downlink) e) refl)))))
 
-  pub switch_waits : (du : NodeId) (teid : ℕ) (b : UpBearer) → at.flags.has_status ≡ false
+  pub switch_waits : (du : NodeId) (teid : ℕ) (b : UpBearer) → at.flags.may_serve ≡ false
       → Does way at.sn [] (deliver b.receiver).packets (handed_up (on_downlink b (record { du = du; teid = teid; next = 0 })))
       (switched way at du teid b)
   unfolding switched Does items_of items_up pdus_of delivered_in

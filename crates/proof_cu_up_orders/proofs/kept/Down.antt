@@ -42,7 +42,7 @@ some_still (Some h) = refl
 
 -- what waits is numbered, where the context has its SN status
 numbers_kept : (x : ℕ) (at : UpAt) (t : Part) (n : Member) (c : UpBearer) → t.members x ≡ n → n.is_there ≡ true → n.flags ≡ at.flags
-    → at.flags.has_status ≡ true → down_of n.bearer ≡ down_of c → AreKept at.sn at.quota t (numbers_if x at c)
+    → at.flags.may_serve ≡ true → down_of n.bearer ≡ down_of c → AreKept at.sn at.quota t (numbers_if x at c)
 unfolding AreKept
 numbers_kept x at t n c here there flags status same = by (serves_none at c) refl
   where
@@ -50,7 +50,7 @@ numbers_kept x at t n c here there flags status same = by (serves_none at c) ref
     by true e = tt
     by false e =
         subst (λ (u : UpBearer). AreKept at.sn at.quota t (number_orders at.sn at.quota x u.waiting u.sender)) same
-        (numbering_kept at.sn at.quota x n.bearer.waiting t n here there (ap (λ (f : UpFlags). f.has_status) flags ∙ status)
+        (numbering_kept at.sn at.quota x n.bearer.waiting t n here there (ap (λ (f : UpFlags). f.may_serve) flags ∙ status)
         (ap (λ (f : UpFlags). f.frozen) flags ∙ unfrozen_one at.flags.frozen at.flags.released _ e) refl)
 
 module _ (s : Part) (x : ℕ) (p : UpPart) (is : IsDown (s.members x) p) where
@@ -69,9 +69,9 @@ module _ (s : Part) (x : ℕ) (p : UpPart) (is : IsDown (s.members x) p) where
   -- ---- items
 
   module _ {P : Type 0} (kind : TunnelKind) (item : Taken P) (passes : held_reason p.at b kind item ≡ None) where
-    unheld : (first_held (held_as_target p.at.flags kind b) ≡ None) × (p.at.flags.has_status ≡ true)
+    unheld : (first_held (held_as_target p.at.flags kind b) ≡ None) × (p.at.flags.may_serve ≡ true)
     unfolding held_reason
-    unheld = tests_passed p.at.flags.has_status p.at.flags.arrived _ (held_by_room p.at b kind item) passes
+    unheld = tests_passed p.at.flags.may_serve p.at.flags.arrived _ (held_by_room p.at b kind item) passes
 
     taken : (items : List Item) (one : Item) (rest : List Item) → items ≡ one ∷ rest → IsTaken kind items m one rest
     taken items one rest stands = record {
@@ -213,7 +213,7 @@ module _ (s : Part) (x : ℕ) (p : UpPart) (is : IsDown (s.members x) p) where
   switch_kept : (epoch : ℕ) (du : NodeId) (teid : ℕ) → IsOwed s (switches x (record { du = du; teid = teid; next = 0 }) epoch)
       → Kept s (switch_orders x epoch du teid p)
   unfolding AreKept IsReady after
-  switch_kept epoch du teid owed = (is.there, owed, by p.at.flags.has_status refl)
+  switch_kept epoch du teid owed = (is.there, owed, by p.at.flags.may_serve refl)
     where
       downlink : Downlink
       downlink = record { du = du; teid = teid; next = 0 }
@@ -221,7 +221,7 @@ module _ (s : Part) (x : ℕ) (p : UpPart) (is : IsDown (s.members x) p) where
       n : Member
       n = record m { flags = record m.flags { frozen = false; arrived = true }; bearer = on_downlink m.bearer downlink; epoch = epoch }
 
-      by : (t : Bool) → p.at.flags.has_status ≡ t
+      by : (t : Bool) → p.at.flags.may_serve ≡ t
           → Kept (after s (switches x downlink epoch)) (if t then numbers_if x (on_switch p).at (on_downlink b downlink) else [])
       by true e =
           numbers_kept x (on_switch p).at (after s (switches x downlink epoch)) n (on_downlink b downlink) (set_here s.members x n) is.there
@@ -229,13 +229,13 @@ module _ (s : Part) (x : ℕ) (p : UpPart) (is : IsDown (s.members x) p) where
           (ap (λ (u : UpBearer). record u { hop = None; loss_while_frozen = false; taken_while_frozen = []; downlink = Some (record downlink { next = 0 }) }) is.bearer)
       by false e = tt
 
-  sn_status_kept : (status : SnStatus) → p.at.flags.has_status ≡ false → (p.at.flags.arrived ≡ true → p.at.flags.frozen ≡ false) → IsOwed s (knows x status)
+  sn_status_kept : (status : SnStatus) → p.at.flags.may_serve ≡ false → (p.at.flags.arrived ≡ true → p.at.flags.frozen ≡ false) → IsOwed s (knows x status)
       → Kept s (status_orders x status p)
   unfolding AreKept IsReady IsOwed after
-  sn_status_kept status none asked owed = ((is.there, ap (λ (f : UpFlags). f.has_status) is.flags ∙ none), owed, by p.at.flags.arrived refl)
+  sn_status_kept status none asked owed = ((is.there, ap (λ (f : UpFlags). f.may_serve) is.flags ∙ none), owed, by p.at.flags.arrived refl)
     where
       n : Member
-      n = record m { flags = record m.flags { has_status = true }; bearer = known m.bearer status }
+      n = record m { flags = record m.flags { may_serve = true }; bearer = known m.bearer status }
 
       t : Part
       t = changed s x n
@@ -248,12 +248,12 @@ module _ (s : Part) (x : ℕ) (p : UpPart) (is : IsDown (s.members x) p) where
         (ap (λ (q : Member). q.is_there) here ∙ is.there, ap (λ (q : Member). q.flags.frozen) here ∙ frozen_is false (asked e)),
         tt,
         numbers_kept x (on_status p).at (after t (sends_again x)) n (known b status) here is.there
-            (ap (λ (f : UpFlags). record f { has_status = true }) is.flags) refl
+            (ap (λ (f : UpFlags). record f { may_serve = true }) is.flags) refl
             (ap (λ (u : UpBearer). record u { dl_next = status.dl_next; sender = record u.sender { next = status.dl_next } }) is.bearer),
       )
       by false e = tt
 
-  resume_kept : p.at.flags.frozen ≡ true → p.at.flags.has_status ≡ true → IsOwed s (resumes x)
+  resume_kept : p.at.flags.frozen ≡ true → p.at.flags.may_serve ≡ true → IsOwed s (resumes x)
       → Kept s (resumes x ∷ numbers_if x (on_resume p).at (thawed b))
   unfolding AreKept IsReady after
   resume_kept f status owed =
@@ -264,7 +264,7 @@ module _ (s : Part) (x : ℕ) (p : UpPart) (is : IsDown (s.members x) p) where
             (ap (λ (g : UpFlags). record g { frozen = false }) is.flags) status (ap (λ (u : UpBearer). thawed u) is.bearer),
       )
 
-  pub control_kept : {P : Type 0} → (p.at.flags.frozen ≡ true → p.at.flags.has_status ≡ true) → (epoch : ℕ) (final : Bool) (order : UpOrder P)
+  pub control_kept : {P : Type 0} → (p.at.flags.frozen ≡ true → p.at.flags.may_serve ≡ true) → (epoch : ℕ) (final : Bool) (order : UpOrder P)
       → IsTested final p order → IsAsked p order → ControlOwes s x epoch order → Kept s (control_orders x epoch p order)
   unfolding AreKept IsReady
   control_kept known epoch final (ups.switches du teid) tested asked owed = switch_kept epoch du teid owed
@@ -273,10 +273,10 @@ module _ (s : Part) (x : ℕ) (p : UpPart) (is : IsDown (s.members x) p) where
   control_kept known epoch final ups.releases tested asked owed = (is.there, owed, tt)
   control_kept known epoch final order tested asked owed = tt
 
-  pub freeze_kept : p.at.flags.frozen ≡ false → p.at.flags.has_status ≡ true → (to : ℕ) (hop : SourceHop) → IsOwed s (freezes x to hop)
+  pub freeze_kept : p.at.flags.frozen ≡ false → p.at.flags.may_serve ≡ true → (to : ℕ) (hop : SourceHop) → IsOwed s (freezes x to hop)
       → Kept s (freezes x to hop ∷ [])
   unfolding AreKept IsReady
-  freeze_kept f status to hop owed = ((is.there, ap (λ (g : UpFlags). g.has_status) is.flags ∙ status, frozen_is false f), owed, tt)
+  freeze_kept f status to hop owed = ((is.there, ap (λ (g : UpFlags). g.may_serve) is.flags ∙ status, frozen_is false f), owed, tt)
 
 -- ---- a context ends
 

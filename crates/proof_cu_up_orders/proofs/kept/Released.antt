@@ -140,7 +140,7 @@ module _ (x : ℕ) (p : UpPart) where
 
   pub control_none : {P : Type 0} (epoch : ℕ) (order : UpOrder P) → TakeNone (down_rows.control_orders x epoch p order)
   unfolding TakeNone
-  control_none epoch (ups.switches du teid) = (tt, by p.at.flags.has_status)
+  control_none epoch (ups.switches du teid) = (tt, by p.at.flags.may_serve)
     where
       c : UpBearer
       c = down.on_downlink p.bearer (record { du = du; teid = teid; next = 0 })

@@ -46,7 +46,7 @@ module _ (s : Part) (x : ℕ) (p : UpPart) (is : IsUp (s.members x) p) where
   module _ {P : Type 0} (item : Taken P) where
     tests_there : (kind : TunnelKind) → held_reason p.at b kind item ≡ None → first_held (held_as_target p.at.flags kind b) ≡ None
     unfolding held_reason
-    tests_there kind passes = tests_passed p.at.flags.has_status p.at.flags.arrived _ (held_by_room p.at b kind item) passes
+    tests_there kind passes = tests_passed p.at.flags.may_serve p.at.flags.arrived _ (held_by_room p.at b kind item) passes
 
     from_uplink : (teid : ℕ) (one : Item) (rest : List Item) → held_reason p.at b f1u_uplink item ≡ None → IsOpen m (uplink_tunnel teid)
         → m.uplink teid ≡ one ∷ rest → IsTaken m (uplink_tunnel teid) one rest
@@ -78,10 +78,10 @@ module _ (s : Part) (x : ℕ) (p : UpPart) (is : IsUp (s.members x) p) where
 
   -- ---- control
 
-  sn_status_kept : (status : SnStatus) → p.at.flags.has_status ≡ false → IsOwed s (knows x status) → (p.at.flags.arrived ≡ true → x ≡ s.station)
+  sn_status_kept : (status : SnStatus) → p.at.flags.may_serve ≡ false → IsOwed s (knows x status) → (p.at.flags.arrived ≡ true → x ≡ s.station)
       → AreKept s (status_orders x status p)
   unfolding AreKept IsReady IsOwed after
-  sn_status_kept status none owed station = (ap (λ (f : UpFlags). f.has_status) is.flags ∙ none, owed, by p.at.flags.arrived refl)
+  sn_status_kept status none owed station = (ap (λ (f : UpFlags). f.may_serve) is.flags ∙ none, owed, by p.at.flags.arrived refl)
     where
       by : (a : Bool) → p.at.flags.arrived ≡ a → AreKept (after s (knows x status)) (if a then resumes x ∷ [] else [])
       by true e = (tt, station e, tt)
@@ -97,11 +97,11 @@ module _ (s : Part) (x : ℕ) (p : UpPart) (is : IsUp (s.members x) p) where
   control_kept final ups.releases tested owed = (tt, owed, tt)
   control_kept final order tested owed = tt
 
-  pub freeze_kept : p.at.flags.has_status ≡ true → p.at.flags.arrived ≡ true → (to : ℕ) (hop : SourceHop) → IsOwed s (freezes x to hop)
+  pub freeze_kept : p.at.flags.may_serve ≡ true → p.at.flags.arrived ≡ true → (to : ℕ) (hop : SourceHop) → IsOwed s (freezes x to hop)
       → AreKept s (freezes x to hop ∷ [])
   unfolding AreKept IsReady
   freeze_kept status arrived to hop owed =
-      ((ap (λ (f : UpFlags). f.has_status) is.flags ∙ status, ap (λ (f : UpFlags). f.arrived) is.flags ∙ arrived), owed, tt)
+      ((ap (λ (f : UpFlags). f.may_serve) is.flags ∙ status, ap (λ (f : UpFlags). f.arrived) is.flags ∙ arrived), owed, tt)
 
   -- ---- the end of a context where nothing comes any more
 

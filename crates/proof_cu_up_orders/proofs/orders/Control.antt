@@ -71,7 +71,7 @@ module _ {M C P : Type 0} (way : Way M C P) (s : Part) (x : ℕ) (p : UpPart) (i
   switch_shows : (du : NodeId) (teid : ℕ) → p.at.flags.released ≡ false
       → Shows s (run s (switches x ∷ [])) x (kept_in (on_switch p) (switched way (on_switch p).at du teid b))
   unfolding run after
-  switch_shows du teid kept = by p.at.flags.has_status refl
+  switch_shows du teid kept = by p.at.flags.may_serve refl
     where
       on : UpPart
       on = on_switch p
@@ -82,7 +82,7 @@ module _ {M C P : Type 0} (way : Way M C P) (s : Part) (x : ℕ) (p : UpPart) (i
       flags : k.flags ≡ on.at.flags
       flags = ap (λ (f : UpFlags). record f { frozen = false; arrived = true }) is.flags
 
-      by : (t : Bool) → p.at.flags.has_status ≡ t → Shows s (handed s x k (deliver m.bearer.receiver)) x (kept_in on (switched way on.at du teid b))
+      by : (t : Bool) → p.at.flags.may_serve ≡ t → Shows s (handed s x k (deliver m.bearer.receiver)) x (kept_in on (switched way on.at du teid b))
       by true e = shown_row on (handed s x k (deliver m.bearer.receiver)) (record k { bearer = record k.bearer { receiver = (deliver m.bearer.receiver).after } })
           on.at.sn _ (deliver b.receiver).packets _ (switched way on.at du teid b) is.there flags thawed_up (went_up k)
           (switch_begins way on.at du teid b e refl kept)
@@ -115,7 +115,7 @@ module _ {M C P : Type 0} (way : Way M C P) (s : Part) (x : ℕ) (p : UpPart) (i
       on = on_status p
 
       n : Member
-      n = record m { flags = record m.flags { has_status = true }; bearer = known m.bearer status }
+      n = record m { flags = record m.flags { may_serve = true }; bearer = known m.bearer status }
 
       t1 : Part
       t1 = changed s x n
@@ -127,7 +127,7 @@ module _ {M C P : Type 0} (way : Way M C P) (s : Part) (x : ℕ) (p : UpPart) (i
       k = record (t1.members x) { flags = record (t1.members x).flags { frozen = false }; bearer = thawed (t1.members x).bearer }
 
       flags : n.flags ≡ on.at.flags
-      flags = ap (λ (f : UpFlags). record f { has_status = true }) is.flags
+      flags = ap (λ (f : UpFlags). record f { may_serve = true }) is.flags
 
       given : up_of n.bearer ≡ up_of (known b status)
       given = ap (λ (u : UpBearer). record u { receiver = record u.receiver { deliv = status.ul_first } }) is.bearer

@@ -16,7 +16,7 @@ pub record Facts (d : Part) (m : Member) : Type 0 where
   pub no_gap : m.flags.released ≡ false → HasNoGap d.terminal.deliv m.bearer.sender.unconfirmed
   pub serves : m.flags.frozen ≡ false → m.flags.released ≡ false
   -- before its SN status it holds nothing
-  pub early : m.flags.has_status ≡ false → m.flags.released ≡ false → m.bearer.sender.unconfirmed ≡ []
+  pub early : m.flags.may_serve ≡ false → m.flags.released ≡ false → m.bearer.sender.unconfirmed ≡ []
   -- what it holds last is above the others
   pub below : m.flags.released ≡ false → (us : List (ℕ × List ℕ)) (e : ℕ × List ℕ) → m.bearer.sender.unconfirmed ≡ us ++ e ∷ []
       → AllByRecursion (λ (u : ℕ × List ℕ). u.0 < e.0) us

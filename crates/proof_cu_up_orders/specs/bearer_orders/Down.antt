@@ -59,7 +59,7 @@ AsksItem s x b p kind item = IsOfUplink kind item ⊎ (IsFit p kind item × Stan
 
 -- as a CU-UP tests before a freeze
 abbrev pub IsFreezable : UpPart → Type 0
-IsFreezable p = (p.at.flags.frozen ≡ false) × (p.at.flags.released ≡ false) × (p.at.flags.arrived ≡ true) × (p.at.flags.has_status ≡ true)
+IsFreezable p = (p.at.flags.frozen ≡ false) × (p.at.flags.released ≡ false) × (p.at.flags.arrived ≡ true) × (p.at.flags.may_serve ≡ true)
 
 abbrev pub Asks : {P : Type 0} → Part → ℕ → Beside → UpPart → UpOrder P → Type 0
 Asks s x b p (ups.takes kind teid item) = Stands p × (held_reason p.at p.bearer kind item ≡ None) × AsksItem s x b p kind item
@@ -67,7 +67,7 @@ Asks s x b p (ups.freezes peer down up) = IsFreezable p × IsOwed s (freezes x b
 Asks s x b p ups.closes = IsOwed s (closes x)
 Asks s x b p (ups.makes instance sn quota target teid) = ⊤
 Asks s x b p order =
-    (p.at.flags.frozen ≡ true → p.at.flags.has_status ≡ true) × IsTested b.final p order × IsAsked p order × ControlOwes s x b.epoch order
+    (p.at.flags.frozen ≡ true → p.at.flags.may_serve ≡ true) × IsTested b.final p order × IsAsked p order × ControlOwes s x b.epoch order
 
 abbrev pub AsksAnew : {P : Type 0} → SnBits → ℕ → Part → ℕ → UpOrder P → Type 0
 AsksAnew sn quota s x (ups.makes instance its_sn its_quota target teid) = (its_sn ≡ sn) × (its_quota ≡ quota) × IsOwed s (makes x target teid)

@@ -106,7 +106,7 @@ module _ {M C P : Type 0} (way : Way M C P) where
   abbrev pub freezes_if : BearerId → Option Peer → Option (List Tunnel) → Option (List Tunnel) → UpContext → Orders
   freezes_if bearer (Some peer) (Some down) (Some up) c =
       only_if (not (c.flags.frozen || c.flags.released || not c.flags.arrived || not (are_bearers (names way c) (bearers_of down)) || not (are_bearers (names way c) (bearers_of up)))
-      && c.flags.has_status)
+      && c.flags.may_serve)
       (freezes (peer_node way peer) (teid_of down bearer) (teid_of up bearer) ∷ [])
   freezes_if bearer peer down up c = []
 
@@ -116,7 +116,7 @@ module _ {M C P : Type 0} (way : Way M C P) where
   status_in (s ∷ ss) bearer = if eq_by_cmp bearer_cmp bearer s.bearer then s else status_in ss bearer
 
   abbrev pub knows_if : BearerId → Option (List SnStatus) → UpContext → Orders
-  knows_if bearer (Some ss) c = only_if (not (c.flags.has_status || not (are_bearers (names way c) (statuses_of ss)))) (knows (status_in ss bearer) ∷ [])
+  knows_if bearer (Some ss) c = only_if (not (c.flags.may_serve || not (are_bearers (names way c) (statuses_of ss)))) (knows (status_in ss bearer) ∷ [])
   knows_if bearer None c = []
 
   abbrev pub modify_orders : CuUp M C → BearerId → E1Message → Option UpContext → Orders

@@ -66,7 +66,7 @@ abbrev pub on_freeze : UpPart → UpPart
 on_freeze p = with_flags p (record p.at.flags { frozen = true })
 
 abbrev pub on_status : UpPart → UpPart
-on_status p = with_flags p (record p.at.flags { has_status = true })
+on_status p = with_flags p (record p.at.flags { may_serve = true })
 
 abbrev pub on_resume : UpPart → UpPart
 on_resume p = with_flags p (record p.at.flags { frozen = false })

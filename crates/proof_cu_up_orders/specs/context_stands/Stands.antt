@@ -6,7 +6,7 @@ use Rattle.proof_cu_up_orders.specs.context_orders.Orders.{UpPart}
 
 pub record Stands (p : UpPart) : Type 0 where
   pub hop : is_some p.bearer.hop ≡ p.at.flags.frozen
-  pub status : p.at.flags.frozen ≡ true → p.at.flags.has_status ≡ true
+  pub status : p.at.flags.frozen ≡ true → p.at.flags.may_serve ≡ true
   pub arrived : p.at.flags.frozen ≡ true → p.at.flags.arrived ≡ true
 
 abbrev pub StandsIn : Option UpPart → Type 0

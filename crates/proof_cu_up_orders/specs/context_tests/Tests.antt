@@ -22,8 +22,8 @@ IsTested final p (makes instance sn quota target teid) = ⊥
 IsTested final p (adds teid) = p.at.flags.released ≡ false
 IsTested final p (switches du teid) = p.at.flags.released ≡ false
 IsTested final p (freezes peer down up) =
-    (p.at.flags.frozen ≡ false) × (p.at.flags.released ≡ false) × (p.at.flags.arrived ≡ true) × (p.at.flags.has_status ≡ true)
-IsTested final p (knows status) = p.at.flags.has_status ≡ false
+    (p.at.flags.frozen ≡ false) × (p.at.flags.released ≡ false) × (p.at.flags.arrived ≡ true) × (p.at.flags.may_serve ≡ true)
+IsTested final p (knows status) = p.at.flags.may_serve ≡ false
 IsTested final p resumes = (p.at.flags.frozen ≡ true) × (p.at.flags.released ≡ false)
 IsTested final p releases = final ≡ false
 IsTested final p closes = final ≡ false → IsOver p

@@ -86,7 +86,7 @@ item_orders x p rest kind item = []
 abbrev pub switch_orders : ℕ → ℕ → NodeId → ℕ → UpPart → List Order
 switch_orders x epoch du teid p =
     let downlink : Downlink = record { du = du; teid = teid; next = 0 } in
-    switches x downlink epoch ∷ (if p.at.flags.has_status then numbers_if x (on_switch p).at (on_downlink p.bearer downlink) else [])
+    switches x downlink epoch ∷ (if p.at.flags.may_serve then numbers_if x (on_switch p).at (on_downlink p.bearer downlink) else [])
 
 abbrev pub status_orders : ℕ → SnStatus → UpPart → List Order
 status_orders x status p =

@@ -55,7 +55,7 @@ switched_to p du teid = handed_up (anew p.bearer (record { du = du; teid = teid;
 abbrev pub sent_by_switch : UpPart → NodeId → ℕ → Sending
 sent_by_switch p du teid =
     let c = switched_to p du teid in
-    if p.at.flags.has_status
+    if p.at.flags.may_serve
     then and_then (sent_anew c.receiver.deliv (received_bits c.receiver) c) (λ b. packets_sent (packets_if (on_switch p).at c) b)
     else none_sent c
 

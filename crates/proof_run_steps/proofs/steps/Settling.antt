@@ -23,7 +23,7 @@ use Rattle.transport_defs.specs.declared.Item.{Item}
 use Rattle.transport_defs.specs.Links.{nth}
 use Rattle.run_defs.specs.States.{State, order_for, World, goes, goes_on, Outcome, as_step, prints, radio_of}
 use Rattle.run_defs.specs.Steps.{Done, is_done, is_held, is_refused, does}
-use Rattle.run_defs.specs.Conditions.{serving_gnb, serving_place, state_at, ready_home, epoch_of, receiver_of, rests, ask_line}
+use Rattle.run_defs.specs.Conditions.{serving_gnb, serving_place, state_at, has_home, ready_home, epoch_of, receiver_of, rests, ask_line}
 use Rattle.run_defs.specs.Events.{get_done, carry_done, confirm_done, pump, tick}
 use Rattle.run_defs.specs.Settling.{attached_plans, attached_entities, attached_bearers, Turn, to_acks, to_airs, after_air, after_ack, quietly_by, quiet_order, move_by, move_each, got_in_turn, get_items, get_times, tunnel_turn, tunnels_from, most_tunnels, all_tunnels, aired_by, air_next, acked_by, turn_over, ack_next, turn_at, turn_step, turn_times, radio_turn, all_radios, poll_at, poll_each, round, ask_lines, all_quiet, rounds_from, round_limit, settle}
 use Rattle.proof_run_steps.specs.steps.Causes.{IsNoAttach, by_order, by_item, by_air, by_ack}
@@ -45,7 +45,9 @@ module _ {M C L P : Type 0} (world : World M C L P) (event : Event) where
 
   goes_move_by : (ue : UeId) (state : UeState) → Keeps world event (λ s. move_by world ue s state)
   goes_move_by ue ue_states.Accessing s = goes_quiet_order (Ue ue.0) (orders.Arrive ue) tt s
-  goes_move_by ue ue_states.Lost s = goes_quiet_order (Ue ue.0) (orders.Return ue) tt s
+  goes_move_by ue ue_states.Lost s =
+      choose world event s (has_home s ue) (quiet_order world (Ue ue.0) (orders.Return ue) s) (goes_on s)
+      (λ there. goes_quiet_order (Ue ue.0) (orders.Return ue) tt s) (λ never. stays s)
   goes_move_by ue state s = stays s
 
   goes_move_each : (es : List (UeId × Plan)) → Keeps world event (move_each world es)

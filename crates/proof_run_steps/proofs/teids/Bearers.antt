@@ -196,7 +196,7 @@ module _ {M C P : Type 0} (way : Way M C P) where
   switched_stays at du teid b =
       stays_then (ends b) (deliver_stored way at (record (thawed b) { downlink = Some (record { du = du; teid = teid; next = 0 }); restart = false })) (begin_where_known way at)
       (deliver_stays at (record (thawed b) { downlink = Some (record { du = du; teid = teid; next = 0 }); restart = false }))
-      (λ c. stays_if (ends c) at.flags.has_status (begin_downlink way at c.receiver.deliv (received_bits c.receiver) c) (nothing c)
+      (λ c. stays_if (ends c) at.flags.may_serve (begin_downlink way at c.receiver.deliv (received_bits c.receiver) c) (nothing c)
       (begin_stays at c.receiver.deliv (received_bits c.receiver) c) (refl, refl, refl))
 
   numbered_stays : (at : UpAt) (es : List (ℕ × List ℕ)) (b : UpBearer) → Stays (ends b) (forward_numbered way at es b)

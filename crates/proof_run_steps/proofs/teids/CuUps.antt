@@ -366,7 +366,7 @@ module _ {M C P : Type 0} (way : Way M C P) where
     freeze_rests (Some p) (Some a) (Some b) c =
         choose (c.flags.frozen || c.flags.released || not c.flags.arrived || not (are_bearers (names way c) (bearers_of a)) || not (are_bearers (names way c) (bearers_of b)))
         (drops Unexpected r) _ drop
-        (choose (not c.flags.has_status) _ _ (replies_rests ch (e1s.BearerContextModificationFailure ue instance cause_busy) r)
+        (choose (not c.flags.may_serve) _ _ (replies_rests ch (e1s.BearerContextModificationFailure ue instance cause_busy) r)
         (steps_rests r ch ue (as_frozen way c)
         (each_bearer way (λ x. frozen_to way (up_at ue (as_frozen way c) x) (peer_node way p) (teid_of a x) (teid_of b x)) c.bearers)
         (modified way ue instance None (Some (statuses way c)))
@@ -379,7 +379,7 @@ module _ {M C P : Type 0} (way : Way M C P) where
     status_rests : (list : Option (List SnStatus)) (c : UpContext) → Rests r (status_if way ch ue instance list c r)
     unfolding take_status
     status_rests (Some list) c =
-        choose (c.flags.has_status || not (are_bearers (names way c) (statuses_of list))) (drops Unexpected r) _ drop
+        choose (c.flags.may_serve || not (are_bearers (names way c) (statuses_of list))) (drops Unexpected r) _ drop
         (steps_rests r ch ue (as_known way c) (status_each way ue (as_known way c) list c.bearers) (modified way ue instance None None)
         (statuses_still ue (as_known way c) list c.bearers))
     status_rests None c = drop

@@ -159,7 +159,7 @@ module _ {M C P : Type 0} (way : Way M C P) where
         let on : UpContext = as_frozen way c in
         either (c.flags.frozen || c.flags.released || not c.flags.arrived || not (are_bearers (names way c) (bearers_of a)) || not (are_bearers (names way c) (bearers_of b)))
         (drops Unexpected r) _ (tt, tt)
-        (either (not c.flags.has_status) (replies way ch (e1s.BearerContextModificationFailure ue instance cause_busy) r) _
+        (either (not c.flags.may_serve) (replies way ch (e1s.BearerContextModificationFailure ue instance cause_busy) r) _
         (replies_made ch (e1s.BearerContextModificationFailure ue instance cause_busy) r)
         (steps_make r ch ue on (each_bearer way (λ x. frozen_to way (up_at ue on x) (peer_node way peer) (teid_of a x) (teid_of b x)) c.bearers)
         (modified way ue instance None (Some (statuses way c)))
@@ -172,7 +172,7 @@ module _ {M C P : Type 0} (way : Way M C P) where
     known_makes : (list : Option (List SnStatus)) (c : UpContext) → Fits (status_if way ch ue instance list c r)
     unfolding take_status
     known_makes (Some list) c =
-        either (c.flags.has_status || not (are_bearers (names way c) (statuses_of list))) (drops Unexpected r) _ (tt, tt)
+        either (c.flags.may_serve || not (are_bearers (names way c) (statuses_of list))) (drops Unexpected r) _ (tt, tt)
         (steps_make r ch ue (as_known way c) (status_each way ue (as_known way c) list c.bearers) (modified way ue instance None None)
         (statuses_make ue (as_known way c) list c.bearers))
     known_makes None c = (tt, tt)

@@ -95,7 +95,7 @@ module _ {M C P : Type 0} (way : Way M C P) where
   switched_makes at du teid b =
       let on : UpBearer = record (thawed b) { downlink = Some (record { du = du; teid = teid; next = 0 }); restart = false } in
       after (deliver_stored way at on) (begin_where_known way at) (deliver_makes at on)
-      (λ c. either at.flags.has_status (begin_downlink way at c.receiver.deliv (received_bits c.receiver) c) (nothing c)
+      (λ c. either at.flags.may_serve (begin_downlink way at c.receiver.deliv (received_bits c.receiver) c) (nothing c)
       (begin_makes at c.receiver.deliv (received_bits c.receiver) c) tt)
 
   numbered_makes : (at : UpAt) (es : List (ℕ × List ℕ)) (b : UpBearer) → Makes (forward_numbered way at es b)

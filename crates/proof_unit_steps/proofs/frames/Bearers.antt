@@ -133,7 +133,7 @@ module _ {M C P : Type 0} (way : Way M C P) where
   switched_stays at du teid b =
       stays_then (Some (record { du = du; teid = teid; next = 0 })) (deliver_stored way at (record (thawed b) { downlink = Some (record { du = du; teid = teid; next = 0 }); restart = false })) (begin_where_known way at)
       (deliver_stays at (record (thawed b) { downlink = Some (record { du = du; teid = teid; next = 0 }); restart = false }))
-      (λ c. stays_if c.downlink at.flags.has_status (begin_downlink way at c.receiver.deliv (received_bits c.receiver) c) (nothing c)
+      (λ c. stays_if c.downlink at.flags.may_serve (begin_downlink way at c.receiver.deliv (received_bits c.receiver) c) (nothing c)
       (begin_stays at c.receiver.deliv (received_bits c.receiver) c) (stay c.downlink))
 
   numbered_stays : (at : UpAt) (es : List (ℕ × List ℕ)) (b : UpBearer) → Goes b.downlink (forward_numbered way at es b)

@@ -208,7 +208,7 @@ module _ {M C P : Type 0} {way : Way M C P} (has : Property way) where
     freeze_has (Some peer) (Some a) (Some b) c all =
         either (c.flags.frozen || c.flags.released || not c.flags.arrived || not (are_bearers (names way c) (bearers_of a)) || not (are_bearers (names way c) (bearers_of b)))
         (drops Unexpected r) _ (p, (tt, tt))
-        (either (not c.flags.has_status) (replies way ch (e1s.BearerContextModificationFailure ue instance cause_busy) r) _
+        (either (not c.flags.may_serve) (replies way ch (e1s.BearerContextModificationFailure ue instance cause_busy) r) _
         (replies_have ch (e1s.BearerContextModificationFailure ue instance cause_busy) r p)
         (steps_have r ch ue (as_frozen way c)
         (each_bearer way (λ x. frozen_to way (up_at ue (as_frozen way c) x) (peer_node way peer) (teid_of a x) (teid_of b x)) c.bearers)
@@ -222,7 +222,7 @@ module _ {M C P : Type 0} {way : Way M C P} (has : Property way) where
     known_has : (list : Option (List SnStatus)) (c : UpContext) → HasContext ue c → Fits (status_if way ch ue instance list c r)
     unfolding take_status
     known_has (Some list) c all =
-        either (c.flags.has_status || not (are_bearers (names way c) (statuses_of list))) (drops Unexpected r) _ (p, (tt, tt))
+        either (c.flags.may_serve || not (are_bearers (names way c) (statuses_of list))) (drops Unexpected r) _ (p, (tt, tt))
         (steps_have r ch ue (as_known way c) (status_each way ue (as_known way c) list c.bearers) (modified way ue instance None None) p
         (statuses_have ue (as_known way c) list c.bearers all))
     known_has None c all = (p, (tt, tt))

@@ -171,7 +171,7 @@ module _ {M C P : Type 0} {way : Way M C P} (has : Property way) where
   switched_has at du teid b p =
       let on : UpBearer = record (thawed b) { downlink = Some (record { du = du; teid = teid; next = 0 }); restart = false } in
       after at (deliver_stored way at on) (begin_where_known way at) (deliver_has at on p)
-      (λ c q. either at at.flags.has_status (begin_downlink way at c.receiver.deliv (received_bits c.receiver) c) (nothing c)
+      (λ c q. either at at.flags.may_serve (begin_downlink way at c.receiver.deliv (received_bits c.receiver) c) (nothing c)
       (begin_has at c.receiver.deliv (received_bits c.receiver) c q) (q, tt))
 
   numbered_has : (at : UpAt) (es : List (ℕ × List ℕ)) (b : UpBearer) → CountedHave has (sends at) es → Has at b → BearerAnswerHas at (forward_numbered way at es b)

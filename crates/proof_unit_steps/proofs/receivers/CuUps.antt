@@ -127,10 +127,10 @@ module _ {M C P : Type 0} (way : Way M C P) where
       step_stores new e.0 (order e.0 e.1) (each_bearer way order es) (each e.0 e.1 all.0) (each_stores old new order each es all.1)
 
   -- an SN status comes where none was: nothing is stored
-  known_stores : (old new : UpFlags) (b : UpBearer) → old.has_status ≡ false → UpStores old b.receiver → b.receiver.stored ≡ []
+  known_stores : (old new : UpFlags) (b : UpBearer) → old.may_serve ≡ false → UpStores old b.receiver → b.receiver.stored ≡ []
   known_stores old new b none p = p.none (ap (λ (t : Bool). t && old.arrived) none)
 
-  all_none : (old new : UpFlags) (es : Bearers) → old.has_status ≡ false → BearersStore old es → BearersStore new es
+  all_none : (old new : UpFlags) (es : Bearers) → old.may_serve ≡ false → BearersStore old es → BearersStore new es
   all_none old new [] none all = tt
   all_none old new (e ∷ es) none all = (with_none new e.1.receiver (known_stores old new e.1 none all.0), all_none old new es none all.1)
 
@@ -138,7 +138,7 @@ module _ {M C P : Type 0} (way : Way M C P) where
   stores_none new (gives os c) p = with_none new c.receiver p
   stores_none new (spent k) p = tt
 
-  statuses_store : (old : UpFlags) (ue : UeId) (c : UpContext) (ss : List SnStatus) (es : Bearers) → old.has_status ≡ false → BearersStore old es
+  statuses_store : (old : UpFlags) (ue : UeId) (c : UpContext) (ss : List SnStatus) (es : Bearers) → old.may_serve ≡ false → BearersStore old es
       → StepStores c.flags (status_each way ue c ss es)
   statuses_store old ue c [] es none all = all_none old c.flags es none all
   statuses_store old ue c (s ∷ ss) [] none all = tt
@@ -236,7 +236,7 @@ module _ {M C P : Type 0} (way : Way M C P) where
         (each_bearer way (λ b. switched way (up_at ue (as_switched way c) b) (du_id r.gnb d) (teid_of list b)) c.bearers) (modified way ue instance None None) p
         (each_stores c.flags (as_switched way c).flags (λ b. switched way (up_at ue (as_switched way c) b) (du_id r.gnb d) (teid_of list b))
         (λ b x h. as_stored way (as_switched way c).flags (handed_up x.receiver).after (switched way (up_at ue (as_switched way c) b) (du_id r.gnb d) (teid_of list b) x)
-        (when_delivered c.flags (as_switched way c).flags x.receiver h (λ e. before c.flags.has_status c.flags.arrived e))
+        (when_delivered c.flags (as_switched way c).flags x.receiver h (λ e. before c.flags.may_serve c.flags.arrived e))
         (switched_hands way (up_at ue (as_switched way c) b) (du_id r.gnb d) (teid_of list b) x)) c.bearers all))
       where
         before : (a b : Bool) → a && true ≡ false → a && b ≡ false
@@ -250,7 +250,7 @@ module _ {M C P : Type 0} (way : Way M C P) where
     freeze_keeps (Some peer) (Some a) (Some b) c all =
         keeps_if (c.flags.frozen || c.flags.released || not c.flags.arrived || not (are_bearers (names way c) (bearers_of a)) || not (are_bearers (names way c) (bearers_of b)))
         (drops Unexpected r) _ p
-        (keeps_if (not c.flags.has_status) _ _ (replies_keep ch (e1s.BearerContextModificationFailure ue instance cause_busy) r p)
+        (keeps_if (not c.flags.may_serve) _ _ (replies_keep ch (e1s.BearerContextModificationFailure ue instance cause_busy) r p)
         (steps_keep r ch ue (as_frozen way c)
         (each_bearer way (λ x. frozen_to way (up_at ue (as_frozen way c) x) (peer_node way peer) (teid_of a x) (teid_of b x)) c.bearers)
         (modified way ue instance None (Some (statuses way c))) p
@@ -268,15 +268,15 @@ module _ {M C P : Type 0} (way : Way M C P) where
 
     status_keeps : (list : Option (List SnStatus)) (c : UpContext) → BearersStore c.flags c.bearers → Keeps (status_if way ch ue instance list c r)
     unfolding take_status
-    status_keeps (Some list) c all = by (c.flags.has_status || not (are_bearers (names way c) (statuses_of list))) refl
+    status_keeps (Some list) c all = by (c.flags.may_serve || not (are_bearers (names way c) (statuses_of list))) refl
       where
-        by : (t : Bool) → c.flags.has_status || not (are_bearers (names way c) (statuses_of list)) ≡ t
+        by : (t : Bool) → c.flags.may_serve || not (are_bearers (names way c) (statuses_of list)) ≡ t
             → Keeps (if t then drops Unexpected r else (answer_with way r ue (as_known way c) (status_each way ue (as_known way c) list c.bearers)
             then replies way ch (modified way ue instance None None)))
         by true e = p
         by false e =
             steps_keep r ch ue (as_known way c) (status_each way ue (as_known way c) list c.bearers) (modified way ue instance None None) p
-            (statuses_store c.flags ue (as_known way c) list c.bearers (neither c.flags.has_status _ e) all)
+            (statuses_store c.flags ue (as_known way c) list c.bearers (neither c.flags.may_serve _ e) all)
     status_keeps None c all = p
 
     resume_keeps : (c : UpContext) → BearersStore c.flags c.bearers → Keeps (resume_if way ch ue instance c r)

@@ -71,7 +71,7 @@ with_none flags r none = record {
 }
 
 pub when_delivered : (old new : UpFlags) (r : Receiver (List ℕ)) → UpStores old r
-    → (new.has_status && new.arrived ≡ false → old.has_status && old.arrived ≡ false) → UpStores new (deliver r).after
+    → (new.may_serve && new.arrived ≡ false → old.may_serve && old.arrived ≡ false) → UpStores new (deliver r).after
 when_delivered old new r p before =
     let above : StoresAbove (deliver r).after = above_after r p.from in record {
       from = lower (deliver r).after.deliv ((deliver r).after.deliv + 1) (deliver r).after.stored (omega arith) above;
@@ -80,5 +80,5 @@ when_delivered old new r p before =
     }
 
 pub when_frozen : (old new : UpFlags) (r : Receiver (List ℕ)) → UpStores old r → new.frozen ≡ true
-    → (new.has_status && new.arrived ≡ false → old.has_status && old.arrived ≡ false) → UpStores new r
+    → (new.may_serve && new.arrived ≡ false → old.may_serve && old.arrived ≡ false) → UpStores new r
 when_frozen old new r p frozen before = record { from = p.from; above = λ thawed. absurd cc; none = λ without. p.none (before without) }

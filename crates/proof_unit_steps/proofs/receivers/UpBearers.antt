@@ -124,7 +124,7 @@ module _ {M C P : Type 0} (way : Way M C P) where
   switched_hands at du teid b =
       let on : UpBearer = record (thawed b) { downlink = Some (record { du = du; teid = teid; next = 0 }); restart = false } in
       keeps_then (handed_up b.receiver).after (deliver_stored way at on) (begin_where_known way at) (handed at on)
-      (λ c. has_if c.receiver at.flags.has_status (begin_downlink way at c.receiver.deliv (received_bits c.receiver) c) (nothing c)
+      (λ c. has_if c.receiver at.flags.may_serve (begin_downlink way at c.receiver.deliv (received_bits c.receiver) c) (nothing c)
       (begin_keeps at c.receiver.deliv (received_bits c.receiver) c) refl)
 
   numbered_keeps : (at : UpAt) (es : List (ℕ × List ℕ)) (b : UpBearer) → Has b.receiver (forward_numbered way at es b)
@@ -214,7 +214,7 @@ module _ {M C P : Type 0} (way : Way M C P) where
       (sent_keeps at count p Same on)) refl)
 
   -- a new packet is stored; where the context isn't frozen, what is next is handed up
-  stored_stores : (at : UpAt) (count : ℕ) (p : List ℕ) (b : UpBearer) → UpStores at.flags b.receiver → at.flags.has_status && at.flags.arrived ≡ true
+  stored_stores : (at : UpAt) (count : ℕ) (p : List ℕ) (b : UpBearer) → UpStores at.flags b.receiver → at.flags.may_serve && at.flags.arrived ≡ true
       → is_duplicate b.receiver count ≡ false → Stores at (stored_at way at count p b)
   unfolding stored
   stored_stores at count p b store there new = by at.flags.frozen refl
@@ -239,7 +239,7 @@ module _ {M C P : Type 0} (way : Way M C P) where
           as_stored at.flags (handed_up (stored b.receiver count p)).after (deliver_stored way at on)
           (when_delivered (record at.flags { frozen = true }) at.flags (stored b.receiver count p) put_there (λ e. e)) (handed at on)
 
-  took_uplink_stores : (at : UpAt) (count : Option ℕ) (p : List ℕ) (b : UpBearer) → UpStores at.flags b.receiver → at.flags.has_status && at.flags.arrived ≡ true
+  took_uplink_stores : (at : UpAt) (count : Option ℕ) (p : List ℕ) (b : UpBearer) → UpStores at.flags b.receiver → at.flags.may_serve && at.flags.arrived ≡ true
       → Stores at (took_uplink way at count p b)
   unfolding took_uplink
   took_uplink_stores at None p b store there = store
@@ -253,7 +253,7 @@ module _ {M C P : Type 0} (way : Way M C P) where
       by true old = store
       by false new = stored_stores at count p b store there new
 
-  took_content_stores : (at : UpAt) (content : Content) (b : UpBearer) → UpStores at.flags b.receiver → at.flags.has_status && at.flags.arrived ≡ true
+  took_content_stores : (at : UpAt) (content : Content) (b : UpBearer) → UpStores at.flags b.receiver → at.flags.may_serve && at.flags.arrived ≡ true
       → Stores at (took_content way at content b)
   unfolding took_report
   took_content_stores at (packet_content count p) b store there = took_uplink_stores at count p b store there
@@ -284,20 +284,20 @@ module _ {M C P : Type 0} (way : Way M C P) where
       keeps_then b.receiver (puts (closed teid) on) (λ c. up_hop_ends_if way at c.hop c) refl (λ c. hop_keeps at c.hop c)
 
   -- an item that isn't held finds the SN status and the terminal there
-  there_if : (flags : UpFlags) (rest : List (Bool × HeldReason)) → first_held ((not flags.has_status, NoStatus) ∷ (not flags.arrived, NotArrived) ∷ rest) ≡ None
-      → flags.has_status && flags.arrived ≡ true
-  there_if flags rest h = by flags.has_status flags.arrived h
+  there_if : (flags : UpFlags) (rest : List (Bool × HeldReason)) → first_held ((not flags.may_serve, NoStatus) ∷ (not flags.arrived, NotArrived) ∷ rest) ≡ None
+      → flags.may_serve && flags.arrived ≡ true
+  there_if flags rest h = by flags.may_serve flags.arrived h
     where
       by : (a b : Bool) → first_held ((not a, NoStatus) ∷ (not b, NotArrived) ∷ rest) ≡ None → a && b ≡ true
       by true true e = refl
       by true false e = absurd cc
       by false b e = absurd cc
 
-  pub not_held_there : (at : UpAt) (b : UpBearer) (kind : TunnelKind) (item : Taken P) → held_reason at b kind item ≡ None → at.flags.has_status && at.flags.arrived ≡ true
+  pub not_held_there : (at : UpAt) (b : UpBearer) (kind : TunnelKind) (item : Taken P) → held_reason at b kind item ≡ None → at.flags.may_serve && at.flags.arrived ≡ true
   unfolding held_reason
   not_held_there at b kind item h = there_if at.flags ((is_n3 kind && at.flags.target && not b.down_ended, Early) ∷ held_by_room at b kind item) h
 
-  pub item_stores : (at : UpAt) (kind : TunnelKind) (teid : ℕ) (item : Taken P) (b : UpBearer) → UpStores at.flags b.receiver → at.flags.has_status && at.flags.arrived ≡ true
+  pub item_stores : (at : UpAt) (kind : TunnelKind) (teid : ℕ) (item : Taken P) (b : UpBearer) → UpStores at.flags b.receiver → at.flags.may_serve && at.flags.arrived ≡ true
       → Stores at (took way at kind teid item b)
   unfolding took took_delivery_status up_ended
   item_stores at n3 teid (fresh_item p) b store there = as_stored at.flags b.receiver _ store (took_fresh_keeps at p b)

@@ -364,7 +364,7 @@ module _ (t : OwnedTunnel) {M C P : Type 0} (way : Way M C P) where
     freeze_numbers (Some peer) (Some a) (Some b) c is apart =
         numbers_if k (c.flags.frozen || c.flags.released || not c.flags.arrived || not (are_bearers (names way c) (bearers_of a)) || not (are_bearers (names way c) (bearers_of b)))
         (drops Unexpected r) _ (drops_number k Unexpected r p)
-        (numbers_if k (not c.flags.has_status) _ _ (replies_number k ch (e1s.BearerContextModificationFailure ue instance cause_busy) r p)
+        (numbers_if k (not c.flags.may_serve) _ _ (replies_number k ch (e1s.BearerContextModificationFailure ue instance cause_busy) r p)
         (steps_number k r ch ue (as_frozen way c) c.bearers
         (each_bearer way (λ x. frozen_to way (up_at ue (as_frozen way c) x) (peer_node way peer) (teid_of a x) (teid_of b x)) c.bearers)
         (modified way ue instance None (Some (statuses way c))) p
@@ -378,7 +378,7 @@ module _ (t : OwnedTunnel) {M C P : Type 0} (way : Way M C P) where
         → Numbers k (status_if way ch ue instance list c r)
     unfolding take_status
     status_numbers (Some list) c is apart =
-        numbers_if k (c.flags.has_status || not (are_bearers (names way c) (statuses_of list))) (drops Unexpected r) _ (drops_number k Unexpected r p)
+        numbers_if k (c.flags.may_serve || not (are_bearers (names way c) (statuses_of list))) (drops Unexpected r) _ (drops_number k Unexpected r p)
         (steps_number k r ch ue (as_known way c) c.bearers (status_each way ue (as_known way c) list c.bearers) (modified way ue instance None None) p
         (statuses_number t way ue (as_known way c) list k c.bearers apart (each_counts c is apart)))
     status_numbers None c is apart = drops_number k Unexpected r p

@@ -374,7 +374,7 @@ module _ {M C P : Type 0} {way : Way M C P} (is : Property way) (none : NoneIsFr
     freeze_names (Some peer) (Some a) (Some b) c named long all =
         either (c.flags.frozen || c.flags.released || not c.flags.arrived || not (are_bearers (names way c) (bearers_of a)) || not (are_bearers (names way c) (bearers_of b)))
         (drops Unexpected r) _ (p, (tt, tt))
-        (either (not c.flags.has_status) (replies way ch (e1s.BearerContextModificationFailure ue instance cause_busy) r) _
+        (either (not c.flags.may_serve) (replies way ch (e1s.BearerContextModificationFailure ue instance cause_busy) r) _
         (replies_name ch (e1s.BearerContextModificationFailure ue instance cause_busy) r tt p)
         (steps_name r ch ue (as_frozen way c)
         (each_bearer way (λ x. frozen_to way (up_at ue (as_frozen way c) x) (peer_node way peer) (teid_of a x) (teid_of b x)) c.bearers)
@@ -390,7 +390,7 @@ module _ {M C P : Type 0} {way : Way M C P} (is : Property way) (none : NoneIsFr
     known_names : (list : Option (List SnStatus)) (c : UpContext) → Long ue c → Named ue c.bearers → Fits (status_if way ch ue instance list c r)
     unfolding take_status kind_of
     known_names (Some list) c long all =
-        either (c.flags.has_status || not (are_bearers (names way c) (statuses_of list))) (drops Unexpected r) _ (p, (tt, tt))
+        either (c.flags.may_serve || not (are_bearers (names way c) (statuses_of list))) (drops Unexpected r) _ (p, (tt, tt))
         (steps_name r ch ue (as_known way c) (status_each way ue (as_known way c) list c.bearers) (modified way ue instance None None) long tt p
         (statuses_name ue (as_known way c) list c.bearers long all))
     known_names None c long all = (p, (tt, tt))

@@ -142,7 +142,7 @@ module _ {M C P : Type 0} {way : Way M C P} (is : Property way) (gnb : Gnb) (num
     switched_fits du teid b there p =
         let on : UpBearer = record (thawed b) { downlink = Some (record { du = du; teid = teid; next = 0 }); restart = false } in
         after (deliver_stored way at on) (begin_where_known way at) (deliver_fits on (there, tt))
-        (λ c q. either at.flags.has_status (begin_downlink way at c.receiver.deliv (received_bits c.receiver) c) (nothing c)
+        (λ c q. either at.flags.may_serve (begin_downlink way at c.receiver.deliv (received_bits c.receiver) c) (nothing c)
         (begin_fits c.receiver.deliv (received_bits c.receiver) c q) (q, tt))
 
     numbered_fits : (es : List (ℕ × List ℕ)) (b : UpBearer) → Has b → Fits (forward_numbered way at es b)

@@ -23,7 +23,7 @@ StoresAbove r = Ascends (r.deliv + 1) r.stored
 pub record UpStores (flags : UpFlags) (r : Receiver (List ℕ)) : Type 0 where
   pub from : Ascends r.deliv r.stored
   pub above : flags.frozen ≡ false → StoresAbove r
-  pub none : flags.has_status && flags.arrived ≡ false → r.stored ≡ []
+  pub none : flags.may_serve && flags.arrived ≡ false → r.stored ≡ []
 
 abbrev pub BearersStore : UpFlags → List (BearerId × UpBearer) → Type 0
 BearersStore flags bearers = AllByRecursion (λ (e : BearerId × UpBearer). UpStores flags e.1.receiver) bearers

@@ -40,18 +40,7 @@ fn quiet_order<U: Units<C> + Drop, C: MessageCodec + Drop>(
     }
 }
 
-/// The state of a terminal.
-fn state_at<U: Units<C> + Drop, C: MessageCodec + Drop>(parts: &Parts<U, C>, ue: UeId) -> UeState
-    requires { U.ready parts.now.units }
-    ensures { result ≡ state_at (state_of (U.records parts.now.units) parts.now.core parts.now.ground) ue }
-{
-    match parts.units.ue_node(ue) {
-        Some(terminal) => terminal.state(),
-        None => UeState::Idle,
-    }
-}
-
-/// A terminal that is accessing arrives, and one that lost its radio returns.
+/// A terminal that is accessing arrives, and one that lost its radio returns, where it was ever connected.
 fn move_one<U: Units<C> + Drop, C: MessageCodec + Drop>(
     parts: &mut Parts<U, C>,
     ue: UeId,
@@ -64,9 +53,14 @@ fn move_one<U: Units<C> + Drop, C: MessageCodec + Drop>(
         (state_at (state_of (U.records parts.old.units) parts.old.core parts.old.ground) ue))
         lines.new (state_of (U.records parts.new.units) parts.new.core parts.new.ground) result }
 {
-    match state_at(parts, ue) {
+    match parts.state_at(ue) {
         UeState::Accessing => quiet_order(parts, NodeId::Ue(ue.0), Order::Arrive(ue), lines),
-        UeState::Lost => quiet_order(parts, NodeId::Ue(ue.0), Order::Return(ue), lines),
+        UeState::Lost => {
+            if !parts.has_home(ue) {
+                return Ok(());
+            }
+            quiet_order(parts, NodeId::Ue(ue.0), Order::Return(ue), lines)
+        }
         UeState::Idle | UeState::Connected | UeState::Returning => Ok(()),
     }
 }

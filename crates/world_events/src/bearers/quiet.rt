@@ -50,12 +50,12 @@ fn requests_rest<U: Units<C> + Drop, C: MessageCodec + Drop>(parts: &Parts<U, C>
 /// Whether a terminal is connected, and nobody is at work for it.
 fn is_at_rest<U: Units<C> + Drop, C: MessageCodec + Drop>(
     parts: &Parts<U, C>,
+    ue: UeId,
     terminal: &UeNode,
 ) -> bool
     requires { U.ready parts.now.units }
-    ensures { result ≡ is_at_rest (state_of (U.records parts.now.units) parts.now.core parts.now.ground) terminal.now.node }
+    ensures { result ≡ is_at_rest (state_of (U.records parts.now.units) parts.now.core parts.now.ground) ue terminal.now.node }
 {
-    let ue = terminal.ue();
     is_connected(terminal.state())
         && !has_attempt(parts, ue)
         && parts.ground.bag.in_flight(Some(ue.0)) == 0
@@ -90,7 +90,7 @@ fn is_quiet<U: Units<C> + Drop, C: MessageCodec + Drop>(
     ensures { result ≡ is_quiet_with (state_of (U.records parts.now.units) parts.now.core parts.now.ground) ue bearer
         (Some terminal.now.node) }
 {
-    if !is_at_rest(parts, terminal) {
+    if !is_at_rest(parts, ue, terminal) {
         return false;
     }
     if !links_are_empty(&parts.ground, ue, bearer) {

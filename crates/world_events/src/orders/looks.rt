@@ -1,44 +1,15 @@
 //! What these events look at in units.
 
-ghost use Rattle.std.specs.Prelude.{◌≡◌, is_some};
-ghost use Rattle.unit_defs.specs.Accessors.{ue_home};
-ghost use Rattle.run_defs.specs.Units.{ue_of, is_serving, is_attempt, is_source_state, has_attempt};
-ghost use Rattle.run_defs.specs.Conditions.{state_at, is_busy_with};
+ghost use Rattle.std.specs.Prelude.{◌≡◌};
+ghost use Rattle.run_defs.specs.Units.{is_serving, is_attempt, is_source_state, has_attempt};
+ghost use Rattle.run_defs.specs.Conditions.{is_busy_with};
 ghost use Rattle.run_links.specs.Grounds.{state_of};
 
 use gnb_types::names::{Gnb, UeId};
-use unit_defs::{StateName, UeState};
+use unit_defs::StateName;
 use unit_messages::MessageCodec;
 use world_steps::Units;
 use world_steps::parts::Parts;
-
-/// The state of a terminal; `Idle` where it never came.
-pub(crate) fn state_at<U: Units<C> + Drop, C: MessageCodec + Drop>(
-    parts: &Parts<U, C>,
-    ue: UeId,
-) -> UeState
-    requires { U.ready parts.now.units }
-    ensures { result ≡ state_at (state_of (U.records parts.now.units) parts.now.core parts.now.ground) ue }
-{
-    match parts.units.ue_node(ue) {
-        Some(terminal) => terminal.state(),
-        None => UeState::Idle,
-    }
-}
-
-/// Whether a terminal was ever connected.
-pub(crate) fn has_home<U: Units<C> + Drop, C: MessageCodec + Drop>(
-    parts: &Parts<U, C>,
-    ue: UeId,
-) -> bool
-    requires { U.ready parts.now.units }
-    ensures { result ≡ is_some (ue_home (ue_of (U.records parts.now.units) ue)) }
-{
-    match parts.units.ue_node(ue) {
-        Some(terminal) => terminal.home().is_some(),
-        None => false,
-    }
-}
 
 fn is_serving(state: StateName) -> bool
     ensures { result ≡ is_serving state }

@@ -8,7 +8,6 @@ ghost use Rattle.run_links.specs.Grounds.{state_of};
 ghost use Rattle.world_steps.specs.Gives.{EventGives};
 ghost use Rattle.world_events.specs.orders.Orders.{fail_order, arrive_order, return_order};
 
-use crate::orders::looks::{has_home, state_at};
 use crate::orders::ordering::{Ordered, give_order};
 use gnb_types::inputs::Order;
 use gnb_types::names::{NodeId, UeId};
@@ -46,7 +45,7 @@ fn fail_order<U: Units<C> + Drop, C: MessageCodec + Drop>(parts: &Parts<U, C>, u
     if !parts.ground.is_attached(ue) {
         return Err(RefuseReason::NoUe);
     }
-    if is_connected(state_at(parts, ue)) {
+    if is_connected(parts.state_at(ue)) {
         Ok((NodeId::Ue(ue.0), Order::Fail(ue)))
     } else {
         Err(RefuseReason::NoRadio)
@@ -63,7 +62,7 @@ fn arrive_order<U: Units<C> + Drop, C: MessageCodec + Drop>(
     if !parts.ground.is_attached(ue) {
         return Err(RefuseReason::NoUe);
     }
-    if is_accessing(state_at(parts, ue)) {
+    if is_accessing(parts.state_at(ue)) {
         Ok((NodeId::Ue(ue.0), Order::Arrive(ue)))
     } else {
         Err(RefuseReason::NotAccessing)
@@ -80,10 +79,10 @@ fn return_order<U: Units<C> + Drop, C: MessageCodec + Drop>(
     if !parts.ground.is_attached(ue) {
         return Err(RefuseReason::NoUe);
     }
-    if !has_home(parts, ue) {
+    if !parts.has_home(ue) {
         return Err(RefuseReason::NoHome);
     }
-    if may_return(state_at(parts, ue)) {
+    if may_return(parts.state_at(ue)) {
         Ok((NodeId::Ue(ue.0), Order::Return(ue)))
     } else {
         Err(RefuseReason::Busy)

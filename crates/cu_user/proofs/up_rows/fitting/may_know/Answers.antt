@@ -8,9 +8,9 @@ use Rattle.cu_user.proofs.up_rows.fitting.may_know.Goals as goal
 
 pub returns-then-flags : goal.returns-then-flags
 returns-then-flags c = λ codec.
-    is_not c.args.context.now.flags.has_status (are_bearers (names (octet_way codec) c.args.context.now) (statuses_of c.args.statuses.now)) (sym (ap (λ (f : UpFlags). f.has_status) c.flags-flags.ensures) ∙ c.if-flags.true)
+    is_not c.args.context.now.flags.may_serve (are_bearers (names (octet_way codec) c.args.context.now) (statuses_of c.args.statuses.now)) (sym (ap (λ (f : UpFlags). f.may_serve) c.flags-flags.ensures) ∙ c.if-flags.true)
 
 pub returns : goal.returns
 returns c = λ codec.
-    is_so c.args.context.now.flags.has_status (are_bearers (names (octet_way codec) c.args.context.now) (statuses_of c.args.statuses.now)) c.is_named_by_statuses.result
-    (sym (ap (λ (f : UpFlags). f.has_status) c.flags-flags.ensures) ∙ c.if-flags.false) (c.is_named_by_statuses.ensures codec)
+    is_so c.args.context.now.flags.may_serve (are_bearers (names (octet_way codec) c.args.context.now) (statuses_of c.args.statuses.now)) c.is_named_by_statuses.result
+    (sym (ap (λ (f : UpFlags). f.may_serve) c.flags-flags.ensures) ∙ c.if-flags.false) (c.is_named_by_statuses.ensures codec)

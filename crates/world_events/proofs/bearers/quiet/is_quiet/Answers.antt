@@ -11,7 +11,7 @@ returns-then-not-links_are_empty g c =
     let records = g.U.Units.records c.args.parts.now.units in
     let s = state_of records c.args.parts.now.core c.args.parts.now.ground in
     let u = c.args.terminal.now.node in
-    second_fails (is_at_rest s u) (links_are_empty s c.args.ue c.args.bearer) (ue_rests u c.args.bearer) (ups_rest records c.args.ue c.args.bearer)
+    second_fails (is_at_rest s c.args.ue u) (links_are_empty s c.args.ue c.args.bearer) (ue_rests u c.args.bearer) (ups_rest records c.args.ue c.args.bearer)
     (sym c.is_at_rest.ensures ∙ c.if-not-is_at_rest.false) (sym (c.links_are_empty.ensures records c.args.parts.now.core) ∙ c.if-not-links_are_empty.true)
 
 pub returns-else-rests : goal.returns-else-rests
@@ -20,7 +20,7 @@ returns-else-rests g c =
     let s = state_of records c.args.parts.now.core c.args.parts.now.ground in
     let u = c.args.terminal.now.node in
     c.if-rests.false
-    ∙ third_fails (is_at_rest s u) (links_are_empty s c.args.ue c.args.bearer) (ue_rests u c.args.bearer) (ups_rest records c.args.ue c.args.bearer)
+    ∙ third_fails (is_at_rest s c.args.ue u) (links_are_empty s c.args.ue c.args.bearer) (ue_rests u c.args.bearer) (ups_rest records c.args.ue c.args.bearer)
     (sym c.is_at_rest.ensures ∙ c.if-not-is_at_rest.false) (sym (c.links_are_empty.ensures records c.args.parts.now.core) ∙ c.if-not-links_are_empty.false)
     (sym c.rests.ensures ∙ c.if-rests.false)
 
@@ -30,6 +30,6 @@ returns-then-rests g c =
     let s = state_of records c.args.parts.now.core c.args.parts.now.ground in
     let u = c.args.terminal.now.node in
     c.cu_users_rest.ensures
-    ∙ fourth_decides (is_at_rest s u) (links_are_empty s c.args.ue c.args.bearer) (ue_rests u c.args.bearer) (ups_rest records c.args.ue c.args.bearer)
+    ∙ fourth_decides (is_at_rest s c.args.ue u) (links_are_empty s c.args.ue c.args.bearer) (ue_rests u c.args.bearer) (ups_rest records c.args.ue c.args.bearer)
     (sym c.is_at_rest.ensures ∙ c.if-not-is_at_rest.false) (sym (c.links_are_empty.ensures records c.args.parts.now.core) ∙ c.if-not-links_are_empty.false)
     (sym c.rests.ensures ∙ c.if-rests.true)

@@ -17,7 +17,7 @@ returns c = λ codec.
     let i = c.self.inside in
     let way = octet_way codec in
     let here : UpContext = context_as i.instance i.sn i.quota i.flags i.bearers.items in
-    let whole : List Bearer → UpContext = λ bs. context_as i.instance i.sn i.quota (record i.flags { has_status = true }) bs in
+    let whole : List Bearer → UpContext = λ bs. context_as i.instance i.sn i.quota (record i.flags { may_serve = true }) bs in
     let on = as_known way here in
     let ws = c.go_on_each-done.new.bearers in
     let size : length ws ≡ i.bearers.len = c.go_on_each-done.auto.bearers ∙ ap length c.as_mut_slice.ensures.value ∙ sym i.bearers.ok.0 in

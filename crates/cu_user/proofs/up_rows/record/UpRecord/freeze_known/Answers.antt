@@ -10,7 +10,7 @@ use Rattle.unit_requests.proofs.Thens.{goes_on, stops}
 use Rattle.cu_up_contexts.specs.contexts.Tables.{OctetUp}
 use Rattle.cu_up_contexts.specs.contexts.Rows.{frozen_at}
 use Rattle.cu_user.specs.up_rows.Records.{up_record}
-use Rattle.cu_user.specs.up_rows.Modes.{has_status, statuses_on}
+use Rattle.cu_user.specs.up_rows.Modes.{may_serve, statuses_on}
 use Rattle.cu_user.proofs.up_rows.ModeSteps.{telling}
 use Rattle.cu_user.proofs.up_rows.record.UpRecord.freeze_known.Goals as goal
 
@@ -18,8 +18,8 @@ pub freeze-requires : goal.freeze-requires
 freeze-requires g c = λ found is.
     let codec = g.C.MessageCodec.codec in
     let inner : OctetUp = up_record c.self.inside.gnb c.self.inside.number c.self.inside.is_set_up c.self.inside.contexts c.self.inside.requests in
-    let known = subst (λ (s : OctetUp). has_status codec (context_of s c.args.request.ue) ≡ true) (sym c.self.view_is) c.requires in
-    subst (λ (o : Option UpContext). has_status codec o ≡ true) is known
+    let known = subst (λ (s : OctetUp). may_serve codec (context_of s c.args.request.ue) ≡ true) (sym c.self.view_is) c.requires in
+    subst (λ (o : Option UpContext). may_serve codec o ≡ true) is known
 
 pub returns-in_err-freeze : goal.returns-in_err-freeze
 returns-in_err-freeze g c =

@@ -1,1 +1,0 @@
-pub use Rattle.tables.proofs as tables

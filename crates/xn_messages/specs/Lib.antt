@@ -1,1 +1,0 @@
-pub use Rattle.message_values.specs as message_values
