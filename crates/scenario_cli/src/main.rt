@@ -36,12 +36,14 @@ fn explain(
     if status.code == 0 {
         return;
     }
-    let line = read.line(alloc, status.place);
-    let written = written.before_last(alloc);
+    let named = read.line(alloc, status.place);
+    let last = written.before_last(alloc);
+    let line = named.as_ref().map(|line| line.as_slice());
+    let written = last.as_ref().map(|line| line.as_slice());
     let call = Call {
         words,
-        line: line.as_ref().map(|line| line.as_slice()),
-        written: written.as_ref().map(|line| line.as_slice()),
+        line,
+        written,
     };
     let _ = plain_words::explain(rt, &call, status);
 }
