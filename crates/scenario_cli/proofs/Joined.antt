@@ -34,15 +34,11 @@ use Rattle.commands.specs.command_profile.Written.{PrintsProfile, ProfileMeets, 
 use Rattle.commands.specs.command_profile.Written as written
 use Rattle.scenario_cli.specs.declared.top.Form.{Form}
 use Rattle.command_bearers.specs.declared.command_um.config.UmConfig.{UmConfig}
-use Rattle.command_bearers.specs.declared.command_um.end.ScriptEnd.{ScriptEnd}
-use Rattle.command_bearers.specs.command_um.Ends.{script_status, StopsAtEvent}
-use Rattle.command_bearers.specs.command_um.Run.{UmMeets}
-use Rattle.command_bearers.specs.command_um.Whole.{RunsWholly as RunsWhollyUm}
+use Rattle.command_bearers.specs.declared.script_word.end.ScriptEnd.{ScriptEnd, ScriptEnd as DupScriptEnd}
+use Rattle.command_bearers.specs.script_word.Ends.{script_status, script_status as dup_script_status, StopsAtEvent, StopsAtEvent as StopsAtDupEvent}
+use Rattle.command_bearers.specs.command_um.Run.{UmMeets, RunsUm as RunsWhollyUm}
 use Rattle.command_bearers.specs.declared.command_dup.config.DupConfig.{DupConfig}
-use Rattle.command_bearers.specs.declared.command_dup.end.ScriptEnd.{ScriptEnd as DupScriptEnd}
-use Rattle.command_bearers.specs.command_dup.Ends.{script_status as dup_script_status, StopsAtEvent as StopsAtDupEvent}
-use Rattle.command_bearers.specs.command_dup.Run.{DupMeets}
-use Rattle.command_bearers.specs.command_dup.Whole.{RunsWholly as RunsWhollyDup}
+use Rattle.command_bearers.specs.command_dup.Run.{DupMeets, RunsDup as RunsWhollyDup}
 use Rattle.command_values.specs.declared.way.Way.{Way}
 use Rattle.command_values.specs.declared.end.ValuesEnd.{ValuesEnd}
 use Rattle.command_values.specs.Ends.{values_status, StopsAtValue}
