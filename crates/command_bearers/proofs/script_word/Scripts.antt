@@ -1,5 +1,5 @@
 -- What lines mean, one line more; and a line that is not an event.
-use Rattle.std.proofs.Common.{◌≡◌, ℕ, List, [], ◌∷◌, ◌++◌, true, false, Result, Ok, Err, refl, sym, ap, ◌∙◌, subst, append-nil}
+use Rattle.std.proofs.Common.{◌≡◌, ℕ, List, [], ◌∷◌, ◌++◌, true, false, Option, Some, None, Result, Ok, Err, refl, sym, ap, ◌∙◌, subst, append-nil}
 use Rattle.std.proofs.lemmas.Grind.{flat_map-append}
 use Rattle.std.proofs.lemmas.List.{map-append}
 use Rattle.std.specs.List.{flat_map}
@@ -12,7 +12,7 @@ use Rattle.gnb_base.specs.declared.lines.Line.{Line}
 use Rattle.command_bearers.specs.declared.script_word.end.ScriptEnd.TheVariants.{Script}
 use Rattle.command_bearers.specs.script_word.Meaning.{WordMeaning}
 use Rattle.command_bearers.specs.script_word.Run.{meanings, AreEvents}
-use Rattle.command_bearers.specs.script_word.inside.Turns.{IsEvent, LineStops, Refused}
+use Rattle.command_bearers.specs.script_word.inside.Turns.{IsEvent, LineStops, Refused, Means}
 
 module _ {Event : Type 0} (m : WordMeaning Event) where
   meanings-more : (lines : List (List ℕ)) (line : List ℕ)
@@ -47,3 +47,10 @@ module _ {Event : Type 0} (m : WordMeaning Event) where
   is_refused line text error reason e same skip gives =
       let read = subst (λ (t : TextError). GivesOrMemory {X = Event} (λ x. x) (Err t) (m.event_of text)) e gives in
       Refused reason (ap is_skipped (sym same) ∙ skip) (ap (λ (t : List ℕ). m.event_of t) (sym same) ∙ read) refl
+
+  module _ (InRange : Event → Type 0) (line : Line) (found : Option Event) (means : Means m InRange line (Ok found)) where
+    pub means_skipped : found ≡ None → is_skipped line.text ≡ true
+    means_skipped e = subst (λ (o : Option Event). Means m InRange line (Ok o)) e means
+
+    pub means_event : (event : Event) → found ≡ Some event → IsEvent m InRange line.text event
+    means_event event e = subst (λ (o : Option Event). Means m InRange line (Ok o)) e means

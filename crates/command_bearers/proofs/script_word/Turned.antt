@@ -1,5 +1,6 @@
 -- A script so far, one turn more, and each of its ends.
 use Rattle.std.proofs.Common.{◌≡◌, ◌<◌, ℕ, ◌+◌, List, [], ◌∷◌, ◌++◌, length, true, false, Option, Some, None, Result, Ok, Err, refl, sym, ap, ◌∙◌, subst, length-append, arith}
+use Rattle.std.specs.Prelude.{IfOk}
 use Rattle.gnb_base.specs.declared.lines.Line.{Line}
 use Rattle.gnb_base.specs.Outside.{SourceAt, SinkAt}
 use Rattle.gnb_base.specs.Reading.{Reading, fresh, still_to_come, NextMeets}
@@ -242,13 +243,16 @@ module _ {Event : Type 0} {m : WordMeaning Event} {Ran : List Event → Type 0} 
 
 -- ---- at the exits of the code
 
-pub turn_on : {Event : Type 0} {m : WordMeaning Event} {Ran : List Event → Type 0} {first : OutsideAt} {now : RunAt} (more : ℕ) (found : Option ℕ)
-    → found ≡ Some more → TurnMeets m Ran first now (Ok found) → SoFar m Ran first (record now { count = now.count + more })
-turn_on {m = m} {Ran = Ran} {first = first} {now = now} more found e t = subst (λ (o : Option ℕ). TurnMeets m Ran first now (Ok o)) e t
+module _ {Event : Type 0} (m : WordMeaning Event) (Ran : List Event → Type 0) (first : OutsideAt) (now : RunAt) where
+  pub turn_on : (more : ℕ) (found : Option ℕ) → found ≡ Some more → TurnMeets m Ran first now (Ok found)
+      → SoFar m Ran first (record now { count = now.count + more })
+  turn_on more found e t = subst (λ (o : Option ℕ). TurnMeets m Ran first now (Ok o)) e t
 
-pub turn_ends : {Event : Type 0} {m : WordMeaning Event} {Ran : List Event → Type 0} {first : OutsideAt} {now : RunAt} (found : Option ℕ)
-    → found ≡ None → TurnMeets m Ran first now (Ok found) → RunsTo m first (outside_of now) (Done now.count)
-turn_ends {m = m} {Ran = Ran} {first = first} {now = now} found e t = subst (λ (o : Option ℕ). TurnMeets m Ran first now (Ok o)) e t
+  pub turn_ends : (found : Option ℕ) → found ≡ None → TurnMeets m Ran first now (Ok found) → RunsTo m first (outside_of now) (Done now.count)
+  turn_ends found e t = subst (λ (o : Option ℕ). TurnMeets m Ran first now (Ok o)) e t
+
+pub no_turn : (P : Option ℕ → Type 0) (end : ScriptEnd) (result : Result (Option ℕ) ScriptEnd) → result ≡ Err end → IfOk result P
+no_turn P end result e = subst (λ (r : Result (Option ℕ) ScriptEnd). IfOk r P) (sym e) tt
 
 module _ {old new : Reading} {before after : SourceAt} (found : Option Line) (t : NextMeets old new before after (Ok found)) (line : Line) (is : found ≡ Some line) where
   handed : NextMeets old new before after (Ok (Some line))

@@ -1,10 +1,11 @@
 -- A whole script runs to its end, unless memory runs out; and a stop at a line is near it.
-use Rattle.std.proofs.Common.{◌≡◌, ◌⊎◌, ℕ, List, [], ◌∷◌, ◌++◌, length, map, false, Option, Some, None, Result, Ok, Err, refl, sym, ap, ◌∙◌, subst, inl, inr, append-nil, append_assoc, length-append, arith}
+use Rattle.std.proofs.Common.{◌≡◌, ◌≤◌, ◌⊎◌, ℕ, List, [], ◌∷◌, ◌++◌, length, map, false, Option, Some, None, Result, Ok, Err, refl, sym, ap, ◌∙◌, subst, inl, inr, append-nil, append_assoc, length-append, arith}
 use Rattle.std.proofs.lemmas.Grind.{flat_map-append}
 use Rattle.std.specs.List.{flat_map}
 use Rattle.std.specs.Io.KnownBytes.{Consumes}
 use Rattle.commands.proofs.command_output.Faults.{no_read_fault, no_write_fault}
 use Rattle.gnb_base.specs.Lines.{lines_of}
+use Rattle.gnb_base.specs.Reading.{input_limit}
 use Rattle.command_defs.specs.input_defs.Split.{InputSplit, joined, Divides, Whole, Bare}
 use Rattle.command_defs.specs.input_defs.Ends.{IsTooLong, IsReadToEnd}
 use Rattle.commands.proofs.input_lines.Near.{near_handed, near_next}

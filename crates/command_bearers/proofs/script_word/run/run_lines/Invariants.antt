@@ -6,7 +6,7 @@ use Rattle.command_bearers.proofs.script_word.run.run_lines.Given as goal
 -- what was run so far
 abbrev pub invariant-loop-more : goal.invariant-loop-more
 invariant-loop-more g l =
-    SoFar (g.W.ScriptWord.meaning l.fn.word.now) (g.W.ScriptWord.ran l.fn.word.now l.run)
+    SoFar (g.W.ScriptWord.meaning l.fn.word) (g.W.ScriptWord.ran l.fn.word l.run)
     (outside (g.S.Source.at l.fn.input) (g.K.Sink.at l.fn.output))
     (run_at l.reader (g.S.Source.at l.input) (g.K.Sink.at l.output) l.events)
 
