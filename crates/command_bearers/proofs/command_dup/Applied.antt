@@ -12,14 +12,14 @@ use Rattle.dup_defs.specs.declared.types.stop.DupEnd.TheVariants as ends
 use Rattle.dup_defs.specs.declared.types.stop.DupStop.{DupStop}
 use Rattle.dup_defs.specs.declared.types.stop.DupStop.TheVariants as stop_variants
 use Rattle.dup_defs.specs.dup_run_defs.Steps.{DupStep, passes, stops, steps, DupHappening, DupScript, with_step, with_event_at}
-use Rattle.dup.specs.run.Runs.{DupState, IsApplied as IsAppliedTo, IsEnding}
+use Rattle.dup.specs.run.Runs.{DupState, new_dup, IsApplied as IsAppliedTo, IsEnding}
 use Rattle.dup.specs.text.Print.{print, happens_text}
 use Rattle.command_bearers.specs.declared.command_dup.config.DupConfig.{DupConfig}
 use Rattle.command_bearers.specs.declared.script_word.end.StopCause.{StopCause}
 use Rattle.command_bearers.specs.declared.script_word.end.StopCause.TheVariants.{Outstanding, Spent}
 use Rattle.command_bearers.specs.declared.script_word.word.Happening.{Happening}
 use Rattle.command_bearers.specs.command_dup.Run.{run_of, happening_text, script_text, counts, cause_of, dup_meaning}
-use Rattle.command_bearers.specs.command_dup.inside.Laws.{run_more}
+use Rattle.command_bearers.specs.command_dup.inside.Laws.{run_begins, run_more}
 use Rattle.command_bearers.specs.command_dup.inside.Ran.{dup_of, HasRun}
 use Rattle.command_bearers.specs.script_word.inside.Applied.{IsApplied}
 
@@ -119,3 +119,11 @@ module _ (config : DupConfig) (event : DupEvent) (old new : DupState) (printed :
       → IsAppliedTo (step_at old event) old new (Err stop) → IfOk result (Shows event printed (Some (Spent counts))) → IfOk result (Comes config event old new)
   event_spends stop result e is shows =
       event_ends ends.CountsSpent result shows (subst (λ (s : DupStop). IsAppliedTo (step_at old event) old new (Err s)) e is).1
+
+pub begins : (config : DupConfig) (result : Result DupState Memory) → IfOk result (λ run. run ≡ new_dup config.sn config.quota)
+    → IfOk result (λ run. HasRun config run [])
+begins config (Ok run) is = record {
+  same = is ∙ ap (λ (s : DupScript). dup_of config s) (sym (run_begins config));
+  goes = ap (λ (s : DupScript). s.ended) (run_begins config);
+}
+begins config (Err e) is = tt

@@ -16,14 +16,14 @@ use Rattle.um_defs.specs.declared.types.stop.UmStop.{UmStop}
 use Rattle.um_defs.specs.declared.types.stop.UmStop.TheVariants as stop_variants
 use Rattle.um_defs.specs.um_run_defs.Run.{does_event, span}
 use Rattle.um_defs.specs.um_run_defs.Script.{UmStep, passes, stops, step_of, steps, printed_of, UmHappening, UmScript, with_step, with_event_at}
-use Rattle.um.specs.run.Worlds.{UmWorldState, IsApplied as IsAppliedTo, IsEnding, EndsIn}
+use Rattle.um.specs.run.Worlds.{UmWorldState, new_world, IsApplied as IsAppliedTo, IsEnding, EndsIn}
 use Rattle.um.specs.text.Print.{print, happens_text}
 use Rattle.command_bearers.specs.declared.command_um.config.UmConfig.{UmConfig}
 use Rattle.command_bearers.specs.declared.script_word.end.StopCause.{StopCause}
 use Rattle.command_bearers.specs.declared.script_word.end.StopCause.TheVariants.{Outstanding, Spent}
 use Rattle.command_bearers.specs.declared.script_word.word.Happening.{Happening}
 use Rattle.command_bearers.specs.command_um.Run.{run_of, happening_text, script_text, cause_of, um_meaning}
-use Rattle.command_bearers.specs.command_um.inside.Laws.{run_more}
+use Rattle.command_bearers.specs.command_um.inside.Laws.{run_begins, run_more}
 use Rattle.command_bearers.specs.command_um.inside.Ran.{world_of, HasRun}
 use Rattle.command_bearers.specs.script_word.inside.Applied.{IsApplied}
 
@@ -141,3 +141,11 @@ module _ (config : UmConfig) (event : UmEvent) (old new : UmWorldState) (printed
       → IsAppliedTo event old new (Err stop) → IfOk result (Shows event printed (Some (Spent counter))) → IfOk result (Comes config event old new)
   event_spends stop counter result e is shows =
       event_ends (ends.Spent counter) result shows (subst (λ (s : UmStop). IsAppliedTo event old new (Err s)) e is)
+
+pub begins : (config : UmConfig) (result : Result UmWorldState Memory) → IfOk result (λ run. run ≡ new_world config.sn config.ticks)
+    → IfOk result (λ run. HasRun config run [])
+begins config (Ok run) is = record {
+  same = is ∙ ap (λ (s : UmScript). world_of config s) (sym (run_begins config));
+  goes = ap (λ (s : UmScript). s.ended) (run_begins config);
+}
+begins config (Err e) is = tt

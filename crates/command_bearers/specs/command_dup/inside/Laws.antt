@@ -19,9 +19,9 @@ no_text : (config : DupConfig) → script_text config [] ≡ []
 unfolding script_of
 no_text config = refl
 
-goes_first : (config : DupConfig) → (run_of config []).ended ≡ None
+pub run_begins : (config : DupConfig) → run_of config [] ≡ new_script
 unfolding script_of
-goes_first config = refl
+run_begins config = refl
 
 module _ (config : DupConfig) (events : List DupEvent) (event : DupEvent) (cause : StopCause) where
   stays_by : (o : Option DupEnd) → (run_of config events).ended ≡ o → option_map cause_of o ≡ Some cause
@@ -37,6 +37,6 @@ module _ (config : DupConfig) (events : List DupEvent) (event : DupEvent) (cause
 pub dup_lawful : (config : DupConfig) → IsLawful (dup_meaning config)
 dup_lawful config = record {
   no_text = no_text config;
-  goes_first = ap (λ (o : Option DupEnd). option_map cause_of o) (goes_first config);
+  goes_first = ap (λ (s : DupScript). option_map cause_of s.ended) (run_begins config);
   stays = stays config;
 }

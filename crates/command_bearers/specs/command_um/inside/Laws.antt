@@ -19,9 +19,9 @@ no_text : (config : UmConfig) → script_text config [] ≡ []
 unfolding script_of
 no_text config = refl
 
-goes_first : (config : UmConfig) → (run_of config []).ended ≡ None
+pub run_begins : (config : UmConfig) → run_of config [] ≡ new_script
 unfolding script_of
-goes_first config = refl
+run_begins config = refl
 
 module _ (config : UmConfig) (events : List UmEvent) (event : UmEvent) (cause : StopCause) where
   stays_by : (o : Option UmEnd) → (run_of config events).ended ≡ o → option_map cause_of o ≡ Some cause
@@ -37,6 +37,6 @@ module _ (config : UmConfig) (events : List UmEvent) (event : UmEvent) (cause : 
 pub um_lawful : (config : UmConfig) → IsLawful (um_meaning config)
 um_lawful config = record {
   no_text = no_text config;
-  goes_first = ap (λ (o : Option UmEnd). option_map cause_of o) (goes_first config);
+  goes_first = ap (λ (s : UmScript). option_map cause_of s.ended) (run_begins config);
   stays = stays config;
 }
