@@ -1,4 +1,2 @@
-pub mod Ends
 pub mod Run
-pub mod Whole
 pub mod inside

@@ -1,11 +1,7 @@
-//! The word `duplicate`: a script of events of one bearer with duplication is read line by line, each event is applied before the next
-//! line is read, and what it prints is written.
+//! The word `duplicate`: a script of events of one bearer with duplication.
 
 mod config;
-mod end;
 mod run;
-mod script;
 
 pub use config::DupConfig;
-pub use end::ScriptEnd;
 pub use run::run_duplicate;

@@ -34,15 +34,11 @@ use Rattle.commands.specs.command_profile.Written.{PrintsProfile, ProfileMeets, 
 use Rattle.commands.specs.command_profile.Written as written
 use Rattle.scenario_cli.specs.declared.top.Form.{Form}
 use Rattle.command_bearers.specs.declared.command_um.config.UmConfig.{UmConfig}
-use Rattle.command_bearers.specs.declared.command_um.end.ScriptEnd.{ScriptEnd}
-use Rattle.command_bearers.specs.command_um.Ends.{script_status, StopsAtEvent}
-use Rattle.command_bearers.specs.command_um.Run.{UmMeets}
-use Rattle.command_bearers.specs.command_um.Whole.{RunsWholly as RunsWhollyUm}
+use Rattle.command_bearers.specs.declared.script_word.end.ScriptEnd.{ScriptEnd}
+use Rattle.command_bearers.specs.script_word.Ends.{script_status, StopsAtEvent}
+use Rattle.command_bearers.specs.command_um.Run.{UmMeets, RunsUm}
 use Rattle.command_bearers.specs.declared.command_dup.config.DupConfig.{DupConfig}
-use Rattle.command_bearers.specs.declared.command_dup.end.ScriptEnd.{ScriptEnd as DupScriptEnd}
-use Rattle.command_bearers.specs.command_dup.Ends.{script_status as dup_script_status, StopsAtEvent as StopsAtDupEvent}
-use Rattle.command_bearers.specs.command_dup.Run.{DupMeets}
-use Rattle.command_bearers.specs.command_dup.Whole.{RunsWholly as RunsWhollyDup}
+use Rattle.command_bearers.specs.command_dup.Run.{DupMeets, RunsDup}
 use Rattle.command_values.specs.declared.way.Way.{Way}
 use Rattle.command_values.specs.declared.end.ValuesEnd.{ValuesEnd}
 use Rattle.command_values.specs.Ends.{values_status, StopsAtValue}
@@ -118,10 +114,10 @@ pub record Holds (setting : Setting) (form : Form) (before after : OutsideAt) (s
   pub complete : form ≡ Run → RunsWholly setting before after status
   pub near_step : form ≡ Run → StopsAtStep before.source after.source status
   pub generates : (packets : ℕ) → form ≡ Generate packets → GeneratesWholly (run_of setting (script packets)) packets before after status
-  pub bearer : (config : UmConfig) → form ≡ Um config → RunsWhollyUm config before after status
+  pub bearer : (config : UmConfig) → form ≡ Um config → RunsUm config before after status
   pub near_event : (config : UmConfig) → form ≡ Um config → StopsAtEvent before.source after.source status
-  pub legs : (config : DupConfig) → form ≡ Dup config → RunsWhollyDup config before after status
-  pub near_leg_event : (config : DupConfig) → form ≡ Dup config → StopsAtDupEvent before.source after.source status
+  pub legs : (config : DupConfig) → form ≡ Dup config → RunsDup config before after status
+  pub near_leg_event : (config : DupConfig) → form ≡ Dup config → StopsAtEvent before.source after.source status
   pub checks : form ≡ Check → ChecksWholly before after status
   pub writes : WritesProfile form before after status
 
@@ -335,7 +331,7 @@ same_config : {config other : UmConfig} → Um config ≡ Um other → config �
 same_config e = cc
 
 um_holds : (setting : Setting) (config : UmConfig) (before after : OutsideAt) (end : ScriptEnd) → UmMeets config before after end
-    → StopsAtEvent before.source after.source (script_status end) → RunsWhollyUm config before after (script_status end)
+    → StopsAtEvent before.source after.source (script_status end) → RunsUm config before after (script_status end)
     → Holds setting (Um config) before after (script_status end)
 um_holds setting config before after end meets near complete = record {
   headline = record { end = end; status_is = refl; meets = meets };
@@ -346,7 +342,7 @@ um_holds setting config before after end meets near complete = record {
   complete = λ (e : Um config ≡ Run). absurd (cc);
   near_step = λ (e : Um config ≡ Run). absurd (cc);
   generates = λ packets (e : Um config ≡ Generate packets). absurd (cc);
-  bearer = λ other (e : Um config ≡ Um other). subst (λ (c : UmConfig). RunsWhollyUm c before after (script_status end)) (same_config e) complete;
+  bearer = λ other (e : Um config ≡ Um other). subst (λ (c : UmConfig). RunsUm c before after (script_status end)) (same_config e) complete;
   near_event = λ other (e : Um config ≡ Um other). near;
   legs = λ other (e : Um config ≡ Dup other). absurd (cc);
   near_leg_event = λ other (e : Um config ≡ Dup other). absurd (cc);
@@ -359,21 +355,21 @@ um_holds setting config before after end meets near complete = record {
 same_legs : {config other : DupConfig} → Dup config ≡ Dup other → config ≡ other
 same_legs e = cc
 
-dup_holds : (setting : Setting) (config : DupConfig) (before after : OutsideAt) (end : DupScriptEnd) → DupMeets config before after end
-    → StopsAtDupEvent before.source after.source (dup_script_status end) → RunsWhollyDup config before after (dup_script_status end)
-    → Holds setting (Dup config) before after (dup_script_status end)
+dup_holds : (setting : Setting) (config : DupConfig) (before after : OutsideAt) (end : ScriptEnd) → DupMeets config before after end
+    → StopsAtEvent before.source after.source (script_status end) → RunsDup config before after (script_status end)
+    → Holds setting (Dup config) before after (script_status end)
 dup_holds setting config before after end meets near complete = record {
   headline = record { end = end; status_is = refl; meets = meets };
   read = read_rose meets.calls.reads;
   write = write_rose meets.calls.writes;
   calls = meets.calls;
-  near = λ bytes known (stop : (dup_script_status end).code ≡ 4). near bytes known (inl stop);
+  near = λ bytes known (stop : (script_status end).code ≡ 4). near bytes known (inl stop);
   complete = λ (e : Dup config ≡ Run). absurd (cc);
   near_step = λ (e : Dup config ≡ Run). absurd (cc);
   generates = λ packets (e : Dup config ≡ Generate packets). absurd (cc);
   bearer = λ other (e : Dup config ≡ Um other). absurd (cc);
   near_event = λ other (e : Dup config ≡ Um other). absurd (cc);
-  legs = λ other (e : Dup config ≡ Dup other). subst (λ (c : DupConfig). RunsWhollyDup c before after (dup_script_status end)) (same_legs e) complete;
+  legs = λ other (e : Dup config ≡ Dup other). subst (λ (c : DupConfig). RunsDup c before after (script_status end)) (same_legs e) complete;
   near_leg_event = λ other (e : Dup config ≡ Dup other). near;
   checks = λ (e : Dup config ≡ Check). absurd (cc);
   writes = tt;
@@ -416,17 +412,17 @@ prints_at {before = before} {after = after} setting form found version status e 
 
 pub runs_bearer : {before after : OutsideAt} (setting : Setting) (form found : Form) (config : UmConfig) (end : ScriptEnd) (status : Status) → found ≡ form
     → found ≡ Um config → status ≡ script_status end → UmMeets config before after end
-    → StopsAtEvent before.source after.source (script_status end) → RunsWhollyUm config before after (script_status end)
+    → StopsAtEvent before.source after.source (script_status end) → RunsUm config before after (script_status end)
     → Holds setting form before after status
 runs_bearer {before = before} {after = after} setting form found config end status e f same meets near complete =
     holds_at setting form found (Um config) status (script_status end) e f same (um_holds setting config before after end meets near complete)
 
-pub runs_legs : {before after : OutsideAt} (setting : Setting) (form found : Form) (config : DupConfig) (end : DupScriptEnd) (status : Status) → found ≡ form
-    → found ≡ Dup config → status ≡ dup_script_status end → DupMeets config before after end
-    → StopsAtDupEvent before.source after.source (dup_script_status end) → RunsWhollyDup config before after (dup_script_status end)
+pub runs_legs : {before after : OutsideAt} (setting : Setting) (form found : Form) (config : DupConfig) (end : ScriptEnd) (status : Status) → found ≡ form
+    → found ≡ Dup config → status ≡ script_status end → DupMeets config before after end
+    → StopsAtEvent before.source after.source (script_status end) → RunsDup config before after (script_status end)
     → Holds setting form before after status
 runs_legs {before = before} {after = after} setting form found config end status e f same meets near complete =
-    holds_at setting form found (Dup config) status (dup_script_status end) e f same (dup_holds setting config before after end meets near complete)
+    holds_at setting form found (Dup config) status (script_status end) e f same (dup_holds setting config before after end meets near complete)
 
 -- ---- with the words `encode` and `decode`
 

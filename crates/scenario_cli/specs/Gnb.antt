@@ -16,12 +16,10 @@ use Rattle.commands.specs.command_profile.Written.{ProfileMeets, WritesWholly}
 use Rattle.scenario_text.specs.script_words.Forms.{sn_bits_of, number_of}
 use Rattle.gnb_types.specs.declared.names.SnBits.{SnBits}
 use Rattle.command_bearers.specs.declared.command_um.config.UmConfig.{UmConfig}
-use Rattle.command_bearers.specs.declared.command_um.end.ScriptEnd.{ScriptEnd}
-use Rattle.command_bearers.specs.command_um.Ends.{script_status}
+use Rattle.command_bearers.specs.declared.script_word.end.ScriptEnd.{ScriptEnd}
+use Rattle.command_bearers.specs.script_word.Ends.{script_status}
 use Rattle.command_bearers.specs.command_um.Run.{UmMeets}
 use Rattle.command_bearers.specs.declared.command_dup.config.DupConfig.{DupConfig}
-use Rattle.command_bearers.specs.declared.command_dup.end.ScriptEnd.{ScriptEnd as DupScriptEnd}
-use Rattle.command_bearers.specs.command_dup.Ends.{script_status as dup_script_status}
 use Rattle.command_bearers.specs.command_dup.Run.{DupMeets}
 use Rattle.command_values.specs.declared.way.Way.TheVariants.{Encode, Decode}
 use Rattle.command_values.specs.declared.end.ValuesEnd.{ValuesEnd}
@@ -105,8 +103,8 @@ pub record RunsBearer (config : UmConfig) (before after : OutsideAt) (status : S
 
 -- with the word `duplicate`
 pub record RunsLegs (config : DupConfig) (before after : OutsideAt) (status : Status) : Type 0 where
-  pub end : DupScriptEnd
-  pub status_is : status ≡ dup_script_status end
+  pub end : ScriptEnd
+  pub status_is : status ≡ script_status end
   pub meets : DupMeets config before after end
 
 -- with the word `encode` or `decode`

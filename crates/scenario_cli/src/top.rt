@@ -13,11 +13,10 @@ ghost use Rattle.command_run.specs.generate.Script.{script};
 ghost use Rattle.command_run.specs.generate.Generate.{GenerateMeets, GeneratesWholly};
 ghost use Rattle.commands.specs.command_check.Whole.{ChecksWholly};
 ghost use Rattle.command_bearers.specs.declared.command_um.config.UmConfig.{UmConfig as Config};
-ghost use Rattle.command_bearers.specs.command_um.Ends.{StopsAtEvent};
-ghost use Rattle.command_bearers.specs.command_um.Whole.{RunsWholly as RunsWhollyUm};
+ghost use Rattle.command_bearers.specs.command_um.Run.{RunsUm};
 ghost use Rattle.command_bearers.specs.declared.command_dup.config.DupConfig.{DupConfig as Legs};
-ghost use Rattle.command_bearers.specs.command_dup.Ends.{StopsAtEvent as StopsAtDupEvent};
-ghost use Rattle.command_bearers.specs.command_dup.Whole.{RunsWholly as RunsWhollyDup};
+ghost use Rattle.command_bearers.specs.command_dup.Run.{RunsDup};
+ghost use Rattle.command_bearers.specs.script_word.Ends.{StopsAtEvent};
 ghost use Rattle.command_values.specs.declared.way.Way.{Way as Direction};
 ghost use Rattle.command_values.specs.Ends.{StopsAtValue};
 ghost use Rattle.command_values.specs.Values.{job_of};
@@ -265,17 +264,17 @@ pub fn gnb<S: Source, K: Sink, U: Units<ProfileCodec> + Drop>(
     // So is a whole script of one unacknowledged bearer, and a stop at one of its lines is near it
     // too.
     ensures bearer { (config : Config) → form_of_words (map string_bytes words.now) ≡ Form.Um config
-        → RunsWhollyUm config (outside (S.at input.old) (K.at output.old))
+        → RunsUm config (outside (S.at input.old) (K.at output.old))
         (outside (S.at input.new) (K.at output.new)) result }
     ensures near_event { (config : Config) → form_of_words (map string_bytes words.now) ≡ Form.Um config
         → StopsAtEvent (S.at input.old) (S.at input.new) result }
 
     // The same of a script of one bearer with duplication.
     ensures legs { (config : Legs) → form_of_words (map string_bytes words.now) ≡ Form.Dup config
-        → RunsWhollyDup config (outside (S.at input.old) (K.at output.old))
+        → RunsDup config (outside (S.at input.old) (K.at output.old))
         (outside (S.at input.new) (K.at output.new)) result }
     ensures near_leg_event { (config : Legs) → form_of_words (map string_bytes words.now) ≡ Form.Dup config
-        → StopsAtDupEvent (S.at input.old) (S.at input.new) result }
+        → StopsAtEvent (S.at input.old) (S.at input.new) result }
 
     // Lines after a module are encoded, or decoded, as values of the type that the second word names.
     // Each line of a whole input is answered, and a stop at one is near it too.

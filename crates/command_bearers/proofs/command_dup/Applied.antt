@@ -1,140 +1,129 @@
--- One turn of a script: what the calls in it give together.
-use Rattle.std.proofs.Common.{◌≡◌, ℕ, List, ◌++◌, false, Option, Some, None, Result, Ok, Err, refl, sym, ap, ◌∙◌, subst, inl, inr}
-use Rattle.gnb_base.specs.declared.lines.Line.{Line}
-use Rattle.gnb_base.specs.Reading.{NextMeets}
-use Rattle.command_defs.specs.declared.input_defs.InputEnd.{InputEnd}
-use Rattle.commands.specs.input_lines.ReadsLine.{StopsReading}
-use Rattle.scenario_text.specs.declared.script_words.reason.TextReason.{TextReason}
-use Rattle.scenario_text.specs.declared.script_words.reason.TextError.{TextError}
-use Rattle.scenario_text.specs.declared.script_words.reason.TextError.TheVariants as texts
-use Rattle.scenario_text.specs.script_words.Answers.{GivesOrMemory}
-use Rattle.scenario_text.specs.Grammar.{is_skipped}
+-- An event that the code applied, as the definitions have it.
+use Rattle.std.proofs.Common.{◌≡◌, ℕ, List, [], ◌∷◌, ◌++◌, Option, Some, None, Result, Ok, Err, refl, sym, ap, ◌∙◌, subst, inl, inr, append-nil}
+use Rattle.std.proofs.lemmas.Grind.{flat_map-append}
+use Rattle.std.specs.List.{flat_map}
+use Rattle.std.specs.Option.{option_map}
+use Rattle.gnb_types.specs.declared.items.Memory.{Memory}
+use Rattle.std.specs.Prelude.{IfOk}
 use Rattle.dup_defs.specs.declared.types.event.DupEvent.{DupEvent}
 use Rattle.dup_defs.specs.declared.types.line.DupLine.{DupLine}
 use Rattle.dup_defs.specs.declared.types.stop.DupEnd.{DupEnd}
 use Rattle.dup_defs.specs.declared.types.stop.DupEnd.TheVariants as ends
 use Rattle.dup_defs.specs.declared.types.stop.DupStop.{DupStop}
 use Rattle.dup_defs.specs.declared.types.stop.DupStop.TheVariants as stop_variants
-use Rattle.dup_defs.specs.dup_run_defs.Steps.{DupStep, passes, stops}
-use Rattle.dup.specs.run.Runs.{DupState, IsApplied, IsEnding}
-use Rattle.dup.specs.text.Grammar.{event_of}
+use Rattle.dup_defs.specs.dup_run_defs.Steps.{DupStep, passes, stops, steps, DupHappening, DupScript, with_step, with_event_at}
+use Rattle.dup.specs.run.Runs.{DupState, new_dup, IsApplied as IsAppliedTo, IsEnding}
 use Rattle.dup.specs.text.Print.{print, happens_text}
-use Rattle.command_defs.specs.declared.CommonEnd.TheVariants.{WriteFault}
-use Rattle.command_defs.specs.Ends.{end_of_input}
-use Rattle.commands.specs.command_output.Writes.{WritesAll, WritesFront}
-use Rattle.command_bearers.specs.declared.command_dup.end.ScriptEnd.{ScriptEnd}
-use Rattle.command_bearers.specs.declared.command_dup.end.ScriptEnd.TheVariants.{Script, Common}
-use Rattle.command_bearers.specs.declared.command_dup.script.Meaning.{Meaning}
-use Rattle.command_bearers.specs.declared.command_dup.script.Meaning.TheVariants as meanings
-use Rattle.command_bearers.specs.declared.command_dup.script.Happening.{Happening}
-use Rattle.command_bearers.specs.command_dup.Ends.{end_at}
-use Rattle.command_bearers.specs.command_dup.inside.Turns.{WorkAt, RunAt, IsEvent, LineStops, Refused, Means, printed_of, step_at, Comes, IsHappening, text_at, Applies, ApplyStops, Ended, Faulty, TakesLine, Happens, TurnStops, Unread, Unapplied, Unfinished, TurnMeets}
+use Rattle.command_bearers.specs.declared.command_dup.config.DupConfig.{DupConfig}
+use Rattle.command_bearers.specs.declared.script_word.end.StopCause.{StopCause}
+use Rattle.command_bearers.specs.declared.script_word.end.StopCause.TheVariants.{Outstanding, Spent}
+use Rattle.command_bearers.specs.declared.script_word.word.Happening.{Happening}
+use Rattle.command_bearers.specs.command_dup.Run.{run_of, happening_text, script_text, counts, cause_of, dup_meaning}
+use Rattle.command_bearers.specs.command_dup.inside.Laws.{run_begins, run_more}
+use Rattle.command_bearers.specs.command_dup.inside.Ran.{dup_of, HasRun}
+use Rattle.command_bearers.specs.script_word.inside.Applied.{IsApplied}
 
--- ---- a line
+-- ---- the step that the code made
 
-pub is_refused : (line : Line) (text : List ℕ) (error : TextError) (reason : TextReason) → error ≡ texts.Refused reason → text ≡ line.text
-    → is_skipped text ≡ false → GivesOrMemory {X = DupEvent} (λ x. x) (Err error) (event_of text) → LineStops line (Script line.number reason)
-is_refused line text error reason e same skip gives =
-    let read = subst (λ (t : TextError). GivesOrMemory {X = DupEvent} (λ x. x) (Err t) (event_of text)) e gives in
-    Refused reason (ap is_skipped (sym same) ∙ skip) (ap event_of (sym same) ∙ read) refl
+abbrev pub step_at : DupState → DupEvent → DupStep
+step_at dup event = steps dup.sn dup.quota event dup.run
 
--- ---- an event is applied
-
-pub passes_on : (event : DupEvent) (old new : DupState) (printed : List DupLine) → IsApplied (step_at old event) old new (Ok printed)
-    → Comes event old new printed None
-passes_on event old new printed h = (h.2, h.3)
+passes_on : (event : DupEvent) (old new : DupState) (printed : List DupLine) → IsAppliedTo (step_at old event) old new (Ok printed)
+    → step_at old event ≡ passes printed new.run
+passes_on event old new printed h = h.2
 
 -- a run that hasn't ended ends in the event
-ends_now : (step : DupStep) (old new : DupState) (end : DupEnd) (printed : List DupLine) → old.ended ≡ None
-    → IsEnding step old new end printed → step ≡ stops printed end
-ends_now step old new end printed goes (inl h) = absurd (let clash : None ≡ Some end = sym goes ∙ h.0 in cc)
-ends_now step old new end printed goes (inr h) = h.2
+ends_now : (event : DupEvent) (old new : DupState) (end : DupEnd) (printed : List DupLine) → old.ended ≡ None
+    → IsEnding (step_at old event) old new end printed → step_at old event ≡ stops printed end
+ends_now event old new end printed goes (inl h) = absurd (let clash : None ≡ Some end = sym goes ∙ h.0 in cc)
+ends_now event old new end printed goes (inr h) = h.2
 
-pub outstanding_now : (event : DupEvent) (old new : DupState) (stop : DupStop) (far window : ℕ) (printed : List DupLine)
-    → stop ≡ stop_variants.Outstanding far window printed → old.ended ≡ None → IsApplied (step_at old event) old new (Err stop)
-    → step_at old event ≡ stops printed (ends.Outstanding far window)
-outstanding_now event old new stop far window printed e goes h =
-    let is : IsApplied (step_at old event) old new (Err (stop_variants.Outstanding far window printed)) =
-    subst (λ (s : DupStop). IsApplied (step_at old event) old new (Err s)) e h in
-    ends_now (step_at old event) old new (ends.Outstanding far window) printed goes is.1
+-- ---- the run of one event more
 
-pub counts_spent_now : (event : DupEvent) (old new : DupState) (stop : DupStop) (printed : List DupLine)
-    → stop ≡ stop_variants.CountsSpent printed → old.ended ≡ None → IsApplied (step_at old event) old new (Err stop)
-    → step_at old event ≡ stops printed ends.CountsSpent
-counts_spent_now event old new stop printed e goes h =
-    let is : IsApplied (step_at old event) old new (Err (stop_variants.CountsSpent printed)) =
-    subst (λ (s : DupStop). IsApplied (step_at old event) old new (Err s)) e h in
-    ends_now (step_at old event) old new ends.CountsSpent printed goes is.1
+abbrev pub printed_of : DupStep → List DupLine
+printed_of (passes printed after) = printed
+printed_of (stops printed end) = printed
 
-printed_is : (step : DupStep) (printed : List DupLine) (next : DupStep) → step ≡ next → printed_of next ≡ printed → printed_of step ≡ printed
-printed_is step printed next e f = ap printed_of e ∙ f
+happened-step : (script : DupScript) (event : DupEvent) (step : DupStep)
+    → (with_step script event step).happened ≡ script.happened ++ record { event = event; printed = printed_of step } ∷ []
+happened-step script event (passes printed after) = refl
+happened-step script event (stops printed end) = refl
 
-shown : (event : DupEvent) (old new : DupState) (h : Happening) → IsHappening event old new h
-    → happens_text event ++ print h.lines ≡ text_at old event
-shown event old new h is = by h.end is
-  where
-    by : (end : Option DupEnd) → Comes event old new h.lines end → happens_text event ++ print h.lines ≡ text_at old event
-    by None c = ap (λ (ls : List DupLine). happens_text event ++ print ls) (sym (printed_is (step_at old event) h.lines (passes h.lines new.run) c.0 refl))
-    by (Some end) c = ap (λ (ls : List DupLine). happens_text event ++ print ls) (sym (printed_is (step_at old event) h.lines (stops h.lines end) c refl))
+module _ (config : DupConfig) (events : List DupEvent) (event : DupEvent) (old : DupState) (r : HasRun config old events) where
+  run_steps : (step : DupStep) → step_at old event ≡ step → run_of config (events ++ event ∷ []) ≡ with_step (run_of config events) event step
+  run_steps step e =
+      run_more config events event
+      ∙ ap (λ (o : Option DupEnd). with_event_at config.sn config.quota (run_of config events) event o) r.goes
+      ∙ ap (λ (s : DupStep). with_step (run_of config events) event s) (sym (ap (λ (w : DupState). step_at w event) r.same) ∙ e)
 
-module _ (old new : WorkAt) (event : DupEvent) (h : Happening) (is : IsHappening event old.dup new.dup h) (text : List ℕ) (shows : text ≡ happens_text event ++ print h.lines) where
-  pub event_written : h.end ≡ None → WritesAll old.sink new.sink text → Applies old new event
-  event_written none w =
-      let c : Comes event old.dup new.dup h.lines None = subst (λ (o : Option DupEnd). Comes event old.dup new.dup h.lines o) none is in
-      record {
-        printed = h.lines;
-        passes_on = c.0;
-        same = c.1;
-        writes = subst (λ (t : List ℕ). WritesAll old.sink new.sink t) (shows ∙ shown event old.dup new.dup h is) w;
-      }
+  text_steps : (step : DupStep) → step_at old event ≡ step
+      → script_text config (events ++ event ∷ []) ≡ script_text config events ++ (happens_text event ++ print (printed_of step))
+  text_steps step e =
+      let more : DupHappening = record { event = event; printed = printed_of step } in
+      ap (λ (s : DupScript). flat_map happening_text s.happened) (run_steps step e)
+      ∙ ap (λ (hs : List DupHappening). flat_map happening_text hs) (happened-step (run_of config events) event step)
+      ∙ flat_map-append happening_text (run_of config events).happened (more ∷ [])
+      ∙ ap (λ (text : List ℕ). script_text config events ++ text) (append-nil (happening_text more))
 
-  pub event_ends : (place : ℕ) (why : DupEnd) (end : ScriptEnd) → h.end ≡ Some why → end ≡ end_at place why → WritesAll old.sink new.sink text
-      → ApplyStops old new place event end
-  event_ends place why end some e w =
-      let c : Comes event old.dup new.dup h.lines (Some why) = subst (λ (o : Option DupEnd). Comes event old.dup new.dup h.lines o) some is in
-      Ended h.lines why c e (subst (λ (t : List ℕ). WritesAll old.sink new.sink t) (shows ∙ shown event old.dup new.dup h is) w)
+  module _ (new : DupState) (printed : List DupLine) (h : Happening) (text : h.text ≡ happens_text event ++ print printed) where
+    pub goes_on : IsAppliedTo (step_at old event) old new (Ok printed) → h.cause ≡ None → IsApplied (dup_meaning config) (HasRun config new) events event h
+    goes_on is none =
+        let passing = passes_on event old new printed is in
+        let after = run_steps (passes printed new.run) passing in
+        let goes : (run_of config (events ++ event ∷ [])).ended ≡ None = ap (λ (s : DupScript). s.ended) after ∙ r.goes in
+        record {
+          text = text_steps (passes printed new.run) passing ∙ ap (λ (t : List ℕ). script_text config events ++ t) (sym text);
+          stops = ap (λ (o : Option DupEnd). option_map cause_of o) goes ∙ sym none;
+          goes = λ same_cause. record {
+            same = is.3 ∙ ap (λ (w : DupState). record w { run = new.run }) r.same ∙ ap (λ (s : DupScript). dup_of config s) (sym after);
+            goes = goes;
+          };
+        }
 
-  pub event_cut : (place : ℕ) → WritesFront old.sink new.sink text → ApplyStops old new place event (Common WriteFault)
-  event_cut place w = Faulty refl (subst (λ (t : List ℕ). WritesFront old.sink new.sink t) (shows ∙ shown event old.dup new.dup h is) w)
+    pub stops_in : (end : DupEnd) → IsEnding (step_at old event) old new end printed → h.cause ≡ Some (cause_of end)
+        → IsApplied (dup_meaning config) (HasRun config new) events event h
+    stops_in end is some =
+        let ending = ends_now event old new end printed (ap (λ (w : DupState). w.ended) r.same ∙ r.goes) is in
+        let ended : (run_of config (events ++ event ∷ [])).ended ≡ Some end = ap (λ (s : DupScript). s.ended) (run_steps (stops printed end) ending) in
+        record {
+          text = text_steps (stops printed end) ending ∙ ap (λ (t : List ℕ). script_text config events ++ t) (sym text);
+          stops = ap (λ (o : Option DupEnd). option_map cause_of o) ended ∙ sym some;
+          goes = λ none. absurd (let clash : None ≡ Some (cause_of end) = sym none ∙ some in cc);
+        }
 
--- ---- a turn
+-- ---- at the exits of the code
 
-turn_result : (old new : RunAt) (end : ScriptEnd) (result : Result (Option ℕ) ScriptEnd) → result ≡ Err end → TurnStops old new end
-    → TurnMeets old new result
-turn_result old new end result e how = subst (λ (r : Result (Option ℕ) ScriptEnd). TurnMeets old new r) (sym e) how
+abbrev pub Shows : DupEvent → List DupLine → Option StopCause → Happening → Type 0
+Shows event printed cause h = (h.text ≡ happens_text event ++ print printed) × (h.cause ≡ cause)
 
-pub turn_unread : (old new : RunAt) (why : InputEnd) (end : ScriptEnd) (result : Result (Option ℕ) ScriptEnd)
-    → StopsReading old.reading new.reading old.source new.source why
-    → result ≡ Err end → end ≡ Common (end_of_input why) → new.work ≡ old.work → TurnMeets old new result
-turn_unread old new why end result s e f same = turn_result old new end result e (Unread why s f same)
+abbrev pub Comes : DupConfig → DupEvent → DupState → DupState → Happening → Type 0
+Comes config event old new h = (events : List DupEvent) → HasRun config old events → IsApplied (dup_meaning config) (HasRun config new) events event h
 
-pub unapplied : (old new : RunAt) (found : Option Line) (line : Line) (why end : ScriptEnd) (result : Result (Option ℕ) ScriptEnd)
-    → found ≡ Some line
-    → NextMeets old.reading new.reading old.source new.source (Ok found) → LineStops line why → result ≡ Err end → end ≡ why
-    → new.work ≡ old.work → TurnMeets old new result
-unapplied old new found line why end result e m how r f same =
-    turn_result old new why result (r ∙ ap (λ (x : ScriptEnd). Err x) f)
-    (Unapplied line (subst (λ (o : Option Line). NextMeets old.reading new.reading old.source new.source (Ok o)) e m) how same)
+module _ (config : DupConfig) (event : DupEvent) (old new : DupState) (printed : List DupLine) where
+  pub event_passes : (result : Result Happening Memory) → IfOk result (Shows event printed None) → IsAppliedTo (step_at old event) old new (Ok printed)
+      → IfOk result (Comes config event old new)
+  event_passes (Ok h) shows is = λ events r. goes_on config events event old r new printed h shows.0 is shows.1
+  event_passes (Err e) shows is = tt
 
-pub unfinished : (old new : RunAt) (found : Option Line) (line : Line) (event : DupEvent) (why end : ScriptEnd) (result : Result (Option ℕ) ScriptEnd)
-    → found ≡ Some line
-    → NextMeets old.reading new.reading old.source new.source (Ok found) → IsEvent line.text event
-    → ApplyStops old.work new.work line.number event why
-    → result ≡ Err end → end ≡ why
-    → TurnMeets old new result
-unfinished old new found line event why end result e m is how r f =
-    turn_result old new why result (r ∙ ap (λ (x : ScriptEnd). Err x) f)
-    (Unfinished line event (subst (λ (o : Option Line). NextMeets old.reading new.reading old.source new.source (Ok o)) e m) is how)
+  event_ends : (end : DupEnd) (result : Result Happening Memory) → IfOk result (Shows event printed (Some (cause_of end)))
+      → IsEnding (step_at old event) old new end printed → IfOk result (Comes config event old new)
+  event_ends end (Ok h) shows is = λ events r. stops_in config events event old r new printed h shows.0 end is shows.1
+  event_ends end (Err e) shows is = tt
 
-pub applied : (old new : RunAt) (found : Option Line) (line : Line) (event : DupEvent) → found ≡ Some line
-    → NextMeets old.reading new.reading old.source new.source (Ok found)
-    → IsEvent line.text event → Applies old.work new.work event → TakesLine old new 1
-applied old new found line event e m is applies = record {
-  line = line;
-  meets = subst (λ (o : Option Line). NextMeets old.reading new.reading old.source new.source (Ok o)) e m;
-  applies = Happens refl event is applies;
+  pub event_outstanding : (stop : DupStop) (far window : ℕ) (result : Result Happening Memory) → stop ≡ stop_variants.Outstanding far window printed
+      → IsAppliedTo (step_at old event) old new (Err stop) → IfOk result (Shows event printed (Some Outstanding)) → IfOk result (Comes config event old new)
+  event_outstanding stop far window result e is shows =
+      event_ends (ends.Outstanding far window) result shows (subst (λ (s : DupStop). IsAppliedTo (step_at old event) old new (Err s)) e is).1
+
+  pub event_spends : (stop : DupStop) (result : Result Happening Memory) → stop ≡ stop_variants.CountsSpent printed
+      → IsAppliedTo (step_at old event) old new (Err stop) → IfOk result (Shows event printed (Some (Spent counts))) → IfOk result (Comes config event old new)
+  event_spends stop result e is shows =
+      event_ends ends.CountsSpent result shows (subst (λ (s : DupStop). IsAppliedTo (step_at old event) old new (Err s)) e is).1
+
+pub begins : (config : DupConfig) (result : Result DupState Memory) → IfOk result (λ run. run ≡ new_dup config.sn config.quota)
+    → IfOk result (λ run. HasRun config run [])
+begins config (Ok run) is = record {
+  same = is ∙ ap (λ (s : DupScript). dup_of config s) (sym (run_begins config));
+  goes = ap (λ (s : DupScript). s.ended) (run_begins config);
 }
-
-pub is_event_at : (line : Line) (meaning : Meaning) (event : DupEvent) → meaning ≡ meanings.Event event → Means line (Ok meaning)
-    → IsEvent line.text event
-is_event_at line meaning event e h = subst (λ (m : Meaning). Means line (Ok m)) e h
+begins config (Err e) is = tt

@@ -1,15 +1,11 @@
--- One turn of a script: what the calls in it give together.
-use Rattle.std.proofs.Common.{◌≡◌, ◌<◌, ◌≤◌, ℕ, List, [], ◌∷◌, ◌++◌, Bool, true, false, cond, Option, Some, None, Result, Ok, Err, refl, sym, ap, ◌∙◌, subst, inl, inr, arith, nat_lt}
+-- An event that the code applied, as the definitions have it.
+use Rattle.std.proofs.Common.{◌≡◌, ◌<◌, ◌≤◌, ℕ, List, [], ◌∷◌, ◌++◌, Bool, true, false, cond, Option, Some, None, Result, Ok, Err, refl, sym, ap, ◌∙◌, subst, inl, inr, append-nil, arith, nat_lt}
 use Rattle.std.proofs.lemmas.Bool.Decides.{nat_tests}
-use Rattle.gnb_base.specs.declared.lines.Line.{Line}
-use Rattle.gnb_base.specs.Reading.{NextMeets}
-use Rattle.command_defs.specs.declared.input_defs.InputEnd.{InputEnd}
-use Rattle.commands.specs.input_lines.ReadsLine.{StopsReading}
-use Rattle.scenario_text.specs.declared.script_words.reason.TextReason.{TextReason}
-use Rattle.scenario_text.specs.declared.script_words.reason.TextError.{TextError}
-use Rattle.scenario_text.specs.declared.script_words.reason.TextError.TheVariants as texts
-use Rattle.scenario_text.specs.script_words.Answers.{GivesOrMemory}
-use Rattle.scenario_text.specs.Grammar.{is_skipped}
+use Rattle.std.proofs.lemmas.Grind.{flat_map-append}
+use Rattle.std.specs.List.{flat_map}
+use Rattle.std.specs.Option.{option_map}
+use Rattle.gnb_types.specs.declared.items.Memory.{Memory}
+use Rattle.std.specs.Prelude.{IfOk}
 use Rattle.pdcp.specs.Numbers.{half}
 use Rattle.um_defs.specs.declared.types.event.UmEvent.{UmEvent}
 use Rattle.um_defs.specs.declared.types.line.UmLine.{UmLine}
@@ -19,30 +15,22 @@ use Rattle.um_defs.specs.declared.types.stop.UmEnd.TheVariants as ends
 use Rattle.um_defs.specs.declared.types.stop.UmStop.{UmStop}
 use Rattle.um_defs.specs.declared.types.stop.UmStop.TheVariants as stop_variants
 use Rattle.um_defs.specs.um_run_defs.Run.{does_event, span}
-use Rattle.um_defs.specs.um_run_defs.Script.{UmStep, passes, stops, step_of, steps, printed_of}
-use Rattle.um.specs.run.Worlds.{UmWorldState, IsApplied, IsEnding, EndsIn}
-use Rattle.um.specs.text.Grammar.{event_of}
+use Rattle.um_defs.specs.um_run_defs.Script.{UmStep, passes, stops, step_of, steps, printed_of, UmHappening, UmScript, with_step, with_event_at}
+use Rattle.um.specs.run.Worlds.{UmWorldState, new_world, IsApplied as IsAppliedTo, IsEnding, EndsIn}
 use Rattle.um.specs.text.Print.{print, happens_text}
-use Rattle.command_defs.specs.declared.CommonEnd.TheVariants.{WriteFault}
-use Rattle.command_defs.specs.Ends.{end_of_input}
-use Rattle.commands.specs.command_output.Writes.{WritesAll, WritesFront}
-use Rattle.command_bearers.specs.declared.command_um.end.ScriptEnd.{ScriptEnd}
-use Rattle.command_bearers.specs.declared.command_um.end.ScriptEnd.TheVariants.{Script, Common}
-use Rattle.command_bearers.specs.declared.command_um.script.Meaning.{Meaning}
-use Rattle.command_bearers.specs.declared.command_um.script.Meaning.TheVariants as meanings
-use Rattle.command_bearers.specs.declared.command_um.script.Happening.{Happening}
-use Rattle.command_bearers.specs.command_um.Ends.{end_at}
-use Rattle.command_bearers.specs.command_um.inside.Turns.{WorkAt, RunAt, IsEvent, LineStops, Refused, Means, step_at, Comes, IsHappening, text_at, Applies, ApplyStops, Ended, Faulty, TakesLine, Happens, TurnStops, Unread, Unapplied, Unfinished, TurnMeets}
+use Rattle.command_bearers.specs.declared.command_um.config.UmConfig.{UmConfig}
+use Rattle.command_bearers.specs.declared.script_word.end.StopCause.{StopCause}
+use Rattle.command_bearers.specs.declared.script_word.end.StopCause.TheVariants.{Outstanding, Spent}
+use Rattle.command_bearers.specs.declared.script_word.word.Happening.{Happening}
+use Rattle.command_bearers.specs.command_um.Run.{run_of, happening_text, script_text, cause_of, um_meaning}
+use Rattle.command_bearers.specs.command_um.inside.Laws.{run_begins, run_more}
+use Rattle.command_bearers.specs.command_um.inside.Ran.{world_of, HasRun}
+use Rattle.command_bearers.specs.script_word.inside.Applied.{IsApplied}
 
--- ---- a line
+-- ---- the step that the code made
 
-pub is_refused : (line : Line) (text : List ℕ) (error : TextError) (reason : TextReason) → error ≡ texts.Refused reason → text ≡ line.text
-    → is_skipped text ≡ false → GivesOrMemory {X = UmEvent} (λ x. x) (Err error) (event_of text) → LineStops line (Script line.number reason)
-is_refused line text error reason e same skip gives =
-    let read = subst (λ (t : TextError). GivesOrMemory {X = UmEvent} (λ x. x) (Err t) (event_of text)) e gives in
-    Refused reason (ap is_skipped (sym same) ∙ skip) (ap event_of (sym same) ∙ read) refl
-
--- ---- an event is applied
+abbrev pub step_at : UmWorldState → UmEvent → UmStep
+step_at world event = steps world.sn world.ticks event world.run
 
 not_less : (a b : ℕ) → b ≤ a → nat_lt a b ≡ false
 not_less a b h = grind (arith, nat_tests)
@@ -50,16 +38,13 @@ not_less a b h = grind (arith, nat_tests)
 is_less : (a b : ℕ) → a < b → nat_lt a b ≡ true
 is_less a b h = grind (arith, nat_tests)
 
--- the event's outcome, as a step of a script
-pub passes_on : (event : UmEvent) (old new : UmWorldState) (printed : List UmLine) → IsApplied event old new (Ok printed)
-    → Comes event old new printed None
+passes_on : (event : UmEvent) (old new : UmWorldState) (printed : List UmLine) → IsAppliedTo event old new (Ok printed)
+    → step_at old event ≡ passes printed new.run
 unfolding steps
 passes_on event old new printed h =
-    let within : nat_lt (half old.sn) (span new.run) ≡ false = not_less (half old.sn) (span new.run) h.2 in (
-      ap (step_of old.sn) h.1
-          ∙ ap (λ (b : Bool). cond b (stops (printed ++ lines.Outstanding (span new.run) (half old.sn) ∷ []) (ends.Outstanding (span new.run) (half old.sn))) (passes printed new.run)) within,
-      h.3,
-    )
+    let within : nat_lt (half old.sn) (span new.run) ≡ false = not_less (half old.sn) (span new.run) h.2 in
+    ap (step_of old.sn) h.1
+    ∙ ap (λ (b : Bool). cond b (stops (printed ++ lines.Outstanding (span new.run) (half old.sn) ∷ []) (ends.Outstanding (span new.run) (half old.sn))) (passes printed new.run)) within
 
 ends_in : (event : UmEvent) (old new : UmWorldState) (end : UmEnd) (printed : List UmLine)
     → EndsIn old.sn (does_event old.sn old.ticks event old.run) new.run end printed → step_at old event ≡ stops printed end
@@ -79,87 +64,88 @@ ends_now : (event : UmEvent) (old new : UmWorldState) (end : UmEnd) (printed : L
 ends_now event old new end printed goes (inl h) = absurd (let clash : None ≡ Some end = sym goes ∙ h.0 in cc)
 ends_now event old new end printed goes (inr h) = ends_in event old new end printed h.2
 
-pub outstanding_now : (event : UmEvent) (old new : UmWorldState) (stop : UmStop) (far window : ℕ) (printed : List UmLine)
-    → stop ≡ stop_variants.Outstanding far window printed → old.ended ≡ None → IsApplied event old new (Err stop)
-    → step_at old event ≡ stops printed (ends.Outstanding far window)
-outstanding_now event old new stop far window printed e goes h =
-    ends_now event old new (ends.Outstanding far window) printed goes (subst (λ (s : UmStop). IsApplied event old new (Err s)) e h)
+-- ---- the run of one event more
 
-pub spent_now : (event : UmEvent) (old new : UmWorldState) (stop : UmStop) (counter : ℕ) (printed : List UmLine)
-    → stop ≡ stop_variants.Spent counter printed → old.ended ≡ None → IsApplied event old new (Err stop)
-    → step_at old event ≡ stops printed (ends.Spent counter)
-spent_now event old new stop counter printed e goes h =
-    ends_now event old new (ends.Spent counter) printed goes (subst (λ (s : UmStop). IsApplied event old new (Err s)) e h)
+happened-step : (script : UmScript) (event : UmEvent) (step : UmStep)
+    → (with_step script event step).happened ≡ script.happened ++ record { event = event; printed = printed_of step } ∷ []
+happened-step script event (passes printed after) = refl
+happened-step script event (stops printed end) = refl
 
-printed_is : (step : UmStep) (printed : List UmLine) (next : UmStep) → step ≡ next → printed_of next ≡ printed → printed_of step ≡ printed
-printed_is step printed next e f = ap printed_of e ∙ f
+module _ (config : UmConfig) (events : List UmEvent) (event : UmEvent) (old : UmWorldState) (r : HasRun config old events) where
+  run_steps : (step : UmStep) → step_at old event ≡ step → run_of config (events ++ event ∷ []) ≡ with_step (run_of config events) event step
+  run_steps step e =
+      run_more config events event
+      ∙ ap (λ (o : Option UmEnd). with_event_at config.sn config.ticks (run_of config events) event o) r.goes
+      ∙ ap (λ (s : UmStep). with_step (run_of config events) event s) (sym (ap (λ (w : UmWorldState). step_at w event) r.same) ∙ e)
 
-shown : (event : UmEvent) (old new : UmWorldState) (h : Happening) → IsHappening event old new h
-    → happens_text event ++ print h.lines ≡ text_at old event
-shown event old new h is = by h.end is
-  where
-    by : (end : Option UmEnd) → Comes event old new h.lines end → happens_text event ++ print h.lines ≡ text_at old event
-    by None c = ap (λ (ls : List UmLine). happens_text event ++ print ls) (sym (printed_is (step_at old event) h.lines (passes h.lines new.run) c.0 refl))
-    by (Some end) c = ap (λ (ls : List UmLine). happens_text event ++ print ls) (sym (printed_is (step_at old event) h.lines (stops h.lines end) c refl))
+  text_steps : (step : UmStep) → step_at old event ≡ step
+      → script_text config (events ++ event ∷ []) ≡ script_text config events ++ (happens_text event ++ print (printed_of step))
+  text_steps step e =
+      let more : UmHappening = record { event = event; printed = printed_of step } in
+      ap (λ (s : UmScript). flat_map happening_text s.happened) (run_steps step e)
+      ∙ ap (λ (hs : List UmHappening). flat_map happening_text hs) (happened-step (run_of config events) event step)
+      ∙ flat_map-append happening_text (run_of config events).happened (more ∷ [])
+      ∙ ap (λ (text : List ℕ). script_text config events ++ text) (append-nil (happening_text more))
 
-module _ (old new : WorkAt) (event : UmEvent) (h : Happening) (is : IsHappening event old.world new.world h) (text : List ℕ) (shows : text ≡ happens_text event ++ print h.lines) where
-  pub event_written : h.end ≡ None → WritesAll old.sink new.sink text → Applies old new event
-  event_written none w =
-      let c : Comes event old.world new.world h.lines None = subst (λ (o : Option UmEnd). Comes event old.world new.world h.lines o) none is in
-      record {
-        printed = h.lines;
-        passes_on = c.0;
-        same = c.1;
-        writes = subst (λ (t : List ℕ). WritesAll old.sink new.sink t) (shows ∙ shown event old.world new.world h is) w;
-      }
+  module _ (new : UmWorldState) (printed : List UmLine) (h : Happening) (text : h.text ≡ happens_text event ++ print printed) where
+    pub goes_on : IsAppliedTo event old new (Ok printed) → h.cause ≡ None → IsApplied (um_meaning config) (HasRun config new) events event h
+    goes_on is none =
+        let passing = passes_on event old new printed is in
+        let after = run_steps (passes printed new.run) passing in
+        let goes : (run_of config (events ++ event ∷ [])).ended ≡ None = ap (λ (s : UmScript). s.ended) after ∙ r.goes in
+        record {
+          text = text_steps (passes printed new.run) passing ∙ ap (λ (t : List ℕ). script_text config events ++ t) (sym text);
+          stops = ap (λ (o : Option UmEnd). option_map cause_of o) goes ∙ sym none;
+          goes = λ same_cause. record {
+            same = is.3 ∙ ap (λ (w : UmWorldState). record w { run = new.run }) r.same ∙ ap (λ (s : UmScript). world_of config s) (sym after);
+            goes = goes;
+          };
+        }
 
-  pub event_ends : (place : ℕ) (why : UmEnd) (end : ScriptEnd) → h.end ≡ Some why → end ≡ end_at place why → WritesAll old.sink new.sink text
-      → ApplyStops old new place event end
-  event_ends place why end some e w =
-      let c : Comes event old.world new.world h.lines (Some why) = subst (λ (o : Option UmEnd). Comes event old.world new.world h.lines o) some is in
-      Ended h.lines why c e (subst (λ (t : List ℕ). WritesAll old.sink new.sink t) (shows ∙ shown event old.world new.world h is) w)
+    pub stops_in : (end : UmEnd) → IsEnding event old new end printed → h.cause ≡ Some (cause_of end)
+        → IsApplied (um_meaning config) (HasRun config new) events event h
+    stops_in end is some =
+        let ending = ends_now event old new end printed (ap (λ (w : UmWorldState). w.ended) r.same ∙ r.goes) is in
+        let ended : (run_of config (events ++ event ∷ [])).ended ≡ Some end = ap (λ (s : UmScript). s.ended) (run_steps (stops printed end) ending) in
+        record {
+          text = text_steps (stops printed end) ending ∙ ap (λ (t : List ℕ). script_text config events ++ t) (sym text);
+          stops = ap (λ (o : Option UmEnd). option_map cause_of o) ended ∙ sym some;
+          goes = λ none. absurd (let clash : None ≡ Some (cause_of end) = sym none ∙ some in cc);
+        }
 
-  pub event_cut : (place : ℕ) → WritesFront old.sink new.sink text → ApplyStops old new place event (Common WriteFault)
-  event_cut place w = Faulty refl (subst (λ (t : List ℕ). WritesFront old.sink new.sink t) (shows ∙ shown event old.world new.world h is) w)
+-- ---- at the exits of the code
 
--- ---- a turn
+abbrev pub Shows : UmEvent → List UmLine → Option StopCause → Happening → Type 0
+Shows event printed cause h = (h.text ≡ happens_text event ++ print printed) × (h.cause ≡ cause)
 
-turn_result : (old new : RunAt) (end : ScriptEnd) (result : Result (Option ℕ) ScriptEnd) → result ≡ Err end → TurnStops old new end
-    → TurnMeets old new result
-turn_result old new end result e how = subst (λ (r : Result (Option ℕ) ScriptEnd). TurnMeets old new r) (sym e) how
+abbrev pub Comes : UmConfig → UmEvent → UmWorldState → UmWorldState → Happening → Type 0
+Comes config event old new h = (events : List UmEvent) → HasRun config old events → IsApplied (um_meaning config) (HasRun config new) events event h
 
-pub turn_unread : (old new : RunAt) (why : InputEnd) (end : ScriptEnd) (result : Result (Option ℕ) ScriptEnd)
-    → StopsReading old.reading new.reading old.source new.source why
-    → result ≡ Err end → end ≡ Common (end_of_input why) → new.work ≡ old.work → TurnMeets old new result
-turn_unread old new why end result s e f same = turn_result old new end result e (Unread why s f same)
+module _ (config : UmConfig) (event : UmEvent) (old new : UmWorldState) (printed : List UmLine) where
+  pub event_passes : (result : Result Happening Memory) → IfOk result (Shows event printed None) → IsAppliedTo event old new (Ok printed)
+      → IfOk result (Comes config event old new)
+  event_passes (Ok h) shows is = λ events r. goes_on config events event old r new printed h shows.0 is shows.1
+  event_passes (Err e) shows is = tt
 
-pub unapplied : (old new : RunAt) (found : Option Line) (line : Line) (why end : ScriptEnd) (result : Result (Option ℕ) ScriptEnd)
-    → found ≡ Some line
-    → NextMeets old.reading new.reading old.source new.source (Ok found) → LineStops line why → result ≡ Err end → end ≡ why
-    → new.work ≡ old.work → TurnMeets old new result
-unapplied old new found line why end result e m how r f same =
-    turn_result old new why result (r ∙ ap (λ (x : ScriptEnd). Err x) f)
-    (Unapplied line (subst (λ (o : Option Line). NextMeets old.reading new.reading old.source new.source (Ok o)) e m) how same)
+  event_ends : (end : UmEnd) (result : Result Happening Memory) → IfOk result (Shows event printed (Some (cause_of end)))
+      → IsEnding event old new end printed → IfOk result (Comes config event old new)
+  event_ends end (Ok h) shows is = λ events r. stops_in config events event old r new printed h shows.0 end is shows.1
+  event_ends end (Err e) shows is = tt
 
-pub unfinished : (old new : RunAt) (found : Option Line) (line : Line) (event : UmEvent) (why end : ScriptEnd) (result : Result (Option ℕ) ScriptEnd)
-    → found ≡ Some line
-    → NextMeets old.reading new.reading old.source new.source (Ok found) → IsEvent line.text event
-    → ApplyStops old.work new.work line.number event why
-    → result ≡ Err end → end ≡ why
-    → TurnMeets old new result
-unfinished old new found line event why end result e m is how r f =
-    turn_result old new why result (r ∙ ap (λ (x : ScriptEnd). Err x) f)
-    (Unfinished line event (subst (λ (o : Option Line). NextMeets old.reading new.reading old.source new.source (Ok o)) e m) is how)
+  pub event_outstanding : (stop : UmStop) (far window : ℕ) (result : Result Happening Memory) → stop ≡ stop_variants.Outstanding far window printed
+      → IsAppliedTo event old new (Err stop) → IfOk result (Shows event printed (Some Outstanding)) → IfOk result (Comes config event old new)
+  event_outstanding stop far window result e is shows =
+      event_ends (ends.Outstanding far window) result shows (subst (λ (s : UmStop). IsAppliedTo event old new (Err s)) e is)
 
-pub applied : (old new : RunAt) (found : Option Line) (line : Line) (event : UmEvent) → found ≡ Some line
-    → NextMeets old.reading new.reading old.source new.source (Ok found)
-    → IsEvent line.text event → Applies old.work new.work event → TakesLine old new 1
-applied old new found line event e m is applies = record {
-  line = line;
-  meets = subst (λ (o : Option Line). NextMeets old.reading new.reading old.source new.source (Ok o)) e m;
-  applies = Happens refl event is applies;
+  pub event_spends : (stop : UmStop) (counter : ℕ) (result : Result Happening Memory) → stop ≡ stop_variants.Spent counter printed
+      → IsAppliedTo event old new (Err stop) → IfOk result (Shows event printed (Some (Spent counter))) → IfOk result (Comes config event old new)
+  event_spends stop counter result e is shows =
+      event_ends (ends.Spent counter) result shows (subst (λ (s : UmStop). IsAppliedTo event old new (Err s)) e is)
+
+pub begins : (config : UmConfig) (result : Result UmWorldState Memory) → IfOk result (λ run. run ≡ new_world config.sn config.ticks)
+    → IfOk result (λ run. HasRun config run [])
+begins config (Ok run) is = record {
+  same = is ∙ ap (λ (s : UmScript). world_of config s) (sym (run_begins config));
+  goes = ap (λ (s : UmScript). s.ended) (run_begins config);
 }
-
-pub is_event_at : (line : Line) (meaning : Meaning) (event : UmEvent) → meaning ≡ meanings.Event event → Means line (Ok meaning)
-    → IsEvent line.text event
-is_event_at line meaning event e h = subst (λ (m : Meaning). Means line (Ok m)) e h
+begins config (Err e) is = tt

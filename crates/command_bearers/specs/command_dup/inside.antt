@@ -1,3 +1,3 @@
--- Internal: what ties the functions of a script together.
-pub mod Turns
-pub mod Stops
+-- Internal: what ties the word to the run of scripts.
+pub mod Laws
+pub mod Ran

@@ -1,77 +1,25 @@
--- What the word `um` does, for every input, every list of failing calls, and every end.
-use Rattle.std.specs.Prelude.{◌≡◌, ◌+◌, ◌<◌, ℕ, false, List, [], ◌∷◌, ◌++◌, map, length, Option, Some, None, Result, Ok, Err, IfSome, if◌then◌else◌}
+-- What the word `um` means: the run of a script of one unacknowledged bearer.
+use Rattle.std.specs.Prelude.{ℕ, List, ◌++◌}
 use Rattle.std.specs.List.{flat_map}
-use Rattle.gnb_base.specs.Outside.{SinkAt}
-use Rattle.gnb_base.specs.Reading.{piece_size}
-use Rattle.command_defs.specs.input_defs.Split.{InputSplit, rest_of, TakesInput}
-use Rattle.command_defs.specs.input_defs.Ends.{ComesNext, IsReadToEnd, IsReadFault, IsTooLong}
-use Rattle.scenario_text.specs.declared.script_words.reason.TextReason.{TextReason}
-use Rattle.scenario_text.specs.Grammar.{is_skipped}
+use Rattle.std.specs.Option.{option_map}
 use Rattle.um_defs.specs.declared.types.event.UmEvent.{UmEvent}
 use Rattle.um_defs.specs.declared.types.stop.UmEnd.{UmEnd}
 use Rattle.um_defs.specs.declared.types.stop.UmEnd.TheVariants as ends
 use Rattle.um_defs.specs.um_run_defs.Script.{UmHappening, UmScript, script_of}
 use Rattle.um.specs.text.Grammar.{event_of}
 use Rattle.um.specs.text.Print.{print, happens_text}
-use Rattle.command_defs.specs.declared.CommonEnd.TheVariants.{ReadFault, TooLong, WriteFault, Memory}
-use Rattle.command_defs.specs.Outside.{OutsideAt, CallsTo}
-use Rattle.command_defs.specs.Output.{Prints, PrintsFront}
+use Rattle.command_defs.specs.declared.Status.{Status}
+use Rattle.command_defs.specs.Outside.{OutsideAt}
 use Rattle.command_bearers.specs.declared.command_um.config.UmConfig.{UmConfig}
-use Rattle.command_bearers.specs.declared.command_um.end.ScriptEnd.{ScriptEnd}
-use Rattle.command_bearers.specs.declared.command_um.end.ScriptEnd.TheVariants.{Done, Script, Outstanding, Spent, Common}
-use Rattle.command_bearers.specs.command_um.Ends.{script_status, end_text}
-
--- ---- the input
-
--- what a line means: nothing where it is skipped
-abbrev pub meanings : List ℕ → List (Result UmEvent TextReason)
-meanings line = if is_skipped line then [] else event_of line ∷ []
-
--- the lines are these events and skipped lines
-abbrev pub AreEvents : List (List ℕ) → List UmEvent → Type 0
-AreEvents lines events = flat_map meanings lines ≡ map (λ event. Ok event) events
+use Rattle.command_bearers.specs.declared.script_word.end.StopCause.{StopCause}
+use Rattle.command_bearers.specs.declared.script_word.end.StopCause.TheVariants.{Outstanding, Spent}
+use Rattle.command_bearers.specs.declared.script_word.end.ScriptEnd.{ScriptEnd}
+use Rattle.command_bearers.specs.script_word.Meaning.{WordMeaning}
+use Rattle.command_bearers.specs.script_word.Run.{ScriptMeets}
+use Rattle.command_bearers.specs.script_word.Whole.{RunsWholly}
 
 abbrev pub run_of : UmConfig → List UmEvent → UmScript
 run_of config events = script_of config.sn config.ticks events
-
--- ---- how it ends, after the lines that were handed out
-
--- the next line is no event, and not skipped
-pub record IsWrongLine (left : Option (List ℕ)) (split : InputSplit) (place : ℕ) (reason : TextReason) : Type 0 where
-  pub line : List ℕ
-  pub next : ComesNext left split.kept line
-  pub at : place ≡ length split.lines + 1
-  pub skip : is_skipped line ≡ false
-  pub wrong : event_of line ≡ Err reason
-
--- the run ends so in the event of the last line, and in none before it
-pub record EndsInLast (config : UmConfig) (split : InputSplit) (events : List UmEvent) (place : ℕ) (end : UmEnd) : Type 0 where
-  pub earlier : List UmEvent
-  pub last : UmEvent
-  pub lines : List (List ℕ)
-  pub line : List ℕ
-  pub parts : events ≡ earlier ++ last ∷ []
-  pub line_parts : split.lines ≡ lines ++ line ∷ []
-  pub means : meanings line ≡ Ok last ∷ []
-  pub goes : (run_of config earlier).ended ≡ None
-  pub ends : (run_of config events).ended ≡ Some end
-  pub at : place ≡ length split.lines
-  -- after this line fewer bytes were taken than one read asks for
-  pub few : length split.kept < piece_size
-
-abbrev pub EndMeets : UmConfig → Option (List ℕ) → InputSplit → List UmEvent → ScriptEnd → Type 0
-EndMeets config left split events (Done count) =
-    ((run_of config events).ended ≡ None) × IsReadToEnd left split × (count ≡ length events)
-EndMeets config left split events (Script place reason) = ((run_of config events).ended ≡ None) × IsWrongLine left split place reason
-EndMeets config left split events (Outstanding place) =
-    (far : ℕ) × (window : ℕ) × EndsInLast config split events place (ends.Outstanding far window)
-EndMeets config left split events (Spent place counter) = EndsInLast config split events place (ends.Spent counter)
-EndMeets config left split events (Common (ReadFault taken)) = ((run_of config events).ended ≡ None) × IsReadFault split taken
-EndMeets config left split events (Common TooLong) = ((run_of config events).ended ≡ None) × IsTooLong split
-EndMeets config left split events (Common WriteFault) = Unit {0}
-EndMeets config left split events (Common Memory) = Unit {0}
-
--- ---- the output
 
 -- an event's own line, and the lines that it prints
 abbrev pub happening_text : UmHappening → List ℕ
@@ -81,25 +29,17 @@ happening_text h = happens_text h.event ++ print h.printed
 abbrev pub script_text : UmConfig → List UmEvent → List ℕ
 script_text config events = flat_map happening_text (run_of config events).happened
 
--- and what is written at the end, if that is known
-abbrev pub text_to : List ℕ → Option ScriptEnd → List ℕ
-text_to text None = text
-text_to text (Some end) = text ++ end_text end
+abbrev pub cause_of : UmEnd → StopCause
+cause_of (ends.Outstanding far window) = Outstanding
+cause_of (ends.Spent counter) = Spent counter
 
--- At the end of a script the text of its run and the last line were written. A write that fails leaves a front of the text, up to the end
--- that the script had come to; out of memory a front of the run's text.
-abbrev pub PrintsScript : SinkAt → SinkAt → (ScriptEnd → Type 0) → List ℕ → ScriptEnd → Type 0
-PrintsScript before after Meets text (Common WriteFault) =
-    (other : Option ScriptEnd) × IfSome other Meets × PrintsFront before after (text_to text other)
-PrintsScript before after Meets text (Common Memory) = PrintsFront before after text
-PrintsScript before after Meets text end = Prints before after (text_to text (Some end))
+abbrev pub um_meaning : UmConfig → WordMeaning UmEvent
+um_meaning config = record { event_of = event_of; text = script_text config; stopped = λ events. option_map cause_of (run_of config events).ended }
 
 -- what was taken from the source, the events of its lines, how the script ended, what was written, and where a call failed
-pub record UmMeets (config : UmConfig) (before after : OutsideAt) (end : ScriptEnd) : Type 0 where
-  pub split : InputSplit
-  pub events : List UmEvent
-  pub input : TakesInput before.source after.source split
-  pub are : AreEvents split.lines events
-  pub ends : EndMeets config (rest_of before.source after.source) split events end
-  pub prints : PrintsScript before.sink after.sink (EndMeets config (rest_of before.source after.source) split events) (script_text config events) end
-  pub calls : CallsTo before after (script_status end).code
+abbrev pub UmMeets : UmConfig → OutsideAt → OutsideAt → ScriptEnd → Type 0
+UmMeets config before after end = ScriptMeets (um_meaning config) before after end
+
+-- a whole script is run to its end, unless memory runs out
+abbrev pub RunsUm : UmConfig → OutsideAt → OutsideAt → Status → Type 0
+RunsUm config before after status = RunsWholly (um_meaning config) before after status

@@ -1,30 +1,81 @@
-//! The word `um`.
+//! The word `um`, over the run of an unacknowledged bearer.
 
-ghost use Rattle.std.specs.Prelude.{◌≤◌};
+ghost use Rattle.std.specs.Prelude.{◌≡◌, ◌≤◌, ◌++◌, IfOk};
 ghost use Rattle.command_defs.specs.Outside.{outside};
-ghost use Rattle.command_bearers.specs.command_um.Ends.{script_status, StopsAtEvent};
-ghost use Rattle.command_bearers.specs.command_um.Run.{UmMeets};
-ghost use Rattle.command_bearers.specs.command_um.Whole.{RunsWholly};
-ghost use Rattle.command_bearers.specs.command_um.inside.Stops.{Finishes};
+ghost use Rattle.um.specs.text.Print.{print, happens_text};
+ghost use Rattle.command_bearers.specs.script_word.Ends.{script_status, StopsAtEvent};
+ghost use Rattle.command_bearers.specs.command_um.Run.{UmMeets, RunsUm};
 
 use crate::command_um::config::UmConfig;
-use crate::command_um::end::ScriptEnd;
-use crate::command_um::script;
-use commands::command_output::write_lines;
+use crate::script_word::{Happening, ScriptEnd, ScriptWord, StopCause, run_script};
 use gnb_base::outside::{Sink, Source};
+use gnb_types::items::Memory;
+use scenario_text::script_words::reason::TextError;
 use std::alloc::Global;
+use um::run::world::UmWorld;
+use um::text::print::print_happening;
+use um::text::read;
+use um_defs::types::event::UmEvent;
+use um_defs::types::stop::{UmLines, UmStop};
 
-/// Writes what is left to write, and answers how the script ended in the end.
-fn finish<K: Sink>(alloc: Global, output: &mut K, end: ScriptEnd) -> ScriptEnd
-    ensures { Finishes (K.at output.old) (K.at output.new) end result }
+/// The text of an event, and why the run stops in it.
+fn happening(
+    alloc: Global,
+    event: &UmEvent,
+    lines: UmLines,
+    cause: Option<StopCause>,
+) -> Result<Happening, Memory>
+    ensures { IfOk result (λ h. (h.text ≡ happens_text event.now ++ print lines) × (h.cause ≡ cause)) }
 {
-    let Some(line) = end.last_line() else {
-        return end;
-    };
-    match write_lines(alloc, output, &[line]) {
-        Ok(()) => end,
-        Err(error) => ScriptEnd::Common(error),
+    let text = print_happening(alloc, event, lines.as_slice())?;
+    Ok(Happening { text, cause })
+}
+
+impl ScriptWord for UmConfig {
+    ghost use Rattle.um.specs.text.Texts.{InRange};
+    ghost use Rattle.command_bearers.specs.command_um.Run.{um_meaning};
+    ghost use Rattle.command_bearers.specs.command_um.inside.Ran.{HasRun};
+    ghost use Rattle.command_bearers.specs.command_um.inside.Laws.{um_lawful};
+
+    type Event = UmEvent;
+
+    type Run = UmWorld;
+
+    ghost meaning = { um_meaning };
+
+    ghost valid = { λ config. (1 ≤ config.ticks) × (config.ticks ≤ 1000) };
+
+    ghost in_range = { InRange };
+
+    ghost ran = { HasRun };
+
+    fn begin(&self, alloc: Global) -> Result<UmWorld, Memory> {
+        UmWorld::new(alloc, self.sn, self.ticks)
     }
+
+    fn read_event(&self, alloc: Global, line: &[u8]) -> Result<UmEvent, TextError> {
+        read::read_event(alloc, line)
+    }
+
+    fn apply(
+        &self,
+        alloc: Global,
+        run: &mut UmWorld,
+        event: &UmEvent,
+    ) -> Result<Happening, Memory> {
+        match run.apply(alloc, event) {
+            Ok(lines) => happening(alloc, event, lines, None),
+            Err(UmStop::Outstanding { lines, .. }) => {
+                happening(alloc, event, lines, Some(StopCause::Outstanding))
+            }
+            Err(UmStop::Spent { counter, lines }) => {
+                happening(alloc, event, lines, Some(StopCause::Spent { counter }))
+            }
+            Err(UmStop::Memory) => Err(Memory),
+        }
+    }
+
+    ghost lawful = { um_lawful };
 }
 
 /// Runs a script of one unacknowledged bearer, and writes what is left to write at its end.
@@ -44,9 +95,8 @@ pub fn run_um<S: Source, K: Sink>(
 
     // A whole script is run, where its bytes are reported and no call fails, unless memory runs
     // out.
-    ensures complete { RunsWholly config (outside (S.at input.old) (K.at output.old))
+    ensures complete { RunsUm config (outside (S.at input.old) (K.at output.old))
         (outside (S.at input.new) (K.at output.new)) (script_status result) }
 {
-    let end = script::run(alloc, config, input, output);
-    finish(alloc, output, end)
+    run_script(alloc, &config, input, output)
 }

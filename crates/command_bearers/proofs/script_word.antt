@@ -1,0 +1,4 @@
+pub mod Scripts
+pub mod Turned
+pub mod Finished
+pub mod Whole
