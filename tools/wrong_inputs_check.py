@@ -104,7 +104,7 @@ def main():
     for text in wrong:
         print(text)
     if not wrong:
-        print(f"{len(ROWS) + len(USAGES)} wrong inputs are told with their place, what was awaited and what was read")
+        print(f"{len(ROWS) + len(USAGES)} wrong inputs are reported with their place, what was awaited and what was read")
     return 1 if wrong else 0
 
 
