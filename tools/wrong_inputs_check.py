@@ -7,6 +7,7 @@ form follows in a line of its own. The lines that `gnb` itself says of an unprov
 Usage: tools/wrong_inputs_check.py
 """
 
+import argparse
 import subprocess
 import sys
 
@@ -99,6 +100,7 @@ def wrong_rows():
 
 
 def main():
+    argparse.ArgumentParser(description=__doc__, formatter_class=argparse.RawDescriptionHelpFormatter).parse_args()
     subprocess.run([*other_reading.PROGRAM, "profile"], stdin=subprocess.DEVNULL, stdout=subprocess.DEVNULL, check=True)  # builds it, where it isn't
     wrong = list(wrong_rows())
     for text in wrong:
