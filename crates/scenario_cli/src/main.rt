@@ -38,10 +38,17 @@ fn explain(
     }
     let named = read.line(alloc, status.place);
     let last = written.before_last(alloc);
-    let line = named.as_ref().map(|line| line.as_slice());
-    let written = last.as_ref().map(|line| line.as_slice());
+    let line = match &named {
+        Some(line) => line.as_slice(),
+        None => b"".as_slice(),
+    };
+    let written = match &last {
+        Some(line) => line.as_slice(),
+        None => b"".as_slice(),
+    };
     let call = Call {
         words,
+        has_line: named.is_some(),
         line,
         written,
     };

@@ -21,13 +21,14 @@ const FORMS: [&str; 10] = [
     "numbers are plain decimal, without a sign or a leading zero",
 ];
 
-/// What is known of a call: its words, and, where it is kept, the line that the status names and
-/// the line that was written before the last one.
+/// What is known of a call: its words; the line that the status names, where it is kept; and the
+/// line that was written before the last one, an empty one where that isn't kept.
 #[derive(Clone, Copy)]
 pub struct Call<'a> {
     pub words: &'a [String],
-    pub line: Option<&'a [u8]>,
-    pub written: Option<&'a [u8]>,
+    pub has_line: bool,
+    pub line: &'a [u8],
+    pub written: &'a [u8],
 }
 
 /// The longest text that is shown of a word.
@@ -218,9 +219,10 @@ fn headers(command: &str) -> &'static str {
 fn say_line(rt: &impl Eprint, call: &Call, place: u64, reason: u16) -> io::Result<()> {
     let words = line_reason(reason);
     let command = command(call);
-    let Some(line) = call.line else {
+    if !call.has_line {
         return eprintln!(rt; "gnb: line {place} is refused: {words}");
-    };
+    }
+    let line = call.line;
     let (text, hint) = (shown(line), hint(line));
     if place == 1 && command != "um" && command != "duplicate" {
         let headers = headers(command);
@@ -239,7 +241,7 @@ fn say_line(rt: &impl Eprint, call: &Call, place: u64, reason: u16) -> io::Resul
 
 /// Says what is wrong with a module; `module LINE COLUMN REASON` or `differs NAME` was written.
 fn say_module(rt: &impl Eprint, call: &Call, place: u64, reason: u16) -> io::Result<()> {
-    let written = call.written.unwrap_or(b"");
+    let written = call.written;
     if place == 0 && reason == 3 {
         return eprintln!(rt; "gnb: the module has no type of this name");
     }
@@ -255,16 +257,13 @@ fn say_module(rt: &impl Eprint, call: &Call, place: u64, reason: u16) -> io::Res
 
 /// Says what is wrong with a value; `wrong BIT REASON PATH` was written.
 fn say_value(rt: &impl Eprint, call: &Call, place: u64, reason: u16) -> io::Result<()> {
-    let written = call.written.unwrap_or(b"");
+    let written = call.written;
     let (bit, path, words) = (
         shown(word_of(written, 2)),
         shown(from_word(written, 4)),
         value_reason(reason),
     );
-    let hint = match call.line {
-        Some(line) => hint(line),
-        None => "",
-    };
+    let hint = hint(call.line);
     match reason {
         102 | 103 => eprintln!(rt; "gnb: line {place}: the value at {path} is refused: {words}"),
         100..=104 => eprintln!(rt; "gnb: line {place} is refused: {words}{hint}"),
@@ -284,7 +283,7 @@ pub fn explain(rt: &impl Eprint, call: &Call, status: Status) -> io::Result<()> 
         3 => say_module(rt, call, place, reason),
         4 => say_line(rt, call, place, reason),
         5 => {
-            let said = shown(from_word(call.written.unwrap_or(b""), 2));
+            let said = shown(from_word(call.written, 2));
             eprintln!(rt;
                 "gnb: after line {place} more than half a space of COUNTs is outstanding: {said}"
             )
