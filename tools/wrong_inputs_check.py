@@ -7,6 +7,7 @@ form follows in a line of its own. The lines that `gnb` itself says of an unprov
 Usage: tools/wrong_inputs_check.py
 """
 
+import argparse
 import subprocess
 import sys
 
@@ -99,12 +100,13 @@ def wrong_rows():
 
 
 def main():
+    argparse.ArgumentParser(description=__doc__, formatter_class=argparse.RawDescriptionHelpFormatter).parse_args()
     subprocess.run([*other_reading.PROGRAM, "profile"], stdin=subprocess.DEVNULL, stdout=subprocess.DEVNULL, check=True)  # builds it, where it isn't
     wrong = list(wrong_rows())
     for text in wrong:
         print(text)
     if not wrong:
-        print(f"{len(ROWS) + len(USAGES)} wrong inputs are told with their place, what was awaited and what was read")
+        print(f"{len(ROWS) + len(USAGES)} wrong inputs are reported with their place, what was awaited and what was read")
     return 1 if wrong else 0
 
 
