@@ -24,7 +24,6 @@ import xml.etree.ElementTree as ElementTree
 import patterns
 import program
 import transcripts
-from transcripts import Wrong
 
 WORDS = {".script": "run", ".check": "check"}
 WITH_WORDS = (".um", ".dup")
@@ -236,15 +235,19 @@ def of_soundness(words, ran):
     return [f"the transcript isn't sound: '{checked.stdout.decode('latin-1').splitlines()[0]}'"] if checked.returncode else []
 
 
+def read_case(path):
+    """The words, the input and the events of a case. WrongCase where one is wrong."""
+    words, given = call_of(path)
+    return words, given, events_of(path, given, words[0]) if path.suffix in (".script", *WITH_WORDS) else []
+
+
 def judge(path, seconds=SECONDS, verifies=False):
     """The verdict of a case, with the soundness of its transcript where the program verifies. WrongCase where its input is wrong."""
-    words, given = call_of(path)
-    is_script = path.suffix in (".script", *WITH_WORDS)
-    events = events_of(path, given, words[0]) if is_script else []
+    words, given, events = read_case(path)
     begun = time.monotonic()
     ran = program.call(words, given, seconds)
     taken, printed, transcript = time.monotonic() - begun, ran.stdout.decode("latin-1"), path.with_suffix(".out")
-    lines = lines_of_events(events) if is_script else lines_of_values(given) if path.suffix in OF_TYPES else lambda found, place: None
+    lines = lines_of_events(events) if events else lines_of_values(given) if path.suffix in OF_TYPES else lambda found, place: None
     problems = judged_remarks(path, events, printed.splitlines())
     if transcript.exists():
         problems = first_difference(path, transcript.read_bytes().decode("latin-1"), printed, lines) + problems
@@ -290,6 +293,9 @@ def run(folders, seconds=SECONDS, report=None):
     """Judges the cases of folders, prints the verdicts, and writes the report; the status to end with."""
     program.prepare()
     paths = list(dict.fromkeys(path for folder in folders for path in cases_of(pathlib.Path(folder))))
+    for path in paths:
+        # what is wrong with a case is told before any of them runs
+        read_case(path)
     verifies = program.has_word("verify")
     note = "looked at by 'verify'" if verifies else "not looked at: the program has no word 'verify'"
     verdicts = []
