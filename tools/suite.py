@@ -7,7 +7,7 @@ printed is that transcript. In a script of `run`, `um` or `duplicate` a line `;=
 print; `*` stands for octets, `?` for the characters of a word. Several `;=` of one event come in their order. docs/scripts.md shows how to write them.
 
 The verdict of a case is pass, fail, or none where nothing is expected of it. The status of the call is that of its last line: it is `stop STATUS ..`, or the status is 0.
-Standard error has lines that begin with `gnb: `, at least one where the status isn't 0.
+Standard error has a line that begins with `gnb: ` where the status isn't 0, and no other lines than such where it is.
 
 The status of the tool is 0 where no case fails, 1 where one fails, 2 where an input is wrong. Nothing here is proved.
 
@@ -220,9 +220,9 @@ def of_call(ran, seconds):
     status, said = status_of(ran.stdout.decode("latin-1")), ran.stderr.decode(errors="replace").splitlines()
     problems = [] if ran.returncode == status else [f"the status is {ran.returncode}, and the last line says {status}"]
     odd = [line for line in said if not line.startswith("gnb: ")]
-    if odd:
+    if odd and not ran.returncode:
         problems.append(f"standard error has '{transcripts.shortened(odd[0])}'")
-    elif ran.returncode and not said:
+    elif ran.returncode and len(odd) == len(said):
         problems.append(f"the status is {ran.returncode}, and standard error says nothing of it")
     return problems
 
