@@ -102,9 +102,8 @@ def header_length(lines):
 def events_of(path, given, call):
     """The events of a script with their remarks. WrongCase where a remark is wrong."""
     lines, events = given.decode("latin-1").split("\n"), []
-    for number, text in enumerate(lines, 1):
-        if call == "run" and number <= header_length(lines):
-            continue
+    header = header_length(lines) if call == "run" else 0
+    for number, text in enumerate(lines[header:], header + 1):
         if text.startswith((";=", ";!")):
             add_remark(path, number, text, events, call)
         elif text and not text.startswith(";"):
@@ -210,7 +209,8 @@ def lines_of_events(events):
 def lines_of_values(given):
     """For an answer of `encode` or `decode`, the line that is answered."""
     lines = given.decode("latin-1").splitlines()
-    return lambda printed, place: min(header_length(lines) + place + 1, len(lines))
+    header = header_length(lines)
+    return lambda printed, place: min(header + place + 1, len(lines))
 
 
 def of_call(ran, seconds):
