@@ -102,7 +102,7 @@ def checked_types(word):
 
 
 def said_by(ran):
-    lines = ran.stderr.decode(errors="replace").splitlines()
+    lines = [line for line in ran.stderr.decode(errors="replace").splitlines() if line.startswith("gnb: ")]
     return lines[-1].removeprefix("gnb: ") if lines else f"the program ends with status {ran.returncode}"
 
 

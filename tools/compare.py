@@ -17,15 +17,26 @@ import packet_reader
 import transcripts
 from transcripts import Message, Tunnel
 
+# so many events are compared after the one at which they part: that takes as many steps as their square
+LONGEST = 2000
 TUNNELS = ("uplinks", "downlinks", "n3", "forwardDown", "forwardUp")
 
 
 @dataclasses.dataclass
-class Named:
-    """A line with what it says by names: a name for each of its parts, which two lines alike have alike."""
+class Transcript:
+    """A transcript: its path, a name for each of its messages and tunnels, and its events, each as its lines with their ends; the lines before the first event stand first."""
 
-    line: object
-    parts: dict
+    path: str
+    names: dict
+    events: list
+
+    def parts(self, event, place):
+        """What a line of an event says by names: two lines alike have the same parts. None where the event has no such line."""
+        lines = self.events[event] if event < len(self.events) else []
+        return parts_of(self.names, *lines[place]) if place < len(lines) else None
+
+    def line(self, event, place):
+        return self.events[event][place][0]
 
 
 # ---- names
@@ -98,73 +109,77 @@ def without_teid(line):
     return line.octets[:4] + bytes(4) + line.octets[8:] if is_own else line.octets
 
 
-def events_of(path):
-    """The events of the transcript at a path, each as its lines by names; the lines before the first event stand first."""
-    found = endpoints.read_with_ends(path)
-    names, events = names_of(found), [[]]
-    for line, ends, bits in found:
-        if line.kind == "event":
+def read(path):
+    found, events = endpoints.read_with_ends(path), [[]]
+    for entry in found:
+        if entry[0].kind == "event":
             events.append([])
-        events[-1].append(Named(line, parts_of(names, line, ends, bits)))
-    return events
+        events[-1].append(entry)
+    return Transcript(path, names_of(found), events)
 
 
 # ---- where they part
 
 
 def first_part(one, other):
-    """The first event in which two transcripts differ, and in it the first pair of lines, of which one may be missing; None where there is none."""
-    for event in range(max(len(one), len(other))):
-        lines, others = (events[event] if event < len(events) else [] for events in (one, other))
-        for place in range(max(len(lines), len(others))):
-            pair = tuple(found[place] if place < len(found) else None for found in (lines, others))
-            if None in pair or pair[0].parts != pair[1].parts:
-                return event, pair
+    """The first event in which two transcripts differ, and the place of the first line in it that differs or is missing; None where there is none."""
+    for event in range(max(len(one.events), len(other.events))):
+        place = 0
+        while True:
+            parts = one.parts(event, place), other.parts(event, place)
+            if parts[0] != parts[1]:
+                return event, place
+            if parts[0] is None:
+                break
+            place += 1
     return None
 
 
-def why(pair):
+def why(one, other):
     """In which parts two lines differ."""
-    one, other = pair
     if one is None or other is None:
         return "only one of them goes on"
-    if one.parts["kind"] != other.parts["kind"]:
+    if one["kind"] != other["kind"]:
         return f"{kind_of(one)} in one, {kind_of(other)} in the other"
-    differing = [part for part in {**one.parts, **other.parts} if one.parts.get(part) != other.parts.get(part)]
+    differing = [part for part in {**one, **other} if one.get(part) != other.get(part)]
     # octets are told where nothing of what they say differs
     told = [part for part in differing if part != "octets"] or differing
-    return "; ".join(f"{part}: {shown(one.parts.get(part))} and {shown(other.parts.get(part))}" for part in told)
+    return "; ".join(f"{part}: {shown(one.get(part))} and {shown(other.get(part))}" for part in told)
 
 
-def kind_of(entry):
-    return f"event '{entry.line.what}'" if entry.line.kind == "event" else f"'{entry.line.kind}'"
+def kind_of(parts):
+    return f"event '{parts['what']}'" if parts["kind"] == "event" else f"'{parts['kind']}'"
 
 
 def shown(value):
     return value.hex().upper() if isinstance(value, bytes) else "none" if value is None else str(value)
 
 
-def place_of(path, entry):
-    return f"  {path}: nothing more" if entry is None else f"  {path}:{entry.line.number}: {entry.line.text}"
+def place_of(transcript, event, place):
+    if transcript.parts(event, place) is None:
+        return f"  {transcript.path}: nothing more"
+    line = transcript.line(event, place)
+    return f"  {transcript.path}:{line.number}: {line.text}"
 
 
 def after(one, other, event):
     """How the rest goes on: how many of its events are alike again, in their order."""
-    texts = [[str([entry.parts for entry in lines[:1]]) for lines in events[event:]] for events in (one, other)]
-    if max(map(len, texts)) > 2000:
-        return "  the events after it weren't compared: there are more than 2000"
+    if max(len(one.events), len(other.events)) - event > LONGEST:
+        return f"  the events after it weren't compared: there are more than {LONGEST}"
+    texts = [[str(transcript.parts(at, 0)) for at in range(event, len(transcript.events))] for transcript in (one, other)]
     alike = sum(block.size for block in difflib.SequenceMatcher(None, *texts, autojunk=False).get_matching_blocks())
     return f"  from there on {alike} events of the scripts are the same, of {len(texts[0])} and {len(texts[1])}"
 
 
-def told(paths, one, other):
+def told(one, other):
     """What is said of two transcripts, and whether they are alike."""
     found = first_part(one, other)
     if found is None:
-        return f"alike: {len(one) - 1} events", True
-    event, pair = found
-    begin = next((events[event][0].line.text.removeprefix("> ") for events in (one, other) if event and event < len(events) and events[event]), "the beginning")
-    lines = [f"they part at event {event}: {transcripts.shortened(begin)}", *map(place_of, paths, pair), f"  why: {why(pair)}", after(one, other, event)]
+        return f"alike: {len(one.events) - 1} events", True
+    event, place = found
+    begins = [transcript.line(event, 0).text.removeprefix("> ") for transcript in (one, other) if event and transcript.parts(event, 0)]
+    lines = [f"they part at event {event}: {transcripts.shortened((begins or ['the beginning'])[0])}", place_of(one, event, place), place_of(other, event, place),
+             f"  why: {why(one.parts(event, place), other.parts(event, place))}", after(one, other, event)]
     return "\n".join(lines), False
 
 
@@ -172,13 +187,13 @@ def main():
     asked = transcripts.Asked(__doc__)
     asked.add_argument("transcript", nargs=2)
     given = asked.parse_args()
-    events = []
+    read_ones = []
     for path in given.transcript:
         try:
-            events.append(events_of(path))
+            read_ones.append(read(path))
         except (transcripts.Wrong, OSError) as wrong:
             return transcripts.report("compare", path, wrong)
-    text, is_alike = told(given.transcript, *events)
+    text, is_alike = told(*read_ones)
     print(text)
     return int(not is_alike)
 

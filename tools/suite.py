@@ -7,7 +7,7 @@ printed is that transcript. In a script of `run`, `um` or `duplicate` a line `;=
 print; `*` stands for octets, `?` for the characters of a word. Several `;=` of one event come in their order. docs/scripts.md shows how to write them.
 
 The verdict of a case is pass, fail, or none where nothing is expected of it. The status of the call is that of its last line: it is `stop STATUS ..`, or the status is 0.
-Standard error has lines that begin with `gnb: `, at least one where the status isn't 0.
+Standard error has a line that begins with `gnb: ` where the status isn't 0, and no other lines than such where it is.
 
 The status of the tool is 0 where no case fails, 1 where one fails, 2 where an input is wrong. Nothing here is proved.
 
@@ -24,7 +24,6 @@ import xml.etree.ElementTree as ElementTree
 import patterns
 import program
 import transcripts
-from transcripts import Wrong
 
 WORDS = {".script": "run", ".check": "check"}
 WITH_WORDS = (".um", ".dup")
@@ -103,9 +102,8 @@ def header_length(lines):
 def events_of(path, given, call):
     """The events of a script with their remarks. WrongCase where a remark is wrong."""
     lines, events = given.decode("latin-1").split("\n"), []
-    for number, text in enumerate(lines, 1):
-        if call == "run" and number <= header_length(lines):
-            continue
+    header = header_length(lines) if call == "run" else 0
+    for number, text in enumerate(lines[header:], header + 1):
         if text.startswith((";=", ";!")):
             add_remark(path, number, text, events, call)
         elif text and not text.startswith(";"):
@@ -211,7 +209,8 @@ def lines_of_events(events):
 def lines_of_values(given):
     """For an answer of `encode` or `decode`, the line that is answered."""
     lines = given.decode("latin-1").splitlines()
-    return lambda printed, place: min(header_length(lines) + place + 1, len(lines))
+    header = header_length(lines)
+    return lambda printed, place: min(header + place + 1, len(lines))
 
 
 def of_call(ran, seconds):
@@ -221,9 +220,9 @@ def of_call(ran, seconds):
     status, said = status_of(ran.stdout.decode("latin-1")), ran.stderr.decode(errors="replace").splitlines()
     problems = [] if ran.returncode == status else [f"the status is {ran.returncode}, and the last line says {status}"]
     odd = [line for line in said if not line.startswith("gnb: ")]
-    if odd:
+    if odd and not ran.returncode:
         problems.append(f"standard error has '{transcripts.shortened(odd[0])}'")
-    elif ran.returncode and not said:
+    elif ran.returncode and len(odd) == len(said):
         problems.append(f"the status is {ran.returncode}, and standard error says nothing of it")
     return problems
 
@@ -236,15 +235,19 @@ def of_soundness(words, ran):
     return [f"the transcript isn't sound: '{checked.stdout.decode('latin-1').splitlines()[0]}'"] if checked.returncode else []
 
 
+def read_case(path):
+    """The words, the input and the events of a case. WrongCase where one is wrong."""
+    words, given = call_of(path)
+    return words, given, events_of(path, given, words[0]) if path.suffix in (".script", *WITH_WORDS) else []
+
+
 def judge(path, seconds=SECONDS, verifies=False):
     """The verdict of a case, with the soundness of its transcript where the program verifies. WrongCase where its input is wrong."""
-    words, given = call_of(path)
-    is_script = path.suffix in (".script", *WITH_WORDS)
-    events = events_of(path, given, words[0]) if is_script else []
+    words, given, events = read_case(path)
     begun = time.monotonic()
     ran = program.call(words, given, seconds)
     taken, printed, transcript = time.monotonic() - begun, ran.stdout.decode("latin-1"), path.with_suffix(".out")
-    lines = lines_of_events(events) if is_script else lines_of_values(given) if path.suffix in OF_TYPES else lambda found, place: None
+    lines = lines_of_events(events) if events else lines_of_values(given) if path.suffix in OF_TYPES else lambda found, place: None
     problems = judged_remarks(path, events, printed.splitlines())
     if transcript.exists():
         problems = first_difference(path, transcript.read_bytes().decode("latin-1"), printed, lines) + problems
@@ -290,6 +293,9 @@ def run(folders, seconds=SECONDS, report=None):
     """Judges the cases of folders, prints the verdicts, and writes the report; the status to end with."""
     program.prepare()
     paths = list(dict.fromkeys(path for folder in folders for path in cases_of(pathlib.Path(folder))))
+    for path in paths:
+        # what is wrong with a case is told before any of them runs
+        read_case(path)
     verifies = program.has_word("verify")
     note = "looked at by 'verify'" if verifies else "not looked at: the program has no word 'verify'"
     verdicts = []

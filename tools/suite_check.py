@@ -59,6 +59,8 @@ CASES = {
                        ":3: 'tick' prints not 'stop 4 3 1'; it prints nothing"),
     "status.script": (HEAD + "tick\n;= end 1\n;> > tick\n;> end 1\n;status 3\n;error gnb: so\n", "fail", ": the status is 3, and the last line says 0"),
     "silent.script": (HEAD + "tick\n;= stop 6 0 0\n;> > tick\n;> stop 6 0 0\n;status 6\n", "fail", ": the status is 6, and standard error says nothing of it"),
+    "usage.script": (HEAD + "tick\n;= stop 4 2 1\n;> > tick\n;> stop 4 2 1\n;status 4\n;error gnb: so\n;error and so on\n", "pass", ""),
+    "unexplained.script": (HEAD + "tick\n;= stop 4 2 1\n;> > tick\n;> stop 4 2 1\n;status 4\n;error so\n", "fail", ": the status is 4, and standard error says nothing of it"),
     "odd.script": (HEAD + "tick\n;= end 1\n;> > tick\n;> end 1\n;error oh\n", "fail", ": standard error has 'oh'"),
     "wait.script": (HEAD + "tick\n;= end 1\n;> > tick\n;> end 1\n;wait\n", "fail", ": it didn't end within 1 seconds"),
     "text.script": ("module text\n;= no remark\nEND\ntick\n;> > tick\n;> settled 1\n;= settled 1\n;> end 1\n", "pass", ""),

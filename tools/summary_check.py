@@ -10,6 +10,7 @@ import sys
 
 import checks
 import stories
+import summary
 from captures_check import WRONG
 
 BEGIN = "> static u1 A 1 1 12 1 64\n"
@@ -54,7 +55,7 @@ def test_messages(tmp_path):
 def test_stories():
     """The numbers of each story, beside those of a search through its text."""
     for path in stories.transcripts():
-        text, found = path.read_text(), told(path)
+        text, found = path.read_text(), summary.as_json(summary.add_up(path), None)
         assert sum(entry["put"] for entry in found["messages"]) == len(re.findall("^put #", text, re.M)), path
         assert sum(entry["given"] + entry["givenAgain"] for entry in found["messages"]) == len(re.findall("^got #", text, re.M)), path
         assert sum(entry["items"] for entry in found["lost"]) == sum(map(int, re.findall(r"^lost [^#\n]+ (\d+)$", text, re.M))), path
