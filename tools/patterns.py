@@ -19,18 +19,20 @@ DUPLICATE = {"put": (3,), "got": (3,), "deliver": (2,), "drop": (1,), "lost": (2
 
 @dataclasses.dataclass(frozen=True)
 class Pattern:
-    """A pattern: its text as it was written, and for each word what a line's word must be."""
+    """A pattern: its text as it was written, and for each word what a line's word must be: a text, or an expression where it has a wildcard."""
 
     text: str
     words: tuple
 
     def matches(self, line):
         words = line.split(" ")
-        return len(words) == len(self.words) and all(form.fullmatch(word) for form, word in zip(self.words, words))
+        return len(words) == len(self.words) and all(form == word if isinstance(form, str) else form.fullmatch(word) for form, word in zip(self.words, words))
 
 
 def word_form(word):
-    return OCTETS if word == "*" else re.compile("[^ ]+".join(re.escape(part) for part in word.split("?")))
+    if word == "*":
+        return OCTETS
+    return re.compile("[^ ]+".join(map(re.escape, word.split("?")))) if "?" in word else word
 
 
 def read(text, call):

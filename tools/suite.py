@@ -213,10 +213,8 @@ def lines_of_values(given):
     return lambda printed, place: min(header + place + 1, len(lines))
 
 
-def of_call(ran, seconds):
+def of_call(ran):
     """What is wrong with a call by itself."""
-    if ran.returncode == program.TIMED_OUT:
-        return [f"it didn't end within {seconds} seconds"]
     status, said = status_of(ran.stdout.decode("latin-1")), ran.stderr.decode(errors="replace").splitlines()
     problems = [] if ran.returncode == status else [f"the status is {ran.returncode}, and the last line says {status}"]
     odd = [line for line in said if not line.startswith("gnb: ")]
@@ -247,13 +245,16 @@ def judge(path, seconds=SECONDS, verifies=False):
     begun = time.monotonic()
     ran = program.call(words, given, seconds)
     taken, printed, transcript = time.monotonic() - begun, ran.stdout.decode("latin-1"), path.with_suffix(".out")
+    if ran.returncode == program.TIMED_OUT:
+        # what it printed so far says nothing
+        return Verdict(path, "fail", [f"{path}: it didn't end within {seconds} seconds"], taken)
     lines = lines_of_events(events) if events else lines_of_values(given) if path.suffix in OF_TYPES else lambda found, place: None
     problems = judged_remarks(path, events, printed.splitlines())
     if transcript.exists():
         problems = first_difference(path, transcript.read_bytes().decode("latin-1"), printed, lines) + problems
     is_judged = transcript.exists() or any(event.remarks for event in events)
-    if is_judged or ran.returncode == program.TIMED_OUT:
-        problems += [f"{path}: {what}" for what in of_call(ran, seconds)]
+    if is_judged:
+        problems += [f"{path}: {what}" for what in of_call(ran)]
     problems += [f"{path}: {what}" for what in of_soundness(words, ran)] if verifies else []
     return Verdict(path, "fail" if problems else "pass" if is_judged else "none", problems, taken)
 

@@ -99,7 +99,7 @@ def test_verdicts(tmp_path):
     write(folder, {name: text for name, (text, _, _) in CASES.items()} | STORED)
     with checks.as_program(tmp_path, PROGRAM):
         for name, (_, word, told) in CASES.items():
-            verdict = suite.judge(folder / name, 1 if name == "wait.script" else 20)
+            verdict = suite.judge(folder / name, 1 if name == "wait.script" else 300)
             problems = f"{folder / name}{told}" if told else ""
             assert (verdict.word, "".join(verdict.problems[:1])) == (word, problems), f"{name}: {verdict.word}, {verdict.problems}"
 
