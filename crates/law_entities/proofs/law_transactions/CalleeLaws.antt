@@ -235,9 +235,6 @@ above_is_new (e ∷ es) d i = by (is_same d e.0) (seen es d) (above_is_new es d 
         ∙ above_both n e.1 i
         ∙ sym (new_after (cond (nat_lt n e.1) e.1 n) i)
 
-below_itself : (i : ℕ) → i < i → ⊥
-below_itself i below = omega arith
-
 itself : (n : ℕ) → (n == n) ≡ true
 itself n = by (n == n) refl
   where
@@ -342,7 +339,7 @@ module _ {M : Type 0} where
 
   expected_keep_for : (c : Channel) (x : Option (Kept M)) (i : ℕ) (reply : M) (calls : List (Call M)) → is_newest (newest_in x) i ≡ true
       → expected c (kept_in x reply) calls ≡ answer (last_at c (newest_in x) calls) ((i, reply) ∷ kept_from c (newest_in x) calls) x
-  expected_keep_for c None i reply calls is = absurd (below_itself i (ltb-true i i is))
+  expected_keep_for c None i reply calls is = absurd cc
   expected_keep_for c (Some k) i reply calls is =
       expected_keep c (Some k) reply calls
       ∙ ap (λ (n : ℕ). answer (last_at c (Some k.instance) calls) ((n, reply) ∷ kept_from c (Some k.instance) calls) (Some k))
