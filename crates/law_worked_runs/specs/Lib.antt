@@ -63,3 +63,4 @@ pub mod UplinkAtAFrozenSource
 pub mod UplinkForwardingThatBlocksItself
 pub mod UsualDay
 pub mod WrongLinesOfRun
+pub mod WorkedHops
