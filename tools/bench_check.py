@@ -98,7 +98,7 @@ CODEC_ROWS = [
 
 def check_codec(folder):
     program = folder / "codec"
-    program.write_text('#!/bin/sh\n[ "$1" = codec::reads_values ] || [ "$1" = codec::writes_values ] && [ "$VALUES" -ne 40 ]\n')
+    program.write_text('#!/bin/sh\n[ "$1" = values::codec::reads_values ] || [ "$1" = values::codec::writes_values ] && [ "$VALUES" -ne 40 ]\n')
     program.chmod(0o755)
     ran = stories.run_tool("bench_codec", "--small", "8", "--large", "32", "--runs", "2", "--program", str(program))
     assert ran.returncode == 0, ran.stderr
