@@ -1,7 +1,7 @@
-//! cu_up_contexts: what stood in 2 crates
+//! The terminals of a CU-UP (TS 37.483, 8.3; TS 38.401, 6.1.2).
 //!
-//! - `bearer_context`: What a CU-UP keeps of a terminal (TS 37.483, 8.3; TS 38.401, 6.1.2): its bearers, and what they share.
-//! - `contexts`: What a CU-UP keeps of terminals: their contexts, and the tunnels that end there by TEID (TS 38.401, 6.1.2; TS 37.483, 8.3).
+//! - `bearer_context`: A context has a terminal's bearers, and what they share.
+//! - `contexts`: A CU-UP finds contexts by terminal, and tunnels by TEID.
 #![tactic(auto)]
 
 pub mod bearer_context;

@@ -1,16 +1,16 @@
-//! proof_aper: what stood in 11 crates
+//! Proof steps of aligned PER, for the laws of its spelling and the contracts of its decoders.
 //!
-//! - `answers`: Steps of the laws of aligned PER: the fields of a value that stand at a place answer what is asked for its type, and give it.
-//! - `places`: Steps of the laws of aligned PER: the fields of a value stand where their bits are.
-//! - `values`: Steps of the laws of aligned PER: what answers the questions of a type is the layout of a value of it.
-//! - `spelled`: Steps of the laws of aligned PER: octets that spell a value of a type are read as it.
-//! - `octets`: Steps of proofs on the octets of a value: they are its one spelling, or none; and types whose bounds are found by a test.
-//! - `pieces`: Steps of proofs about octets that come in pieces: what was read of them, or found wrong, stays so when more octets come.
-//! - `loose`: Steps of the laws of wrong places: a loose layout of a value answers what is asked for its type, and what loose layouts that agree as far have next.
-//! - `alive`: Steps of the laws of refusals: every right answer to what is asked for a type can be gone on with up to a value.
-//! - `back`: Steps of the laws of refusals: what answers the questions of a type is a loose layout of a value of it.
-//! - `refused`: Steps of the laws of refusals, and of a decoder's contract: where the questions of a type are refused, octets go wrong by its loose layouts, and the other way round.
-//! - `followed`: Steps of a decoder's proof: what is asked at a place goes on with the same answer when more octets come, whatever is asked after it.
+//! - `answers`: The fields of a value at a place answer what is asked for its type, and give it.
+//! - `places`: The fields of a value stand where their bits are.
+//! - `values`: What answers the questions of a type is the layout of a value of it.
+//! - `spelled`: Octets that spell a value of a type are read as it.
+//! - `octets`: Octets are a value's one spelling, or no spelling; a test finds the types whose bounds hold.
+//! - `pieces`: What was read of octets, or found wrong, stays so when more octets come.
+//! - `loose`: A loose layout of a value answers what is asked for its type; loose layouts that agree so far have a next field.
+//! - `alive`: Every right answer to what is asked for a type can be gone on with up to a value.
+//! - `back`: What answers the questions of a type is a loose layout of a value of it.
+//! - `refused`: Octets go wrong by the loose layouts of a type exactly where its questions are refused.
+//! - `followed`: What is asked at a place goes on with the same answer when more octets come, whatever is asked after it.
 #![tactic(auto)]
 
 pub mod alive;

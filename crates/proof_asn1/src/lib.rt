@@ -1,11 +1,11 @@
-//! proof_asn1: what stood in 6 crates
+//! Proof steps: the functions that read ASN.1 modules read what the grammar spells, and report the first fault of other texts.
 //!
-//! - `lexical`: Laws: the lexical items of a text are those of relations that have no state.
+//! - `lexical`: The lexical items of a text are those of relations without a state.
 //! - `grammar`: Definitions alone: the grammar of modules.
-//! - `asn1_proof_syntax`: Laws: the reading functions read what the grammar spells, and tell the first item with which no module goes on.
-//! - `items`: Law: of the items of a text the first that passes a bound, or gives something again, is where its fault is told.
-//! - `values`: Law: the reading functions read what the items mean, and items have one meaning.
-//! - `reading`: Law: the reading functions read the modules among texts, and tell the first wrong item of the others.
+//! - `asn1_proof_syntax`: The reading functions read what the grammar spells, and report the first item with which no module goes on.
+//! - `items`: The fault of a text's items is the first item that passes a bound or gives something again.
+//! - `values`: The reading functions read what the items mean, and items have one meaning.
+//! - `reading`: The reading functions read the modules among texts, and report the first wrong item of the others.
 #![tactic(auto)]
 
 pub mod asn1_proof_syntax;

@@ -252,7 +252,7 @@ fn say_module(rt: &impl Eprint, call: &Call, place: u64, reason: u16) -> io::Res
         );
     }
     let (column, words) = (shown(word_of(written, 3)), module_reason(reason));
-    eprintln!(rt; "gnb: line {place} of the module, column {column}: {words}")
+    eprintln!(rt; "gnb: line {place}, column {column}, in the module: {words}")
 }
 
 /// Says what is wrong with a value; `wrong BIT REASON PATH` was written.

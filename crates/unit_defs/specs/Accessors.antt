@@ -1,5 +1,5 @@
--- What a run looks at in the records of units, one definition for each call by which a unit reports it. A run reads nothing else of
--- a record.
+-- What a run looks at in the records of units, one definition for each call by which a unit reports it. `static` reads and writes
+-- whole records beside that, and what is said of a state (`Home` in `run_defs`) reads more.
 use Rattle.std.specs.Prelude.{◌==◌, ℕ, Bool, true, false, not, ◌&&◌, ◌||◌, nat_lt, length, Option, Some, None, is_some}
 use Rattle.gnb_types.specs.declared.names.NodeId.{NodeId}
 use Rattle.gnb_types.specs.declared.names.UeId.{UeId}
