@@ -55,7 +55,7 @@ ROWS = [
     ("run", HEAD + "pump\n" * 9000 + "ask u1 b0\n", 4, "line 9002: awaited a bearer, b1 to b8, as word 3, and it is 'b0'"),
     # modules
     ("run", SMALL, 3, "the module is not the profile, version 1: its first difference is at "),
-    ("check", BAD_MODULE, 3, "line 3 "),
+    ("check", BAD_MODULE, 3, "line 3, column 7, in the module: "),
     ("check", SMALL + "more\n", 4, "line 5: awaited nothing more after the module, and it is 'more'"),
     ("encode U", SMALL, 3, "the module has no type of this name"),
     # values
