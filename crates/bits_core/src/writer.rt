@@ -55,7 +55,7 @@ impl BitWriter {
         ensures { Puts self.old self.new (bits_of width value) result }
     {
         if self.failed {
-            return Err(Memory);
+            return Err(Memory::told());
         }
         let mut left = width;
         while left > 0 {
@@ -70,11 +70,11 @@ impl BitWriter {
         ensures { Puts self.old self.new (octet_bits octets.now) result }
     {
         if self.failed {
-            return Err(Memory);
+            return Err(Memory::told());
         }
-        if self.octets.extend_from_slice(octets).is_err() {
+        if let Err(error) = self.octets.extend_from_slice(octets) {
             self.failed = true;
-            return Err(Memory);
+            return Err(Memory::from(error));
         }
         Ok(())
     }
@@ -107,9 +107,9 @@ impl BitWriter {
         requires going { self.old.failed ≡ false }
         ensures { PutsSome self.old self.new value left result }
     {
-        if make_room(&mut self.octets, self.used).is_err() {
+        if let Err(error) = make_room(&mut self.octets, self.used) {
             self.failed = true;
-            return Err(Memory);
+            return Err(error);
         }
         let count = left.min(8 - self.used);
         let rest = left - count;

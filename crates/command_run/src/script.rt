@@ -107,7 +107,7 @@ fn happen<U: Units<C> + Drop, C: LawfulCodec + Drop>(
             let cause = Some(Cause::Spent(counter));
             Ok(Happening { lines, cause })
         }
-        Err(Stop::Memory) => Err(Memory),
+        Err(Stop::Memory) => Err(Memory::told()),
     }
 }
 

@@ -64,7 +64,7 @@ fn put_answer(
     };
     match waiting.append(text.as_slice()) {
         Ok(()) => Ok(()),
-        Err(Memory) => Err(ValuesEnd::Common(CommonEnd::Memory)),
+        Err(_) => Err(ValuesEnd::Common(CommonEnd::Memory)),
     }
 }
 

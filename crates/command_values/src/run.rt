@@ -83,7 +83,7 @@ fn with_given<S: Source, K: Sink>(
         GivenModule::Text(module) => with_module(alloc, words, module, reader, input, output),
         GivenModule::Builtin(version) => match profile_of(alloc, *version) {
             Ok(profile) => with_module(alloc, words, profile.module(), reader, input, output),
-            Err(Memory) => ValuesEnd::Common(CommonEnd::Memory),
+            Err(_) => ValuesEnd::Common(CommonEnd::Memory),
         },
     }
 }

@@ -80,9 +80,10 @@ impl CuControl {
         }
         match self.record.place_static(plan) {
             Ok(()) => Ok(()),
-            Err(Memory) => {
-                self.stopped = Some(StepError::Memory);
-                Err(StepError::Memory)
+            Err(error) => {
+                let error = StepError::from(error);
+                self.stopped = Some(error);
+                Err(error)
             }
         }
     }

@@ -166,9 +166,9 @@ impl LineReader {
         let Some(length) = line_end(rest) else {
             return Ok(None);
         };
-        if self.begun.extend_from_slice(&rest[..length]).is_err() {
+        if let Err(error) = self.begun.extend_from_slice(&rest[..length]) {
             self.phase = ReadPhase::Failed;
-            return Err(Memory);
+            return Err(Memory::from(error));
         }
         self.start += length + 1;
         self.lines += 1;
@@ -186,9 +186,9 @@ impl LineReader {
         ensures { TakesLast self.old self.new result }
     {
         let rest = &self.piece[self.start..self.stop];
-        if self.begun.extend_from_slice(rest).is_err() {
+        if let Err(error) = self.begun.extend_from_slice(rest) {
             self.phase = ReadPhase::Failed;
-            return Err(Memory);
+            return Err(Memory::from(error));
         }
         self.start = self.stop;
         self.phase = ReadPhase::Ended;

@@ -8,19 +8,33 @@ use std::alloc::{AllocError, AllocFailed, Global};
 use std::marker::Model;
 use std::{slice, vec};
 
-/// Out of memory.
+/// Out of memory. It is made of an allocator's error, or by one of the two calls below, whose uses a check counts.
 #[derive(Clone, Copy, Debug, PartialEq, Eq)]
-pub struct Memory;
+pub struct Memory {
+    failed: (),
+}
+
+impl Memory {
+    /// Out of memory, where an allocation failed before: an enum's `Memory` or a flag that was set then says so.
+    pub fn told() -> Memory {
+        Memory { failed: () }
+    }
+
+    /// Out of memory, where there would be more of something than its number can tell: no memory has room for so many.
+    pub fn too_many() -> Memory {
+        Memory { failed: () }
+    }
+}
 
 impl From<AllocError> for Memory {
     fn from(_error: AllocError) -> Memory {
-        Memory
+        Memory { failed: () }
     }
 }
 
 impl<T: Drop> From<AllocFailed<T>> for Memory {
     fn from(_error: AllocFailed<T>) -> Memory {
-        Memory
+        Memory { failed: () }
     }
 }
 

@@ -31,7 +31,7 @@ fn reason(error: MsgError) -> Result<DropReason, Memory>
         MsgError::UnknownProcedure { .. } | MsgError::UnknownIe { .. } => Ok(
             DropReason::Criticality,
         ),
-        MsgError::Memory => Err(Memory),
+        MsgError::Memory => Err(Memory::told()),
     }
 }
 

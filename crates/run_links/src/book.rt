@@ -41,7 +41,7 @@ impl Book {
         ensures { IfOk result (λ book. book ≡ record self { offered = self.offered + 1 }) }
     {
         // So many offers don't fit the memory.
-        let offered = self.offered.checked_add(1).ok_or(Memory)?;
+        let offered = self.offered.checked_add(1).ok_or(Memory::too_many())?;
         Ok(Book { offered, ..self })
     }
 
@@ -50,7 +50,7 @@ impl Book {
         ensures { IfOk result (λ book. book ≡ record self { delivered = self.delivered + 1 }) }
     {
         // So many deliveries don't fit the memory.
-        let delivered = self.delivered.checked_add(1).ok_or(Memory)?;
+        let delivered = self.delivered.checked_add(1).ok_or(Memory::too_many())?;
         Ok(Book { delivered, ..self })
     }
 

@@ -93,7 +93,7 @@ impl Ground {
                 message: shown_message(number, from, to, ue, bytes),
             }),
             // There is room, so that only memory is left.
-            Err(_) => Err(Memory),
+            Err(_) => Err(Memory::told()),
         }
     }
 
@@ -121,7 +121,7 @@ impl Ground {
                 message: shown_letter(number, letter),
             }),
             // The caller saw the message, so that only memory is left.
-            Err(_) => Err(Memory),
+            Err(_) => Err(Memory::told()),
         }
     }
 

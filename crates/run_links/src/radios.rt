@@ -99,7 +99,7 @@ impl Ground {
                 item: show_taken(item),
             }),
             // The caller saw an item there, so that only memory is left.
-            Err(_) => Err(Memory),
+            Err(_) => Err(Memory::told()),
         }
     }
 

@@ -114,7 +114,7 @@ impl Ground {
                 item: show_taken(item),
             }),
             // The caller saw an item there.
-            Err(_) => Err(Memory),
+            Err(_) => Err(Memory::told()),
         }
     }
 

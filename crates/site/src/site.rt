@@ -59,14 +59,14 @@ impl<C: LawfulCodec> Units<C> for Site {
     fn seat(&mut self, alloc: Global, plan: Plan) -> Result<(), Memory> {
         match &mut self.units {
             Some(units) => units.seat(alloc, plan),
-            None => Err(Memory),
+            None => unreachable!(),
         }
     }
 
     fn place_static(&mut self, alloc: Global, plan: Plan) -> Result<(), PlaceError> {
         match &mut self.units {
             Some(units) => units.place_static(alloc, plan),
-            None => Err(PlaceError::Step(StepError::Memory)),
+            None => unreachable!(),
         }
     }
 
@@ -79,7 +79,7 @@ impl<C: LawfulCodec> Units<C> for Site {
     ) -> Result<Outputs, StepError> {
         match &mut self.units {
             Some(units) => units.step(alloc, codec, node, input),
-            None => Err(StepError::Memory),
+            None => unreachable!(),
         }
     }
 
@@ -105,7 +105,7 @@ impl<C: LawfulCodec> Units<C> for Site {
     fn terminals(&self, alloc: Global) -> Result<Items<UeId>, Memory> {
         match &self.units {
             Some(units) => units.terminals(alloc),
-            None => Err(Memory),
+            None => unreachable!(),
         }
     }
 

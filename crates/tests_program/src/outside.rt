@@ -48,7 +48,7 @@ fn write_next(
             written.push(b'!')?;
             Ok(true)
         }
-        Err(_) => Err(Memory),
+        Err(_) => Err(Memory::told()),
     }
 }
 

@@ -90,6 +90,6 @@ pub fn json_of_value(alloc: Global, m: &Module, id: TypeId, value: &Value) -> Re
     let mut out = Writer::new(Vec::with_capacity(alloc, ROOM)?);
     match write_value(alloc, m, id, value, &mut out) {
         Ok(()) => Ok(Octets::from_vec(out.into_inner())),
-        Err(_) => Err(Memory),
+        Err(_) => Err(Memory::told()),
     }
 }

@@ -53,7 +53,7 @@ pub fn take_turns<'m>(
             Turned::End(end) => return Ok(end),
         }
     }
-    Err(Memory)
+    Err(Memory::too_many())
 }
 
 /// Takes a turn. Where it ends, what it was given stands at the place before it.
@@ -96,6 +96,6 @@ fn ended<'m>(cursor: &Cursor, halted: Halted<'m>) -> Result<Turned<'m>, Memory>
 {
     match halted {
         Halted::Wrong(reason, back) => Ok(Turned::End(End::Wrong(cursor.place(), reason, back))),
-        Halted::Memory => Err(Memory),
+        Halted::Memory => Err(Memory::told()),
     }
 }

@@ -74,7 +74,7 @@ impl ScriptWord for DupConfig {
                     Some(StopCause::Spent { counter: COUNTS }),
                 )
             }
-            Err(DupStop::Memory) => Err(Memory),
+            Err(DupStop::Memory) => Err(Memory::told()),
         }
     }
 

@@ -71,7 +71,7 @@ impl ScriptWord for UmConfig {
             Err(UmStop::Spent { counter, lines }) => {
                 happening(alloc, event, lines, Some(StopCause::Spent { counter }))
             }
-            Err(UmStop::Memory) => Err(Memory),
+            Err(UmStop::Memory) => Err(Memory::told()),
         }
     }
 

@@ -180,7 +180,7 @@ fn end_at(passed: Result<(), Cause>, packets: u32, place: u64) -> Result<Generat
         Ok(()) => Ok(GenerateEnd::Done { packets }),
         Err(Cause::Outstanding(outstanding)) => Ok(GenerateEnd::Outstanding { place, outstanding }),
         Err(Cause::Spent(counter)) => Ok(GenerateEnd::Spent { place, counter }),
-        Err(Cause::Memory) => Err(Memory),
+        Err(Cause::Memory) => Err(Memory::told()),
     }
 }
 

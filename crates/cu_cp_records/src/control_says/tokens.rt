@@ -57,7 +57,7 @@ pub fn told_epoch(epoch: u64) -> Result<u32, Memory>
     ensures { IfOk result (λ told. told ≡ epoch) }
 {
     if epoch > u64::from(u32::MAX) {
-        return Err(Memory);
+        return Err(Memory::too_many());
     }
     Ok(epoch as u32)
 }

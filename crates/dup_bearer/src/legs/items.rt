@@ -68,7 +68,7 @@ impl Items {
     {
         // So many items would take more memory than there is.
         if self.len() == u32::MAX {
-            return Err(Memory);
+            return Err(Memory::too_many());
         }
         self.coming.push((count, packet))
     }

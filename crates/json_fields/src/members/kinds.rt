@@ -40,7 +40,7 @@ pub fn octets_in(alloc: Global, d: &Json) -> Result<Option<Octets>, Memory>
     match hex_bytes(alloc, text.as_bytes()) {
         Ok(octets) => Ok(Some(octets)),
         Err(HexError::NotHex) => Ok(None),
-        Err(HexError::Memory) => Err(Memory),
+        Err(HexError::Memory) => Err(Memory::told()),
     }
 }
 

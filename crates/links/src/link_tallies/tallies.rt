@@ -42,7 +42,7 @@ impl Tally {
             return Ok(());
         };
         // So many items don't fit the memory.
-        *times = times.checked_add(1).ok_or(Memory)?;
+        *times = times.checked_add(1).ok_or(Memory::too_many())?;
         Ok(())
     }
 
@@ -69,7 +69,7 @@ impl Tally {
         ensures err { OnErr result (self.new ≡ self.old) }
     {
         // So many items don't fit the memory.
-        let items = self.items.checked_add(1).ok_or(Memory)?;
+        let items = self.items.checked_add(1).ok_or(Memory::too_many())?;
         if let Some(count) = count {
             self.show(count)?;
         }

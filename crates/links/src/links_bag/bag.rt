@@ -125,9 +125,9 @@ impl Bag {
         self.flight.put(number, ue)?;
         match one_more(&mut self.of_terminals, ue) {
             Ok(()) => {}
-            Err(Memory) => {
+            Err(error) => {
                 self.flight.take(&number);
-                return Err(LinkError::Memory);
+                return Err(LinkError::from(error));
             }
         }
         let message = Letter {

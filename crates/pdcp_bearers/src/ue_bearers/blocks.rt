@@ -14,7 +14,7 @@ pub(crate) fn own_pool(alloc: Global, key: Key, blocks: u16) -> Result<Pool, Mem
     let mut pool = Pool::new(alloc, u32::from(blocks))?;
     match pool.reserve_quota(key, u32::from(blocks)) {
         Ok(()) => Ok(pool),
-        Err(QuotaError::Memory) => Err(Memory),
+        Err(QuotaError::Memory) => Err(Memory::told()),
         // The one quota is all blocks.
         Err(QuotaError::NoQuota) => unreachable!(),
     }

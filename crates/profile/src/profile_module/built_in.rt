@@ -66,7 +66,7 @@ fn of_text(alloc: Global, version: Version) -> Result<Profile, Memory>
     profile_texts_agree();
     match read_module(alloc, version.text()) {
         Ok((module, _)) => Ok(Profile::of(module, version)),
-        Err(ModuleError::Memory) => Err(Memory),
+        Err(ModuleError::Memory) => Err(Memory::told()),
         Err(ModuleError::Refused { .. }) => unreachable!(),
     }
 }

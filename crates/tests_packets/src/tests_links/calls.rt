@@ -64,7 +64,7 @@ pub fn given(answer: Result<Item, LinkError>) -> Result<Answer, Memory> {
 /// Out of memory is no answer.
 pub fn refused(error: LinkError) -> Result<Answer, Memory> {
     match error {
-        LinkError::Memory => Err(Memory),
+        LinkError::Memory => Err(Memory::told()),
         error => Ok(Answer::Refused(error)),
     }
 }

@@ -70,7 +70,7 @@ fn answer(radios: &mut Radios, alloc: Global, call: Call) -> Result<Answer, Memo
 fn is_answered(radios: &mut Radios, alloc: Global, call: Call, wanted: Answer) -> bool {
     match answer(radios, alloc, call) {
         Ok(answered) => answered == wanted,
-        Err(Memory) => answer(radios, alloc, call) == Ok(wanted),
+        Err(_) => answer(radios, alloc, call) == Ok(wanted),
     }
 }
 
@@ -79,7 +79,7 @@ fn radios_from_end_to_end(rt: HostRuntime) -> Result<(), Memory> {
     let alloc = rt.alloc();
     let mut radios = match Radios::new(alloc) {
         Ok(radios) => radios,
-        Err(Memory) => Radios::new(alloc)?,
+        Err(_) => Radios::new(alloc)?,
     };
     for &(call, wanted) in &CALLS {
         assert!(rt; is_answered(&mut radios, alloc, call, wanted));

@@ -17,7 +17,7 @@ const CORE: NodeId = NodeId::Core;
 fn one(alloc: Global, octet: u8) -> Result<Octets, Memory> {
     match Octets::one(alloc, octet) {
         Ok(octets) => Ok(octets),
-        Err(Memory) => Octets::one(alloc, octet),
+        Err(_) => Octets::one(alloc, octet),
     }
 }
 
@@ -30,14 +30,14 @@ fn begin(caller: &mut Caller, channel: Channel, deadline: Option<u16>) -> Result
 
 fn tick(caller: &mut Caller, alloc: Global) -> Result<DueList, Memory> {
     match caller.tick(alloc) {
-        Err(Memory) => caller.tick(alloc),
+        Err(_) => caller.tick(alloc),
         answer => answer,
     }
 }
 
 fn accept(callee: &mut Callee, channel: Channel, instance: u32) -> Result<Verdict, Memory> {
     match callee.accept(channel, instance) {
-        Err(Memory) => callee.accept(channel, instance),
+        Err(_) => callee.accept(channel, instance),
         answer => answer,
     }
 }

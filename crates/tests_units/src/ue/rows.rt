@@ -344,7 +344,7 @@ fn in_last_epoch(alloc: Global) -> Result<UeRecord, Memory>
 {
     let mut record = match UeRecord::new(alloc, PLAN) {
         Ok(record) => record,
-        Err(Memory) => UeRecord::new(alloc, PLAN)?,
+        Err(_) => UeRecord::new(alloc, PLAN)?,
     };
     record.epoch = u32::MAX;
     record.state = UeState::Accessing;

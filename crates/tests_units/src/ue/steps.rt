@@ -268,7 +268,7 @@ fn run(alloc: Global, steps: &[(Call, &[Put])]) -> Outcome {
 pub fn new_node(alloc: Global) -> Result<UeNode, Memory> {
     match UeNode::new(alloc, PLAN) {
         Ok(node) => Ok(node),
-        Err(Memory) => UeNode::new(alloc, PLAN),
+        Err(_) => UeNode::new(alloc, PLAN),
     }
 }
 

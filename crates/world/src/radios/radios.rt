@@ -140,9 +140,9 @@ fn radio_parts(items: u64) -> Result<(u64, u64), Memory>
     ensures { IfOk result (λ p. p ≡ (items + 4096, 6 * (items + 4096) + 2)) }
 {
     // So many items don't fit the memory.
-    let most = items.checked_add(FURTHER_TURNS).ok_or(Memory)?;
-    let parts = most.checked_mul(6).ok_or(Memory)?;
-    let parts = parts.checked_add(2).ok_or(Memory)?;
+    let most = items.checked_add(FURTHER_TURNS).ok_or(Memory::too_many())?;
+    let parts = most.checked_mul(6).ok_or(Memory::too_many())?;
+    let parts = parts.checked_add(2).ok_or(Memory::too_many())?;
     Ok((most, parts))
 }
 

@@ -40,7 +40,7 @@ fn all_undelivered(ground: &Ground, bearers: &[(UeId, BearerId)]) -> Result<u64,
 fn add(these: u64, those: u64) -> Result<u64, Memory>
     ensures { IfOk result (λ n. n ≡ these + those) }
 {
-    these.checked_add(those).ok_or(Memory)
+    these.checked_add(those).ok_or(Memory::too_many())
 }
 
 /// Those of a bearer beside these.
@@ -62,7 +62,7 @@ fn rounds_for(messages: u32, packets: u64) -> Result<u64, Memory>
     ensures { IfOk result (λ n. n ≡ 100 + 10 * (messages + packets)) }
 {
     let all = add(u64::from(messages), packets)?;
-    let rounds = all.checked_mul(10).ok_or(Memory)?;
+    let rounds = all.checked_mul(10).ok_or(Memory::too_many())?;
     add(rounds, 100)
 }
 

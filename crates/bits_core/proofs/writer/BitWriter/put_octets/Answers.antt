@@ -5,8 +5,8 @@ use Rattle.bits_core.specs.Writing.{Written}
 use Rattle.bits_core.proofs.WriterLemmas.{none_begun, octets_put}
 use Rattle.bits_core.proofs.writer.BitWriter.put_octets.Goals as goal
 
-pub invariant_of-self-else-is_err : goal.invariant_of-self-else-is_err
-invariant_of-self-else-is_err c = record {
+pub invariant_of-self-in_default : goal.invariant_of-self-in_default
+invariant_of-self-in_default c = record {
   used = c.self.invariant.used;
   last = c.self.invariant.last;
   room = λ some. absurd (omega (arith, none_begun c.self.inside c.args.self.now c.self.view_is c.self.invariant.used c.requires));

@@ -13,8 +13,8 @@ returns c =
     (same_first c.self.inside _ _ c.deref.ensures.value c.in-Some.ensures)
     (grind (arith, common_steps)) refl refl (after_nothing _ _ (grind (arith, common_steps))) refl (phase_is c.self.inside _ c.self.view_is c.requires)
 
-pub returns-then-is_err : goal.returns-then-is_err
-returns-then-is_err c = (
+pub returns-in-Err : goal.returns-in-Err
+returns-in-Err c = (
   refl,
   ap (λ (o : Reading). o.taken) c.self.view_is,
   going_within c.self.inside _ c.self.view_is c.self.invariant c.requires,
