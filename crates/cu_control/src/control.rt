@@ -80,10 +80,9 @@ impl CuControl {
         }
         match self.record.place_static(plan) {
             Ok(()) => Ok(()),
-            Err(error) => {
-                let error = StepError::from(error);
-                self.stopped = Some(error);
-                Err(error)
+            Err(_) => {
+                self.stopped = Some(StepError::Memory);
+                Err(StepError::Memory)
             }
         }
     }
