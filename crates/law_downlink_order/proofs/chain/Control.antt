@@ -81,7 +81,7 @@ module _ (p : ℕ → List ℕ) (w : ℕ) (s : Part) (g : ℕ → Ghost) (k : Ke
                   taken_are = λ _ _. sym (upto-nil (λ i. i) 0 0 none);
                   waiting_are = λ _. sym (upto-nil p 0 0 none);
                 };
-                status = record { next_is = λ _. refl; promised_is = λ _. refl; early = λ _. refl };
+                status = record { next_is = λ _. refl; base_is = λ _. refl; promised_is = λ _. refl; early = λ _. refl; early_base = λ _. refl };
                 tunnels = record {
                   is_fed = λ _. record {
                     items = sym (shape-none p 0 0 0 0 none none);
@@ -187,9 +187,10 @@ module _ (p : ℕ → List ℕ) (w : ℕ) (s : Part) (g : ℕ → Ghost) (k : Ke
                 lists = o.lists;
                 status = record {
                   next_is = λ _. says ∙ o.status.promised_is unknown;
+                  base_is = λ _. says ∙ o.status.promised_is unknown ∙ o.status.early_base unknown;
                   promised_is = λ e. absurd (true≢false e);
-                  early = λ e. absurd
-                      (true≢false e);
+                  early = λ e. absurd (true≢false e);
+                  early_base = λ e. absurd (true≢false e);
                 };
                 tunnels = o.tunnels;
                 flags = o.flags;
@@ -464,7 +465,13 @@ module _ (p : ℕ → List ℕ) (w : ℕ) (s : Part) (g : ℕ → Ghost) (k : Ke
                   taken_are = λ _ e. apart e u.frozen;
                   waiting_are = λ _. u.waiting ∙ sym (upto-nil p h.next h.next (omega arith));
                 };
-                status = record { next_is = λ e. apart e u.status; promised_is = λ _. o.status.next_is may_serve; early = λ _. refl };
+                status = record {
+                  next_is = λ e. apart e u.status;
+                  base_is = λ e. apart e u.status;
+                  promised_is = λ _. o.status.next_is may_serve;
+                  early = λ _. refl;
+                  early_base = λ _. refl;
+                };
                 tunnels = record {
                   is_fed = λ _. record {
                     items = rw (u.forwarded, o.lists.unconfirmed_are keeps.0, o.lists.waiting_are keeps.0)

@@ -59,10 +59,13 @@ pub record Lists (p : ℕ → List ℕ) (is_released is_frozen : Bool) (unconfir
   pub taken_are : is_released ≡ false → is_frozen ≡ true → taken ≡ upto (λ i. i) sent held
   pub waiting_are : is_released ≡ false → waiting ≡ upto p next top
 
-pub record Status (is_known : Bool) (number promised : ℕ) (low held next : ℕ) : Type 0 where
+-- with its SN status, or while it awaits one
+pub record Status (is_known : Bool) (number promised dl_next : ℕ) (low held base next : ℕ) : Type 0 where
   pub next_is : is_known ≡ true → number ≡ next
+  pub base_is : is_known ≡ true → dl_next ≡ base
   pub promised_is : is_known ≡ false → promised ≡ next
   pub early : is_known ≡ false → held ≡ low
+  pub early_base : is_known ≡ false → next ≡ base
 
 pub record IsFed (p : ℕ → List ℕ) (offered : ℕ) (xs : List Item) (held base top hop_held hop_top n3_low : ℕ) (ended : Bool) : Type 0 where
   pub items : xs ≡ shape p held hop_held top hop_top ended
@@ -136,7 +139,7 @@ pub record Numbers (w offered deliv low held sent base next top : ℕ) : Type 0 
 pub record Own (p : ℕ → List ℕ) (w : ℕ) (b : View) (m : Member) (g : Ghost) : Type 0 where
   pub lists : Lists p m.flags.released m.flags.frozen m.bearer.sender.unconfirmed m.bearer.taken_while_frozen m.bearer.waiting g.low
       g.held g.sent g.next g.top
-  pub status : Status m.flags.may_serve m.bearer.sender.next m.promised g.low g.held g.next
+  pub status : Status m.flags.may_serve m.bearer.sender.next m.promised m.bearer.dl_next g.low g.held g.base g.next
   pub tunnels : Tunnels p b.offered (is_fed m) (is_open m.bearer.n3) m.forwarded m.n3 (ends_of g)
   pub flags : Flags m.flags.frozen m.flags.released (is_some m.bearer.hop) g.sent g.held g.gone
   pub spoken : Spoken m.epoch b.epoch g.sent b.reached

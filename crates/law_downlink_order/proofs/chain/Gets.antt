@@ -240,8 +240,10 @@ module _ (p : ℕ → List ℕ) (w : ℕ) (s : Part) (g : ℕ → Ghost) (k : Ke
                 lists = lists_hold p _ _ _ _ _ _ _ _ _ _ count packet (h.held + 1) j.0 j.1 o.numbers.low_held unfrozen o.lists;
                 status = record {
                   next_is = o.status.next_is;
+                  base_is = o.status.base_is;
                   promised_is = o.status.promised_is;
                   early = λ e. apart (not_held m.flags.may_serve m.flags.arrived false on.passes).0 e;
+                  early_base = o.status.early_base;
                 };
                 tunnels = j.4.tunnels;
                 flags = record { serves = λ e. (keeps.0, refl); leads = o.flags.leads; gone_frozen = o.flags.gone_frozen };
@@ -277,8 +279,10 @@ module _ (p : ℕ → List ℕ) (w : ℕ) (s : Part) (g : ℕ → Ghost) (k : Ke
               o.numbers.sent_held o.lists;
           status = record {
             next_is = o.status.next_is;
+            base_is = o.status.base_is;
             promised_is = o.status.promised_is;
             early = λ e. apart (not_held m.flags.may_serve m.flags.arrived false on.passes).0 e;
+            early_base = o.status.early_base;
           };
           tunnels = j.4.tunnels;
           flags = record { serves = λ e. apart frozen e; leads = o.flags.leads; gone_frozen = o.flags.gone_frozen };

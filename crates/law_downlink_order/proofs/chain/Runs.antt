@@ -146,7 +146,7 @@ good_start p w x teid = (
         (record {
           own = λ _. record {
             lists = record { unconfirmed_are = λ _. refl; taken_are = λ _ _. refl; waiting_are = λ _. refl };
-            status = record { next_is = λ _. refl; promised_is = λ _. refl; early = λ _. refl };
+            status = record { next_is = λ _. refl; base_is = λ _. refl; promised_is = λ _. refl; early = λ _. refl; early_base = λ _. refl };
             tunnels = record {
               is_fed = λ e. absurd (true≢false (sym e));
               is_n3 = λ _. record { items = sym (flow-none p 0 0 none); ordered = none; offered_all = none };

@@ -74,7 +74,13 @@ module _ (p : ℕ → List ℕ) (sn : SnBits) (quota : ℕ) (s : Part) (g : ℕ 
                   taken_are = λ _ e. apart e unfrozen;
                   waiting_are = λ _. j.2;
                 };
-                status = record { next_is = λ _. ap (λ n. n + 1) number; promised_is = λ e. apart known e; early = λ e. apart known e };
+                status = record {
+                  next_is = λ _. ap (λ n. n + 1) number;
+                  base_is = o.status.base_is;
+                  promised_is = λ e. apart known e;
+                  early = λ e. apart known e;
+                  early_base = λ e. apart known e;
+                };
                 tunnels = record {
                   is_fed = λ e. (let a = o.tunnels.is_fed e in record {
                     items = a.items ∙ shape-late p h.held h.hop_held h.top h.hop_top h.ended (let b = a.held_base in omega arith);
@@ -153,8 +159,13 @@ module _ (p : ℕ → List ℕ) (w : ℕ) (s : Part) (g : ℕ → Ghost) (k : Ke
       (record {
         own = λ _. record {
           lists = record { unconfirmed_are = λ r. are r ∙ upto-left n; taken_are = o.lists.taken_are; waiting_are = o.lists.waiting_are };
-          status = record
-              { next_is = o.status.next_is; promised_is = o.status.promised_is; early = λ u. (let a = o.status.early u in omega arith) };
+          status = record {
+            next_is = o.status.next_is;
+            base_is = o.status.base_is;
+            promised_is = o.status.promised_is;
+            early = λ u. (let a = o.status.early u in omega arith);
+            early_base = o.status.early_base;
+          };
           tunnels = o.tunnels;
           flags = o.flags;
           spoken = o.spoken;
