@@ -1,6 +1,6 @@
 #!/usr/bin/env python3
-"""Lets each request for memory fail in turn: of the program, in each example that has an input (tools/examples.py), and in each call of `encode` and `decode` that its
-tests have a row of; or, where crates of tests are named, of each of their tests.
+"""Lets each request for memory fail in turn: of the program, in each example that has an input (tools/examples.py), and in each call of `encode` and `decode` that
+tools/whole_calls.py has a row of; or, where crates of tests are named, of each of their tests.
 
 Every run of the program must end with status 9 and a front of what is printed where none fails; or, where it can do without what it asked for, as where none fails. Every test must pass: those of tests_up, tests_du_node and
 tests_cu_control do where the step in which memory ran out answers that and nothing else, a later step answers it too, and another unit then does the steps as
@@ -9,23 +9,21 @@ they should be; so do those of tests_transactions, of a call. Tests of other cra
 A C compiler makes the library that lets a request fail; where there is none this is said, and the check passes. Nothing of this is proved.
 
 Usage: tools/failing_allocations.py [--rows | CRATE..]
-    --rows: the rows of the tests alone.
+    --rows: the rows alone.
 """
 
-import ast
 import os
 import pathlib
-import re
 import shutil
 import subprocess
 import sys
 import tempfile
 
 from suite import call_of, is_input
+from whole_calls import VALUES
 
 TOP = pathlib.Path(__file__).resolve().parents[1]
 PROGRAM = TOP / "crates/scenario_cli/out/scenario_cli"
-ROWS = TOP / "crates/scenario_cli/src/value_rows.rt"
 USAGE = 2
 # a test that can be as long as one likes is short here
 PACKETS = "3"
@@ -46,11 +44,10 @@ def examples():
         yield path.name, *call_of(path)
 
 
-def rows_of_tests():
-    """The calls of the program that its tests have a row of."""
-    rows = re.findall(r'\(\s*"((?:en|de)code [^"]+)",\s*"((?:[^"\\]|\\.)*)",', ROWS.read_text())
-    for number, (words, given) in enumerate(rows, 1):
-        yield f"row {number}, {words}", words.split(), ast.literal_eval(f'"{given}"').encode()
+def rows():
+    """The calls of `encode` and `decode` that tools/whole_calls.py has a row of."""
+    for number, (words, given, _) in enumerate(VALUES, 1):
+        yield f"row {number}, {words}", words.split(), given.encode()
 
 
 def each_fails(library, name, words, given):
@@ -126,7 +123,7 @@ def main():
         library = f"{folder}/failing.so"
         subprocess.run([compiler, "-shared", "-fPIC", "-o", library, TOP / "tools/failing_allocations.c", "-ldl"], check=True)
         if not crates:
-            return calls_fail(library, [*(examples() if with_examples else []), *rows_of_tests()])
+            return calls_fail(library, [*(examples() if with_examples else []), *rows()])
         return max(tests_pass(library, crate) for crate in crates)
 
 

@@ -4,16 +4,10 @@
 #![tactic(auto)]
 
 mod awaited;
-#[cfg(test)]
-mod failing_runs;
 mod plain_words;
 pub mod product;
 mod tail;
-#[cfg(test)]
-mod tests;
 pub mod top;
-#[cfg(test)]
-mod value_rows;
 
 use command_defs::Status;
 use gnb_base::standard::{StdSink, StdSource};
