@@ -66,7 +66,7 @@ KNOWN = {
     ("json_fields/src/simple/refusal.rt", "under"): (1, ERROR_OF("push")),
     ("links/src/link_tallies/tallies.rt", "enter"): (1, PAST_COUNT),
     ("links/src/link_tallies/tallies.rt", "show"): (1, PAST_COUNT),
-    ("links/src/links_bag/bag.rt", "put"): (1, ERROR_OF("reserve")),
+    ("links/src/links_bag/bag.rt", "put"): (2, ERROR_OF("reserve` and `one_more")),
     ("run_links/src/book.rt", "deliver"): (1, "no run makes 2^64 deliveries"),
     ("run_links/src/book.rt", "offer"): (1, "no run makes 2^64 offers"),
     ("run_links/src/letters.rt", "land"): (1, SEEN),

@@ -125,9 +125,9 @@ impl Bag {
         self.flight.put(number, ue)?;
         match one_more(&mut self.of_terminals, ue) {
             Ok(()) => {}
-            Err(error) => {
+            Err(_) => {
                 self.flight.take(&number);
-                return Err(LinkError::from(error));
+                return Err(LinkError::Memory);
             }
         }
         let message = Letter {
