@@ -2,7 +2,7 @@
 """Measures the codec alone, without JSON, digits and lines, at two sizes: processor time and its ratio between the sizes, values a second and peak memory; and beside it Erlang's
 asn1 on the same octets of the same module, where it is installed.
 
-It runs two tests of tests_aper, as 'rt test' in its folder or the gate built them: one decodes eight spellings over and over, the other encodes their values and compares
+It runs two tests of tests_values, as 'rt test' in its folder or the gate built them: one decodes eight spellings over and over, the other encodes their values and compares
 the octets. Of Erlang the calls alone are measured; of the tests all, so their start counts, and reading the module. Each is run several times, by turns with the other, and the
 least and the middle of its times are printed: where other work takes a processor away for a while, the least says most.
 
@@ -23,8 +23,8 @@ import tempfile
 import bench
 import other_reading
 
-CRATE = other_reading.TOP / "crates/tests_aper"
-PROGRAM = CRATE / "out/tests_aper_tests"
+CRATE = other_reading.TOP / "crates/tests_values"
+PROGRAM = CRATE / "out/tests_values_tests"
 TESTS = {"decode": "values::codec::reads_values", "encode": "values::codec::writes_values"}
 LARGEST = 2**32 - 8
 
@@ -35,7 +35,7 @@ def table_of_tests():
     module = re.search(r'MODULE: &\[u8\] = b"(.*?)";', source, re.DOTALL)
     spelled = re.search(r"SPELLED: \[&str; \d+\] = \[(.*?)\];", source, re.DOTALL)
     if not module or not spelled:
-        raise bench.Unmeasured("crates/tests_aper/src/values/codec.rt has no module and no octets")
+        raise bench.Unmeasured("crates/tests_values/src/values/codec.rt has no module and no octets")
     return module[1].replace("\\n\\\n", "\n").replace("\\n", "\n"), re.findall('"([0-9A-F]+)"', spelled[1])
 
 
@@ -96,14 +96,14 @@ def main():
     asked.add_argument("--small", type=int, default=200_000)
     asked.add_argument("--large", type=int, default=800_000)
     asked.add_argument("--runs", type=int, default=5, help="how often each is run")
-    asked.add_argument("--program", default=str(PROGRAM), help="the tests of tests_aper")
+    asked.add_argument("--program", default=str(PROGRAM), help="the tests of tests_values")
     given = asked.parse_args()
     if not 8 <= given.small < given.large <= LARGEST or given.small % 8 or given.large % 8:
         asked.error(f"the sizes are two multiples of 8 from 8 to {LARGEST}, the smaller one first")
     if given.runs < 1:
         asked.error("each is run at least once")
     if shutil.which(given.program) is None:
-        print(f"bench_codec: '{given.program}' is no program that can be run; 'rt test' in crates/tests_aper builds the one that is measured", file=sys.stderr)
+        print(f"bench_codec: '{given.program}' is no program that can be run; 'rt test' in crates/tests_values builds the one that is measured", file=sys.stderr)
         return bench.USAGE
     with tempfile.TemporaryDirectory() as folder:
         try:

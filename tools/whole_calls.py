@@ -330,7 +330,7 @@ drop Late
 waiting 3 3 0
 end 9
 """
-# a packet goes over two legs
+# a packet goes over two legs: the copy that comes first is delivered, the other one dropped
 TWO_LEGS = """\
 offer 01
 carry 2
@@ -404,6 +404,53 @@ BEARERS = [
     ("duplicate 12 3", TWO_LEGS, "stop 2 0 0\n"),
     ("duplicate 12 4097", TWO_LEGS, "stop 2 0 0\n"),
 ]
+# scripts of an unacknowledged bearer, worked by hand from TS 38.323, 5.2.2
+UNACKNOWLEDGED = [
+    # in order: a packet is delivered at once
+    ("um 12 1", "offer 0a\ngive #1\nask\n", "> offer 0A\nput #1 0 80000A\n> give #1\ngot #1 0 80000A\ndeliver 0 0A\n> ask\nwaiting 1 1 0\nend 3\n"),
+    # a message that was never put, and one that isn't on the link any more
+    ("um 12 1", "give #1\noffer ab\nlose #1\ngive #1\nagain #1\nlose #1\n", "> give #1\nrefused NoSuch\n> offer AB\nput #1 0 8000AB\n> lose #1\nlost #1 1\n> give #1\nrefused Empty\n> again #1\nrefused Empty\n> lose #1\nrefused Empty\nend 6\n"),
+    # a packet that is stored, and then one that was delivered
+    ("um 12 5", "offer 01\noffer 02\nagain #2\nagain #2\ngive #1\nagain #2\n", "> offer 01\nput #1 0 800001\n> offer 02\nput #2 1 800102\n> again #2\ngot #2 1 800102\n> again #2\ngot #2 1 800102\ndrop Duplicate\n> give #1\ngot #1 0 800001\ndeliver 0 01\ndeliver 1 02\n> again #2\ngot #2 1 800102\ndrop Late\nend 6\n"),
+    # two gaps: the timer awaits the first one, and then the second one with all its ticks
+    ("um 12 1", "offer 01\noffer 02\noffer 03\noffer 04\ngive #2\ngive #4\ntick\ntick\nask\ngive #1\n", "> offer 01\nput #1 0 800001\n> offer 02\nput #2 1 800102\n> offer 03\nput #3 2 800203\n> offer 04\nput #4 3 800304\n> give #2\ngot #2 1 800102\n> give #4\ngot #4 3 800304\n> tick\ndeliver 1 02\n> tick\ndeliver 3 04\n> ask\nwaiting 4 4 0\n> give #1\ngot #1 0 800001\ndrop Late\nend 10\n"),
+    # what came after the timer started is delivered with what it awaited, where there is no gap between
+    ("um 12 2", "offer 01\noffer 02\noffer 03\ngive #2\ntick\ngive #3\ntick\nask\n", "> offer 01\nput #1 0 800001\n> offer 02\nput #2 1 800102\n> offer 03\nput #3 2 800203\n> give #2\ngot #2 1 800102\n> tick\n> give #3\ngot #3 2 800203\n> tick\ndeliver 1 02\ndeliver 2 03\n> ask\nwaiting 3 3 0\nend 8\n"),
+    # the gap is filled: the timer stops, and starts anew for the next gap
+    ("um 12 2", "offer 01\noffer 02\noffer 03\noffer 04\ngive #2\ntick\ngive #4\ngive #1\ntick\nask\ntick\nask\n", "> offer 01\nput #1 0 800001\n> offer 02\nput #2 1 800102\n> offer 03\nput #3 2 800203\n> offer 04\nput #4 3 800304\n> give #2\ngot #2 1 800102\n> tick\n> give #4\ngot #4 3 800304\n> give #1\ngot #1 0 800001\ndeliver 0 01\ndeliver 1 02\n> tick\n> ask\nwaiting 2 4 1\n> tick\ndeliver 3 04\n> ask\nwaiting 4 4 0\nend 12\n"),
+    # only a part of the gap is filled: the timer runs on
+    ("um 12 2", "offer 01\noffer 02\noffer 03\ngive #3\ntick\ngive #1\ntick\nask\n", "> offer 01\nput #1 0 800001\n> offer 02\nput #2 1 800102\n> offer 03\nput #3 2 800203\n> give #3\ngot #3 2 800203\n> tick\n> give #1\ngot #1 0 800001\ndeliver 0 01\n> tick\ndeliver 2 03\n> ask\nwaiting 3 3 0\nend 8\n"),
+    # a timer that doesn't run
+    ("um 12 1", "tick\nask\n", "> tick\n> ask\nwaiting 0 0 0\nend 2\n"),
+    # nothing, or lines that are skipped alone
+    ("um 12 1", "", "end 0\n"),
+    ("um 12 1", "; none\n\n;tick\n", "end 0\n"),
+    # lines that are no event
+    ("um 12 1", "; a half octet\n\noffer 0\n", "stop 4 3 3\n"),
+    ("um 12 1", "tick\ntick 1", "> tick\nstop 4 2 4\n"),
+    # a packet that is missing is passed by a tick
+    ("um 12 1", "offer 01\noffer 02\ngive #2\ntick\nask", "> offer 01\nput #1 0 800001\n> offer 02\nput #2 1 800102\n> give #2\ngot #2 1 800102\n> tick\ndeliver 1 02\n> ask\nwaiting 2 2 0\nend 5\n"),
+]
+# scripts of one bearer with duplication
+DUPLICATES = [
+    # each leg fails in turn: the one that is mended gets all that is unconfirmed
+    ("duplicate 12 4", "offer 01\noffer 02\nfail 1\ncarry 2\nfail 2\ncarry 2\nmend 1\ncarry 1\ncarry 1\ndrain\nask\n", "> offer 01\nput L1 0 800001\nput L2 0 800001\n> offer 02\nput L1 1 800102\nput L2 1 800102\n> fail 1\nlost L1 2\n> carry 2\ngot L2 0 800001\ndeliver 0 01\n> fail 2\nlost L2 2\n> carry 2\nrefused Down\n> mend 1\nput L1 0 800001\nput L1 1 800102\n> carry 1\ngot L1 0 800001\ndrop Duplicate\n> carry 1\ngot L1 1 800102\ndeliver 1 02\n> drain\n> ask\nquiet 2\nend 11\n"),
+    # the mode comes to be the leg that is down: packets are numbered, and put where it is mended
+    ("duplicate 12 4", "fail 1\noffer 01\nmode 1\ncarry 1\noffer 02\nask\nmode 1\nmend 1\ndrain\nask\n", "> fail 1\n> offer 01\nput L2 0 800001\n> mode 1\nlost L2 1\n> carry 1\nrefused Down\n> offer 02\n> ask\nbusy\n> mode 1\nrefused Same\n> mend 1\nput L1 0 800001\nput L1 1 800102\n> drain\ngot L1 0 800001\ndeliver 0 01\ngot L1 1 800102\ndeliver 1 02\n> ask\nquiet 2\nend 10\n"),
+    # a leg that is mended outside the mode gets nothing before it enters
+    ("duplicate 12 4", "mode 1\nfail 2\noffer 01\nmend 2\nmend 2\ncarry 2\nmode both\ncarry 2\n", "> mode 1\n> fail 2\n> offer 01\nput L1 0 800001\n> mend 2\n> mend 2\nrefused Up\n> carry 2\nrefused Empty\n> mode both\nput L2 0 800001\n> carry 2\ngot L2 0 800001\ndeliver 0 01\nend 8\n"),
+    # both legs are down: a drain does nothing
+    ("duplicate 12 4", "fail 1\nfail 2\nfail 2\noffer 01\ndrain\nask\nmend 2\ndrain\nask\n", "> fail 1\n> fail 2\n> fail 2\nrefused Down\n> offer 01\n> drain\n> ask\nbusy\n> mend 2\nput L2 0 800001\n> drain\ngot L2 0 800001\ndeliver 0 01\n> ask\nquiet 1\nend 9\n"),
+    # the quota is full, and a confirmation takes the copy off the other leg
+    ("duplicate 12 4", "offer 01\noffer 02\noffer 03\noffer 04\noffer 05\nconfirm 1\ncarry 1\nconfirm 1\noffer 05\n", "> offer 01\nput L1 0 800001\nput L2 0 800001\n> offer 02\nput L1 1 800102\nput L2 1 800102\n> offer 03\nput L1 2 800203\nput L2 2 800203\n> offer 04\nput L1 3 800304\nput L2 3 800304\n> offer 05\nrefused Quota\n> confirm 1\nrefused Empty\n> carry 1\ngot L1 0 800001\ndeliver 0 01\n> confirm 1\nlost L2 1\n> offer 05\nput L1 4 800405\nput L2 4 800405\nend 9\n"),
+    # the leg that leaves the mode loses its items before the one that enters gets any; a carried copy stays
+    ("duplicate 12 4", "offer 01\nmode 2\nmode 1\ncarry 1\nmode both\ncarry 2\nconfirm 1\nask\nconfirm 2\nask\n", "> offer 01\nput L1 0 800001\nput L2 0 800001\n> mode 2\nlost L1 1\n> mode 1\nlost L2 1\nput L1 0 800001\n> carry 1\ngot L1 0 800001\ndeliver 0 01\n> mode both\nput L2 0 800001\n> carry 2\ngot L2 0 800001\ndrop Duplicate\n> confirm 1\n> ask\nbusy\n> confirm 2\n> ask\nquiet 1\nend 10\n"),
+    # nothing, and lines that are no event
+    ("duplicate 12 4", "", "end 0\n"),
+    ("duplicate 12 4", "; a leg\n\ncarry 3\n", "stop 4 3 2\n"),
+    ("duplicate 12 4", "mode 3", "stop 4 1 1\n"),
+    ("duplicate 12 4", "ask\ndrain 1\n", "> ask\nquiet 0\nstop 4 2 4\n"),
+]
 # scripts that are made
 GENERATED = [
     ("generate 1", SCRIPT, "generated 1 delivered 1 returns 0 events 8 quiet 1\n"),
@@ -436,6 +483,36 @@ CHECKS = [
     ("check", "module text\nM DEFINITIONS AUTOMATIC TAGS ::= BEGIN END x\n\n", "stop 4 3 4\n"),
     ("check", "module text\nM DEFINITIONS AUTOMATIC TAGS ::= BEGIN\nEND\n\n", "stop 4 4 4\n"),
     ("check", "module text\nM END\nEND\n", "module 2 3 2\nstop 3 2 2\n"),
+    ("check", "module text\nM END\nEND\nmore\n", "module 2 3 2\nstop 3 2 2\n"),
+    ("check", "module text\nM DEFINITIONS AUTOMATIC TAGS ::= BEGIN\nT ::= BOOLEAN\nEND", "module M 1\n"),
+    ("check", "module text\nM-1 DEFINITIONS AUTOMATIC TAGS ::= BEGIN END", "module M-1 0\n"),
+    ("check", "module text\nM DEFINITIONS AUTOMATIC TAGS ::= BEGIN T ::= U U ::= BOOLEAN END -- the last\n\r\n\n", "module M 2\n"),
+    ("check", "module text\nM DEFINITIONS AUTOMATIC TAGS ::= BEGIN END--\n-- END\n", "module M 0\n"),
+    ("check", "\n", "stop 4 1 1\n"),
+    ("check", " module text\n", "stop 4 1 1\n"),
+    ("check", "module  text\n", "stop 4 1 1\n"),
+    ("check", "module text\r\n", "stop 4 1 1\n"),
+    ("check", "module text \n", "stop 4 1 4\n"),
+    ("check", "module text", "module 2 1 9\nstop 3 2 9\n"),
+    ("check", "module text\n", "module 2 1 9\nstop 3 2 9\n"),
+    ("check", "module text\nM DEFINITIONS", "module 2 14 9\nstop 3 2 9\n"),
+    ("check", "module text\nM DEFINITIONS\n", "module 3 1 9\nstop 3 3 9\n"),
+    ("check", module("T ::= REAL"), "module 3 7 6\nstop 3 3 6\n"),
+    ("check", module("T ::= U") + "more\n", "module 3 7 3\nstop 3 3 3\n"),
+    ("check", "module text\nEND\nmore\n", "module 2 1 2\nstop 3 2 2\n"),
+    ("check", "module text\nM DEFINITIONS AUTOMATIC TAGS ::= BEGIN END x\nEND\nmore\n", "stop 4 3 4\n"),
+    ("check", "module text\nM DEFINITIONS AUTOMATIC TAGS ::= BEGIN END\n-- c -- END\n\n", "stop 4 4 4\n"),
+    ("check", "module text\nM DEFINITIONS AUTOMATIC TAGS ::= BEGIN END\n  END\n", "stop 4 3 4\n"),
+    ("check", 'module text\nM DEFINITIONS AUTOMATIC TAGS ::= BEGIN END "', "stop 4 2 4\n"),
+    ("check", "module text\nM DEFINITIONS AUTOMATIC TAGS ::= BEGIN\nEND\nmore\n", "stop 4 4 4\n"),
+    ("check", "module builtin", "module SplitGNB 53\n"),
+    ("check", "module builtin 2\n", "module SplitGNB 53\n"),
+    ("check", "module builtins\n", "stop 4 1 1\n"),
+    ("check", "module builtin\r\n", "stop 4 1 1\n"),
+    ("check", "module builtin \n", "stop 4 1 4\n"),
+    ("check", "module builtin 3\n", "stop 4 1 4\n"),
+    ("check", "module builtin 2 \n", "stop 4 1 4\n"),
+    ("check", "module builtin 2\nmore", "stop 4 2 4\n"),
 ]
 # lines after a module, and words that are no form
 LINES = [
@@ -483,9 +560,9 @@ VALUES = [
     ("encode T", module("T ::= SEQUENCE {a SEQUENCE (SIZE (2)) OF BOOLEAN, b INTEGER (0..5)}") + '{"c":1,"b":9,"a":[true,true]}\n', "wrong 0 103 b\nstop 8 5 103\n"),
     ("encode F1AP-PDU", 'module builtin\n{"initiatingMessage":{"criticality":"reject","procedureCode":6,"value":{"protocolIEs":[{"criticality":"reject","id":1,"value":1},{"criticality":"reject","id":7,"value":"400002"},{"criticality":"ignore","id":99,"raw":"aa"}]}}}\n', "000600150000030001000100000700040340000200634001AA\n"),
 ]
-CALLS = [*RUNS, *BEARERS, *GENERATED, *PROFILES, *CHECKS, *LINES, *VALUES]
+CALLS = [*RUNS, *BEARERS, *UNACKNOWLEDGED, *DUPLICATES, *GENERATED, *PROFILES, *CHECKS, *LINES, *VALUES]
 
-# ---- long calls: of the last three rows only the end of what is printed
+# ---- long calls
 
 # a packet of 2,048 octets is taken, and one of 2,049 is refused
 LONGEST = "A5" * 2048
@@ -505,7 +582,14 @@ LONG_VALUES = [
 ZEROS = "00" * 16_384
 LONG_CALLS = [SIZES, *((words, module("T ::= OCTET STRING") + line.replace("#", ZEROS), printed.replace("#", ZEROS)) for words, line, printed in LONG_VALUES)]
 
-# one uplink packet more than half the space of numbers, none of which is delivered, and one offer more than that of an unacknowledged bearer, none of which is given: the end of what is printed
+
+def delivered(count):
+    """The lines by which so many packets are offered and given at once."""
+    return "".join(f"offer 00\ngive #{number}\n" for number in range(1, count + 1))
+
+
+# calls of which the end of what is printed is compared: one uplink packet more than half the space of numbers, none of which is delivered, and one offer more than that of an unacknowledged
+# bearer, none of which is given
 LONG_ENDS = [
     (
         "run",
@@ -513,4 +597,24 @@ LONG_ENDS = [
         "outstanding u1 b1 ul 2049 2048\nstop 5 6147 0\n",
     ),
     ("um 12 2", "offer 00\n" * 2049, "> offer 00\nput #2049 2048 880000\noutstanding 2049 2048\nstop 5 2049 0\n"),
+    # 1,024 above the awaited COUNT is too far ahead, one less isn't; the held message stays on the link
+    ("um 12 1000", "offer 00\n" * 1025 + "give #1025\ngive #1024\ngive #1\ngive #1025\nask\n", "> give #1025\nheld #1025 Ahead\n> give #1024\ngot #1024 1023 83FF00\n> give #1\ngot #1 0 800000\ndeliver 0 00\n> give #1025\ngot #1025 1024 840000\n> ask\nwaiting 1 1025 2\nend 1030\n"),
+    # numbers wrap: 4,095 is awaited, and 4,096 comes first, whose number is 0
+    ("um 12 1", delivered(4095) + "offer AA\noffer BB\noffer CC\ngive #4097\ngive #4096\ngive #4098\nask\n", "> offer AA\nput #4096 4095 8FFFAA\n> offer BB\nput #4097 4096 8000BB\n> offer CC\nput #4098 4097 8001CC\n> give #4097\ngot #4097 4096 8000BB\n> give #4096\ngot #4096 4095 8FFFAA\ndeliver 4095 AA\ndeliver 4096 BB\n> give #4098\ngot #4098 4097 8001CC\ndeliver 4097 CC\n> ask\nwaiting 4098 4098 0\nend 8197\n"),
+    # and a late packet whose number is the greater one
+    ("um 12 1", delivered(4094) + "offer 01\noffer 02\noffer 03\nagain #4095\nlose #4096\ngive #4097\ntick\nagain #4095\nask\n", "> offer 01\nput #4095 4094 8FFE01\n> offer 02\nput #4096 4095 8FFF02\n> offer 03\nput #4097 4096 800003\n> again #4095\ngot #4095 4094 8FFE01\ndeliver 4094 01\n> lose #4096\nlost #4096 1\n> give #4097\ngot #4097 4096 800003\n> tick\ndeliver 4096 03\n> again #4095\ngot #4095 4094 8FFE01\ndrop Late\n> ask\nwaiting 4097 4097 0\nend 8197\n"),
+    # 2,048 COUNTs may be outstanding, and one more ends the run
+    ("um 12 2", "offer 00\n" * 2048 + "offer 01\nask\n", "> offer 01\nput #2049 2048 880001\noutstanding 2049 2048\nstop 5 2049 0\n"),
+    # a message that stays on the link is outstanding, though its packet was delivered
+    ("um 12 2", "offer 00\n" * 2048 + "again #1\ngive #2\noffer 01\n", "> again #1\ngot #1 0 800000\ndeliver 0 00\n> give #2\ngot #2 1 800100\ndeliver 1 00\n> offer 01\nput #2049 2048 880001\noutstanding 2049 2048\nstop 5 2051 0\n"),
+    # and isn't any more once it is lost
+    ("um 12 2", "offer 00\n" * 2048 + "again #1\ngive #2\nlose #1\noffer 01\nask\n", "> again #1\ngot #1 0 800000\ndeliver 0 00\n> give #2\ngot #2 1 800100\ndeliver 1 00\n> lose #1\nlost #1 1\n> offer 01\nput #2049 2048 880001\n> ask\nwaiting 2 2 0\nend 2053\n"),
+    # numbers of 18 bits don't wrap there
+    ("um 18 1", delivered(4096) + "offer 01\nask\n", "> offer 01\nput #4097 4096 80100001\n> ask\nwaiting 4096 4096 0\nend 8194\n"),
+    # numbers wrap: COUNT 4,096 has number 0
+    ("duplicate 12 4", "offer 00\ncarry 1\nconfirm 1\n" * 4095 + "offer AA\noffer BB\ncarry 2\ncarry 2\nconfirm 2\nconfirm 2\nask\n", "> offer AA\nput L1 4095 8FFFAA\nput L2 4095 8FFFAA\n> offer BB\nput L1 4096 8000BB\nput L2 4096 8000BB\n> carry 2\ngot L2 4095 8FFFAA\ndeliver 4095 AA\n> carry 2\ngot L2 4096 8000BB\ndeliver 4096 BB\n> confirm 2\nlost L1 1\n> confirm 2\nlost L1 1\n> ask\nquiet 4097\nend 12292\n"),
+    # a carried copy stays on a leg while others come and go: 2,048 COUNTs may be outstanding, and one more ends the run
+    ("duplicate 12 4", "offer 00\ncarry 1\ncarry 2\nconfirm 2\n" + "offer 00\ncarry 2\nconfirm 2\n" * 2047 + "offer 01\nask\n", "> confirm 2\nlost L1 1\n> offer 01\nput L1 2048 880001\nput L2 2048 880001\noutstanding 2049 2048\nstop 5 6146 0\n"),
+    # and it may end within a drain
+    ("duplicate 12 4096", "offer 00\ncarry 2\ncarry 1\nconfirm 1\n" + "offer 00\n" * 2048 + "drain\nask\n", "got L1 2047 87FF00\ndeliver 2047 00\nlost L2 1\nput L1 2048 880000\nput L2 2048 880000\noutstanding 2049 2048\nstop 5 2053 0\n"),
 ]

@@ -1,5 +1,5 @@
 #!/usr/bin/env python3
-"""Checks whole calls of the program (tools/whole_calls.py): what is printed, and the status, where a read gives and a write takes one octet or 4,096 at most.
+"""Checks whole calls of the program (tools/whole_calls.py): what is printed, and the status, where a read gives and a write takes one octet, 16, or 4,096 at most.
 
 Each read and each write of a call fails in turn. After a write that failed there is no further call, the status is 7, and what was printed is a front of what is printed
 where none fails. After a read that failed there is no further read, and the status is 6: what the lines before it give is printed, and then `stop 6 TAKEN 0`, with the octets that were
@@ -23,7 +23,7 @@ import tempfile
 import program
 from whole_calls import CALLS, LONG_CALLS, LONG_ENDS, PROFILES
 
-PIECES = (1, 4096)
+PIECES = (1, 16, 4096)
 READ_FAILED, WRITE_FAILED = 6, 7
 # a module that is wrong, after whose `END` nothing is read
 WRONG_MODULE = "module text\nM END\nEND\n"
@@ -69,14 +69,18 @@ def status_of(printed):
 # ---- what is awaited where a call fails
 
 
+def header_of(words):
+    return "module builtin\n" if words == "run" else ""
+
+
 def lines_of_events(words, given, printed):
     """Each event's line of a script with what it prints, where each line after the header is one; None of another call."""
     if words.split()[0] not in ("run", "um", "duplicate") or status_of(printed):
         return None
-    header = "module builtin\n" if words == "run" else ""
+    header = header_of(words)
     events = printed[: printed.rindex("end ")].split("> ")[1:]
     lines = [event.split("\n", 1)[0] + "\n" for event in events]
-    return list(zip(lines, events, strict=True)) if given == header + "".join(lines) else None
+    return list(zip(lines, events, strict=True)) if given in (header + "".join(lines), header + "".join(lines)[:-1]) else None
 
 
 def front_of(call, taken):
@@ -85,7 +89,7 @@ def front_of(call, taken):
     events = lines_of_events(words, given, printed)
     if events is None:
         return None
-    end, front = len(given) - sum(len(line) for line, _ in events), ""
+    end, front = len(header_of(words)), ""
     for line, event in events:
         end += len(line)
         front += f"> {event}" if end <= taken else ""
@@ -119,8 +123,8 @@ def awaited_reads(call, piece):
     words, given, printed = call
     if status_of(printed) == 2 or words.split()[0] in ("profile", "generate"):
         return 0
-    if given == WRONG_MODULE and piece == 1:
-        return len(given)
+    if given.startswith(WRONG_MODULE) and piece == 1:
+        return len(WRONG_MODULE)
     return -(-len(given) // piece) + 1 if lines_of_events(*call) else None
 
 

@@ -152,6 +152,27 @@ fn is_past(alloc: Global, input: Vec<u8>) -> Result<bool, Memory> {
     Ok(reads_past_limit(&mut reader, &mut source))
 }
 
+fn is_line(read: &Result<Option<Line>, ReadError>, text: &[u8]) -> bool {
+    matches!(read, Ok(Some(line)) if line.text.as_slice() == text)
+}
+
+fn hands_out_what_it_keeps(reader: &mut LineReader, source: &mut MemorySource) -> bool {
+    !reader.keeps_line()
+        && is_line(&reader.next(source), b"one")
+        && reader.keeps_line()
+        && is_line(&reader.next(source), b"two")
+        && !reader.keeps_line()
+}
+
+/// A whole line that is kept is known before it is handed out; what is left of a line is none.
+#[test]
+fn a_line_that_is_kept(rt: HostRuntime) -> Result<(), Memory> {
+    let mut source = source_of(rt.alloc(), b"one\ntwo\nthr", 16, &[])?;
+    let mut reader = LineReader::new(rt.alloc())?;
+    assert!(rt; hands_out_what_it_keeps(&mut reader, &mut source));
+    Ok(())
+}
+
 /// An empty line, and one that takes the rest of an input that is as long as it may be.
 fn longest(alloc: Global) -> Result<Vec<u8>, Memory> {
     let mut input = vec![in alloc; b'x'; INPUT_LIMIT as usize]?;

@@ -176,37 +176,16 @@ fn are_refused(rt: &impl Abort, alloc: Global, lines: &[(&str, TextReason)]) {
 }
 
 #[test]
-fn wrong_plans(rt: HostRuntime) {
+fn wrong_lines(rt: HostRuntime) {
     are_refused(&rt, rt.alloc(), &PLANS);
-}
-
-#[test]
-fn wrong_radios(rt: HostRuntime) {
     are_refused(&rt, rt.alloc(), &RADIOS);
-}
-
-#[test]
-fn wrong_links(rt: HostRuntime) {
     are_refused(&rt, rt.alloc(), &LINKS);
-}
-
-#[test]
-fn wrong_terminals(rt: HostRuntime) {
     are_refused(&rt, rt.alloc(), &UES);
-}
-
-#[test]
-fn wrong_others(rt: HostRuntime) {
     are_refused(&rt, rt.alloc(), &OTHERS);
 }
 
-#[test]
-fn skipped(rt: HostRuntime) {
-    assert!(rt; is_skipped(b"") && is_skipped(b"; air u1 b1 dl") && !is_skipped(b" ;"));
-}
-
 /// Events that are read, and how their line shows them again.
-const FIRST_EVENTS: [(&str, &str); 11] = [
+const EVENTS: [(&str, &str); 32] = [
     ("static u1 A 1 1 12 1 64", "> static u1 A 1 1 12 1 64"),
     ("attach u16 B 2 2 18 8 4096", "> attach u16 B 2 2 18 8 4096"),
     ("tick", "> tick"),
@@ -218,6 +197,27 @@ const FIRST_EVENTS: [(&str, &str); 11] = [
     ("fail u3", "> fail u3"),
     ("cancel u3", "> cancel u3"),
     ("inject A.du1 A.cp 0aF0", "> inject A.du1 A.cp 0AF0"),
+    ("static u16 B 2 2 18 8 4096", "> static u16 B 2 2 18 8 4096"),
+    ("start", "> start"),
+    ("settle", "> settle"),
+    ("get A.up1/1", "> get A.up1/1"),
+    ("get u16/10", "> get u16/10"),
+    ("ack u1 b1 dl", "> ack u1 b1 dl"),
+    ("give #4294967295", "> give #4294967295"),
+    ("poll u1 b2", "> poll u1 b2"),
+    ("arrive u3", "> arrive u3"),
+    ("release u3", "> release u3"),
+    ("inject A.up1/3 00", "> inject A.up1/3 00"),
+    ("attach u1 A 1 1 12 1 64", "> attach u1 A 1 1 12 1 64"),
+    ("pump", "> pump"),
+    ("offer u1 b1 dl 45", "> offer u1 b1 dl 45"),
+    ("get B.du2/4294967295", "> get B.du2/4294967295"),
+    ("air u1 b1 dl", "> air u1 b1 dl"),
+    ("ack u2 b8 ul", "> ack u2 b8 ul"),
+    ("lose #3", "> lose #3"),
+    ("ask u1 b2", "> ask u1 b2"),
+    ("return u3", "> return u3"),
+    ("handover u1 B 1 2", "> handover u1 B 1 2"),
 ];
 
 /// Whether a line of a transcript has this text.
@@ -243,55 +243,12 @@ fn is_shown(alloc: Global, line: &str, text: &str) -> bool {
     }
 }
 
-/// Each of these lines is read, and its event has its text.
-fn are_shown(rt: &impl Abort, alloc: Global, lines: &[(&str, &str)]) {
-    for &(line, text) in lines {
-        assert!(rt; is_shown(alloc, line, text), "{line}");
+#[test]
+fn events(rt: HostRuntime) {
+    for &(line, text) in &EVENTS {
+        assert!(rt; is_shown(rt.alloc(), line, text), "{line}");
     }
-}
-
-#[test]
-fn first_events(rt: HostRuntime) {
-    are_shown(&rt, rt.alloc(), &FIRST_EVENTS);
-}
-
-/// Events that are read, and how their line shows them again.
-const SECOND_EVENTS: [(&str, &str); 11] = [
-    ("static u16 B 2 2 18 8 4096", "> static u16 B 2 2 18 8 4096"),
-    ("start", "> start"),
-    ("settle", "> settle"),
-    ("get A.up1/1", "> get A.up1/1"),
-    ("get u16/10", "> get u16/10"),
-    ("ack u1 b1 dl", "> ack u1 b1 dl"),
-    ("give #4294967295", "> give #4294967295"),
-    ("poll u1 b2", "> poll u1 b2"),
-    ("arrive u3", "> arrive u3"),
-    ("release u3", "> release u3"),
-    ("inject A.up1/3 00", "> inject A.up1/3 00"),
-];
-
-#[test]
-fn second_events(rt: HostRuntime) {
-    are_shown(&rt, rt.alloc(), &SECOND_EVENTS);
-}
-
-/// Events that are read, and how their line shows them again.
-const THIRD_EVENTS: [(&str, &str); 10] = [
-    ("attach u1 A 1 1 12 1 64", "> attach u1 A 1 1 12 1 64"),
-    ("pump", "> pump"),
-    ("offer u1 b1 dl 45", "> offer u1 b1 dl 45"),
-    ("get B.du2/4294967295", "> get B.du2/4294967295"),
-    ("air u1 b1 dl", "> air u1 b1 dl"),
-    ("ack u2 b8 ul", "> ack u2 b8 ul"),
-    ("lose #3", "> lose #3"),
-    ("ask u1 b2", "> ask u1 b2"),
-    ("return u3", "> return u3"),
-    ("handover u1 B 1 2", "> handover u1 B 1 2"),
-];
-
-#[test]
-fn third_events(rt: HostRuntime) {
-    are_shown(&rt, rt.alloc(), &THIRD_EVENTS);
+    assert!(rt; is_skipped(b"") && is_skipped(b"; air u1 b1 dl") && !is_skipped(b" ;"));
 }
 
 const UP: Link = Link::Tunnel {

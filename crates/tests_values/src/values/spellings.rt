@@ -86,28 +86,13 @@ fn are_spelled(rt: &impl Abort, alloc: Global, text: &[u8], rows: &[Row]) {
 }
 
 #[test]
-fn worked(rt: HostRuntime) {
-    are_spelled(&rt, rt.alloc(), TYPES, &WORKED);
-}
-
-#[test]
-fn numbers(rt: HostRuntime) {
-    are_spelled(&rt, rt.alloc(), TYPES, &NUMBERS);
-}
-
-#[test]
-fn strings(rt: HostRuntime) {
-    are_spelled(&rt, rt.alloc(), TYPES, &STRINGS);
-}
-
-#[test]
-fn structures(rt: HostRuntime) {
-    are_spelled(&rt, rt.alloc(), TYPES, &STRUCTURES);
-}
-
-#[test]
-fn messages(rt: HostRuntime) {
-    are_spelled(&rt, rt.alloc(), PROFILE_TEXT, &MESSAGES);
+fn spellings(rt: HostRuntime) {
+    let alloc = rt.alloc();
+    are_spelled(&rt, alloc, TYPES, &WORKED);
+    are_spelled(&rt, alloc, TYPES, &NUMBERS);
+    are_spelled(&rt, alloc, TYPES, &STRINGS);
+    are_spelled(&rt, alloc, TYPES, &STRUCTURES);
+    are_spelled(&rt, alloc, PROFILE_TEXT, &MESSAGES);
 }
 
 /// Whether a value is so many octets of zeros.
