@@ -81,7 +81,7 @@ def check_up(folder):
     ran = stories.run_tool("bench_up", "--small", "10", "--large", "41", "--program", str(program))
     assert (ran.returncode, ran.stderr) == (2, "bench_up: with 41 packets the test ended with status 1\n"), ran.stderr
     ran = stories.run_tool("bench_up", "--program", str(folder / "none"))
-    said = f"bench_up: '{folder / 'none'}' is no program that can be run; 'rt test' in crates/tests_up builds the one that is measured\n"
+    said = f"bench_up: '{folder / 'none'}' is no program that can be run; 'rt test' in crates/tests_cu_up builds the one that is measured\n"
     assert (ran.returncode, ran.stdout, ran.stderr) == (2, "", said), ran.stderr
 
 

@@ -1,7 +1,7 @@
 #!/usr/bin/env python3
 """Measures a CU-UP that carries packets, at two sizes: processor time and its ratio between the sizes, packets a second, and peak memory.
 
-It runs the test `carries_packets` of tests_up, as 'rt test' in its folder or the gate built it: a packet of one octet comes from the core and is sent to the DU, the
+It runs the test `carries_packets` of tests_cu_up, as 'rt test' in its folder or the gate built it: a packet of one octet comes from the core and is sent to the DU, the
 DU confirms it, and one comes from the DU and is delivered; so many times. Each answer is compared, which is measured too; nothing is read or printed.
 
 Nothing here is proved, and a measurement is one of this machine at this time: other work on it shows.
@@ -19,7 +19,7 @@ import bench
 import other_reading
 import transcripts
 
-PROGRAM = other_reading.TOP / "crates/tests_up/out/tests_up_tests"
+PROGRAM = other_reading.TOP / "crates/tests_cu_up/out/tests_up_tests"
 TEST = "packets::carries_packets"
 LARGEST = 2**32 - 1
 
@@ -50,12 +50,12 @@ def main():
     asked = transcripts.Asked(__doc__)
     asked.add_argument("--small", type=int, default=100_000)
     asked.add_argument("--large", type=int, default=400_000)
-    asked.add_argument("--program", default=str(PROGRAM), help="the tests of tests_up")
+    asked.add_argument("--program", default=str(PROGRAM), help="the tests of tests_cu_up")
     given = asked.parse_args()
     if not 1 <= given.small < given.large <= LARGEST:
         asked.error(f"the sizes are two numbers from 1 to {LARGEST}, the smaller one first")
     if shutil.which(given.program) is None:
-        print(f"bench_up: '{given.program}' is no program that can be run; 'rt test' in crates/tests_up builds the one that is measured", file=sys.stderr)
+        print(f"bench_up: '{given.program}' is no program that can be run; 'rt test' in crates/tests_cu_up builds the one that is measured", file=sys.stderr)
         return bench.USAGE
     with tempfile.TemporaryDirectory() as folder:
         try:

@@ -2,7 +2,7 @@
 """Lets each request for memory fail in turn: of the program, in each example that has an input (tools/examples.py), and in each call of `encode` and `decode` that
 tools/whole_calls.py has a row of; or, where crates of tests are named, of each of their tests.
 
-Every run of the program must end with status 9 and a front of what is printed where none fails; or, where it can do without what it asked for, as where none fails. Every test must pass: those of tests_up, tests_du_node and
+Every run of the program must end with status 9 and a front of what is printed where none fails; or, where it can do without what it asked for, as where none fails. Every test must pass: those of tests_cu_up, tests_du_node and
 tests_cu_control do where the step in which memory ran out answers that and nothing else, a later step answers it too, and another unit then does the steps as
 they should be; so do those of tests_transactions, of a call. Tests of other crates mostly fail where memory runs out.
 

@@ -1,3 +1,3 @@
-pub mod Parts
+pub mod Models
 pub mod Orders
-pub mod Guards
+pub mod Assumptions

@@ -1,1 +1,1 @@
-//! Definitions alone: the part of a run that one bearer's uplink is, the orders that change it, and what they ask for.
+//! Definitions alone: the model of one bearer's uplink in a run, the orders that change it, and what they ask for.

@@ -26,7 +26,7 @@ use Rattle.commands.specs.input_module.Taking.{HasModule, StopsTaking}
 use Rattle.run_defs.specs.States.{RunStep, Stop, outstanding, spent_counter, goes, stops}
 use Rattle.run_defs.specs.UnitRuns.{unit_world}
 use Rattle.run_links.specs.declared.spans.Outstanding.{Outstanding as Span}
-use Rattle.run_links.specs.Grounds.{OctetState, OctetOutcome}
+use Rattle.run_links.specs.Networks.{OctetState, OctetOutcome}
 use Rattle.run_links.specs.Told.{EndsAt}
 use Rattle.world_steps.specs.declared.cause.Cause.{Cause}
 use Rattle.world_steps.specs.declared.cause.Cause.TheVariants as causes

@@ -11,7 +11,7 @@ use Rattle.scenario_text.specs.Print.{print, line_text}
 use Rattle.run_defs.specs.States.{new_state, RunStep, Stop, goes, stops}
 use Rattle.run_defs.specs.Runs.{Happened, Transcript, happens, run_on, run_from, run}
 use Rattle.run_defs.specs.UnitRuns.{unit_world, UnitRun}
-use Rattle.run_links.specs.Grounds.{OctetState, OctetWorld, OctetOutcome}
+use Rattle.run_links.specs.Networks.{OctetState, OctetWorld, OctetOutcome}
 use Rattle.world.specs.Worlds.{WorldAt}
 use Rattle.command_run.specs.Run.{Setting, meanings, AreEvents, run_of, GoesOn, happened_text, run_text}
 use Rattle.command_run.specs.inside.Turns.{IsEvent, told_by, text_at}

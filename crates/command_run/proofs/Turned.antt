@@ -19,7 +19,7 @@ use Rattle.scenario_text.specs.declared.event.Event.{Event}
 use Rattle.scenario_text.specs.Grammar.{is_skipped}
 use Rattle.run_defs.specs.States.{Stop, outstanding, spent_counter}
 use Rattle.run_defs.specs.Runs.{Happened}
-use Rattle.run_links.specs.Grounds.{OctetState}
+use Rattle.run_links.specs.Networks.{OctetState}
 use Rattle.world_steps.specs.declared.cause.Cause.{Cause}
 use Rattle.world_steps.specs.declared.cause.Cause.TheVariants as causes
 use Rattle.world_steps.specs.Gives.{stop_by}
@@ -78,8 +78,8 @@ writes_none setting sink = subst (λ (text : List ℕ). WritesAll sink sink text
 
 some_line : (newest : Version) (left : Option (List ℕ)) (split : InputSplit) (front : List (List ℕ)) (found : GivenModule)
     → GivesModule newest left split front found → 0 < length front
-some_line newest left split front (given.Text m) h = omega (arith, ap length h.has.parts)
-some_line newest left split front (given.Builtin version) h = omega (arith, ap length h.parts)
+some_line newest left split front (given.Text m) h = omega (arith, ap length h.has.run_state)
+some_line newest left split front (given.Builtin version) h = omega (arith, ap length h.run_state)
 
 pub begins : {source0 source1 : SourceAt} {reading : Reading} (setting : Setting) (sink : SinkAt) (world : WorldAt)
     → HasProfile source0 source1 reading
@@ -118,7 +118,7 @@ module _ {setting : Setting} {first : OutsideAt} {old : RunAt} {count : ℕ} (s 
     front = s.front;
     lines = s.lines;
     found = s.found;
-    parts = refl;
+    run_state = refl;
     gives = s.later going left (input_split (s.taken ++ more) (s.front ++ s.lines) kept) more refl;
     profile = s.profile;
     are = s.script;
@@ -146,7 +146,7 @@ module _ {setting : Setting} {first : OutsideAt} {old : RunAt} {count : ℕ} (s 
       front = s.front;
       lines = s.lines ++ line.text ∷ [];
       found = s.found;
-      parts = refl;
+      run_state = refl;
       gives = gives_more;
       profile = s.profile;
       are = are;
@@ -221,7 +221,7 @@ ends_done {setting = setting} {first = first} {old = old} new s t =
       front = s.front;
       lines = s.lines;
       found = s.found;
-      parts = refl;
+      run_state = refl;
       gives = gives_at_end One (rest_of first.source old.source) (rest_of first.source new.source) (split_of old.reading s.taken (s.front ++ s.lines)) (input_split (s.taken ++ t.meets.taken) (s.front ++ s.lines) []) s.front s.found
           (ap (λ (bytes : List ℕ). s.taken ++ bytes) none.1 ∙ append-nil s.taken) refl all s.gives;
       profile = s.profile;
@@ -379,7 +379,7 @@ no_world {source0 = source0} {source1 = source1} {reading = reading} setting sin
         front = h.lines;
         lines = [];
         found = p.found;
-        parts = sym (append-nil h.lines);
+        run_state = sym (append-nil h.lines);
         gives = h.gives;
         profile = p.profile;
         are = refl;
@@ -478,7 +478,7 @@ by_apply {setting = setting} {first = first} {old = old} new line event end s m 
       last = event;
       lines = s.front ++ s.lines;
       line = line.text;
-      parts = refl;
+      run_state = refl;
       line_parts = sym (append_assoc s.front s.lines (line.text ∷ []));
       means = event_means line.text event is;
       goes = reached_goes s.reached;

@@ -89,13 +89,13 @@ fn happen<U: Units<C> + Drop, C: LawfulCodec + Drop>(
 ) -> Result<Happening, Memory>
     requires range { InRange event.now }
     requires going { world.old.stop ≡ None }
-    requires ready { U.ready world.old.parts.units }
-    ensures ready { IsUsable U.ready world.new.parts.units world.new.stop }
+    requires ready { U.ready world.old.run_state.units }
+    ensures ready { IsUsable U.ready world.new.run_state.units world.new.stop }
     ensures happens { IfOk result (IsHappening (setting_of C.codec U.answer) event.now
-        (world_at (U.records world.old.parts.units) world.old.parts.core
-        world.old.parts.ground world.old.stop)
-        (world_at (U.records world.new.parts.units) world.new.parts.core
-        world.new.parts.ground world.new.stop)) }
+        (world_at (U.records world.old.run_state.units) world.old.run_state.core
+        world.old.run_state.network world.old.stop)
+        (world_at (U.records world.new.run_state.units) world.new.run_state.core
+        world.new.run_state.network world.new.stop)) }
 {
     match world.apply(event) {
         Ok(lines) => Ok(Happening { lines, cause: None }),
@@ -133,13 +133,13 @@ fn apply_event<K: Sink, U: Units<C> + Drop, C: LawfulCodec + Drop>(
 ) -> Result<(), RunEnd>
     requires range { InRange event }
     requires going { world.old.stop ≡ None }
-    requires ready { U.ready world.old.parts.units }
-    ensures ready { IsUsable U.ready world.new.parts.units world.new.stop }
+    requires ready { U.ready world.old.run_state.units }
+    ensures ready { IsUsable U.ready world.new.run_state.units world.new.stop }
     ensures meets { ApplyMeets (setting_of C.codec U.answer)
-        (work_at (world_at (U.records world.old.parts.units) world.old.parts.core
-        world.old.parts.ground world.old.stop) (K.at output.old))
-        (work_at (world_at (U.records world.new.parts.units) world.new.parts.core
-        world.new.parts.ground world.new.stop) (K.at output.new))
+        (work_at (world_at (U.records world.old.run_state.units) world.old.run_state.core
+        world.old.run_state.network world.old.stop) (K.at output.old))
+        (work_at (world_at (U.records world.new.run_state.units) world.new.run_state.core
+        world.new.run_state.network world.new.stop) (K.at output.new))
         (place, event) result }
 {
     let Ok(Happening { lines, cause }) = happen(world, &event) else {
@@ -168,13 +168,13 @@ fn apply_line<S: Source, K: Sink, U: Units<C> + Drop, C: LawfulCodec + Drop>(
     output: &mut K,
 ) -> Result<Option<u64>, RunEnd>
     requires going { world.old.stop ≡ None }
-    requires ready { U.ready world.old.parts.units }
-    ensures ready { IsUsable U.ready world.new.parts.units world.new.stop }
+    requires ready { U.ready world.old.run_state.units }
+    ensures ready { IsUsable U.ready world.new.run_state.units world.new.stop }
     ensures meets { TurnMeets (setting_of C.codec U.answer)
-        (run_at reader.old (S.at input.old) (world_at (U.records world.old.parts.units)
-        world.old.parts.core world.old.parts.ground world.old.stop) (K.at output.old))
-        (run_at reader.new (S.at input.new) (world_at (U.records world.new.parts.units)
-        world.new.parts.core world.new.parts.ground world.new.stop) (K.at output.new)) result }
+        (run_at reader.old (S.at input.old) (world_at (U.records world.old.run_state.units)
+        world.old.run_state.core world.old.run_state.network world.old.stop) (K.at output.old))
+        (run_at reader.new (S.at input.new) (world_at (U.records world.new.run_state.units)
+        world.new.run_state.core world.new.run_state.network world.new.stop) (K.at output.new)) result }
 {
     let Some(line) = next_line(reader, input)? else {
         return Ok(None);

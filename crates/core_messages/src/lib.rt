@@ -2,5 +2,5 @@
 #![tactic(auto)]
 
 mod codes;
-pub mod hearing;
+pub mod reading;
 pub mod writing;

@@ -22,7 +22,7 @@ use std::alloc::Global;
 ///
 /// # Errors
 /// Out of memory.
-pub fn written(alloc: Global, msg: &CoreMessage) -> Result<Value, Memory>
+pub fn to_value(alloc: Global, msg: &CoreMessage) -> Result<Value, Memory>
     ensures { IfOk result (λ v. view v ≡ written_core msg.now) }
 {
     match msg {

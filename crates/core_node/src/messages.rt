@@ -36,7 +36,7 @@ pub(crate) struct PathSwitch<'a> {
 }
 
 /// Whether the core shares an interface with this node: with each CU-CP.
-fn hears(from: NodeId) -> bool
+fn receives(from: NodeId) -> bool
     ensures { result ≡ shares_interface Core from }
 {
     match from {
@@ -59,7 +59,7 @@ impl CoreNode {
         ensures { IsStep
             (step_after outputs.old (core_steps C.codec self.old from octets.now)) outputs.new self.new result }
     {
-        if !hears(from) {
+        if !receives(from) {
             return put(outputs, Output::Drop(DropReason::Unexpected));
         }
         match codec.read(alloc, from, NodeId::Core, octets)? {

@@ -5,15 +5,15 @@ use Rattle.gnb_types.specs.declared.names.UeId.{UeId}
 use Rattle.gnb_types.specs.declared.keys.Channel.{Channel}
 use Rattle.gnb_types.specs.declared.outputs.Output.{Output}
 use Rattle.unit_defs.specs.Ways.{Message}
-use Rattle.unit_defs.specs.CpRecords.{CuCpRecord, Row, carry_out}
+use Rattle.unit_defs.specs.CuCpRecords.{CuCpRecord, Row, carry_out}
 use Rattle.unit_defs.specs.CuCp.{Answered, answers_with, closed_at, put_next, answered_by}
 use Rattle.unit_defs.specs.octet_defs.Codec.{Codec, octet_way}
 use Rattle.unit_messages.specs.declared.steps.StepError.{StepError}
 use Rattle.unit_messages.specs.declared.steps.StepError.TheVariants as errors
 use Rattle.unit_messages.specs.steps.Steps.{Step, stepped, step_after, IsStep}
 use Rattle.unit_requests.proofs.Thens.{goes_on, stops}
-use Rattle.cu_cp_records.specs.declared.control_says.row.Row.{Row as CodeRow}
-use Rattle.cu_cp_records.specs.control_says.Rows.{row_as}
+use Rattle.cu_cp_records.specs.declared.control_actions.row.Row.{Row as CodeRow}
+use Rattle.cu_cp_records.specs.control_actions.Rows.{row_as}
 use Rattle.cu_cp_answers.specs.declared.control_answers.states.Answered.{Answered as CodeAnswered}
 use Rattle.cu_cp_answers.specs.declared.control_answers.states.Answered.TheVariants.{Awaited}
 use Rattle.cu_cp_answers.specs.control_answers.Answers.{some_row_as, AnswerGives}

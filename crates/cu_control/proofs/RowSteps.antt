@@ -4,12 +4,12 @@ use Rattle.std.specs.Prelude.{Err}
 use Rattle.gnb_types.specs.declared.names.UeId.{UeId}
 use Rattle.gnb_types.specs.declared.outputs.Output.{Output}
 use Rattle.unit_defs.specs.Ways.{Way}
-use Rattle.unit_defs.specs.CpRecords.{CuCpRecord, Row, carry_out}
+use Rattle.unit_defs.specs.CuCpRecords.{CuCpRecord, Row, carry_out}
 use Rattle.unit_defs.specs.CuCp.{by_row}
 use Rattle.unit_messages.specs.declared.steps.StepError.{StepError}
 use Rattle.unit_messages.specs.declared.steps.StepError.TheVariants as errors
 use Rattle.unit_messages.specs.steps.Steps.{step_after, IsStep}
-use Rattle.cu_cp_records.specs.control_says.Rows.{RowGives}
+use Rattle.cu_cp_records.specs.control_actions.Rows.{RowGives}
 
 module _ (way : Way (List ℕ) (List ℕ) (List ℕ)) (ue : UeId) (r after : CuCpRecord (List ℕ) (List ℕ)) (before outputs : List Output) where
   pub row_stops : (wanted given : Row (List ℕ)) (e : StepError) → given ≡ wanted → RowGives given (Err e)

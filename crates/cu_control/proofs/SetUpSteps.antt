@@ -5,7 +5,7 @@ use Rattle.gnb_types.specs.declared.outputs.Output.{Output}
 use Rattle.unit_defs.specs.Ways.{Message, nothing}
 use Rattle.unit_defs.specs.Messages.{channel}
 use Rattle.unit_defs.specs.Transactions.{Transactions, replied}
-use Rattle.unit_defs.specs.CpRecords.{CuCpRecord, with_transactions}
+use Rattle.unit_defs.specs.CuCpRecords.{CuCpRecord, with_transactions}
 use Rattle.unit_defs.specs.CuCp.{with_unit, set_up}
 use Rattle.unit_defs.specs.octet_defs.Codec.{Codec, octet_way}
 use Rattle.unit_messages.specs.steps.Steps.{stepped, step_after}

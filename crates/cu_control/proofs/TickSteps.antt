@@ -8,7 +8,7 @@ use Rattle.transaction_defs.specs.Callers as callers
 use Rattle.transactions.specs.declared.caller.Due.{Due}
 use Rattle.transactions.specs.Answers.{due_as}
 use Rattle.unit_defs.specs.Ways.{◌then◌}
-use Rattle.unit_defs.specs.CpRecords.{CuCpRecord, terminal_of, with_transactions}
+use Rattle.unit_defs.specs.CuCpRecords.{CuCpRecord, terminal_of, with_transactions}
 use Rattle.unit_defs.specs.CuCp.{at_of, by_row, command_on, command_each, due_each, ues_of, tick}
 use Rattle.unit_defs.specs.octet_defs.Codec.{Codec, octet_way}
 use Rattle.unit_defs.specs.octet_defs.Units.{OctetAnswer}

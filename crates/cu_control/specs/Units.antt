@@ -3,8 +3,8 @@ use Rattle.std.specs.Prelude.{◌≡◌, ℕ, List, [], Option, Some, None, Resu
 use Rattle.gnb_types.specs.declared.inputs.Input.{Input}
 use Rattle.gnb_types.specs.declared.outputs.Output.{Output}
 use Rattle.gnb_types.specs.declared.plans.Plan.{Plan}
-use Rattle.unit_defs.specs.CpRecords.{CuCpRecord}
-use Rattle.unit_defs.specs.Static.{cp_placed}
+use Rattle.unit_defs.specs.CuCpRecords.{CuCpRecord}
+use Rattle.unit_defs.specs.Static.{cu_cp_placed}
 use Rattle.unit_defs.specs.octet_defs.Codec.{Codec}
 use Rattle.unit_defs.specs.octet_defs.Units.{cu_cp_steps}
 use Rattle.unit_messages.specs.steps.Steps.{step_after, IsStep}
@@ -36,7 +36,7 @@ StepsTo codec before input after result = StepsFrom codec before before.stopped 
 -- a terminal without an attach: it is served by the plan, or memory ran out; or the same error as before, once there was one
 abbrev pub PlacesFrom : ControlUnit → Option StepError → Plan → ControlUnit → Result (Unit {0}) StepError → Type 0
 PlacesFrom before (Some e) plan after result = (result ≡ Err e) × (after ≡ before)
-PlacesFrom before None plan after (Ok done) = after ≡ record before { kept = cp_placed before.kept plan }
+PlacesFrom before None plan after (Ok done) = after ≡ record before { kept = cu_cp_placed before.kept plan }
 PlacesFrom before None plan after (Err e) = (e ≡ Memory) × (after ≡ record before { stopped = Some Memory })
 
 abbrev pub PlacesTo : ControlUnit → Plan → ControlUnit → Result (Unit {0}) StepError → Type 0

@@ -3,16 +3,16 @@
 ghost use Rattle.std.specs.Prelude.{◌≡◌};
 ghost use Rattle.unit_defs.specs.Ways.{f1, e1, xn};
 ghost use Rattle.unit_defs.specs.Transactions.{replied};
-ghost use Rattle.unit_defs.specs.CpRows.{offer, offer_context, status, xn_cancelled, xn_released};
-ghost use Rattle.unit_defs.specs.CpRecords.{terminal_of};
+ghost use Rattle.unit_defs.specs.CuCpRows.{offer, offer_context, status, xn_cancelled, xn_released};
+ghost use Rattle.unit_defs.specs.CuCpRecords.{terminal_of};
 ghost use Rattle.unit_defs.specs.CuCp.{at_of, set_up, by_row, asked};
 ghost use Rattle.unit_defs.specs.octet_defs.Codec.{octet_way};
 ghost use Rattle.unit_messages.specs.Messages.{message_as};
 ghost use Rattle.unit_messages.specs.steps.Steps.{step_after, IsStep};
 
 use crate::carrying::carry_made;
+use cu_cp_records::control_actions::Scope;
 use cu_cp_records::control_records::ControlRecord;
-use cu_cp_records::control_says::At;
 use cu_cp_records::status_copies::copy_statuses;
 use cu_cp_rows::control_rows::xn_released;
 use cu_cp_rows::control_targets::{Offered, offer, offer_context, status, xn_cancelled};
@@ -33,10 +33,10 @@ pub(crate) fn at_of<'a, C>(
     alloc: Global,
     codec: &'a C,
     ue: UeId,
-) -> At<'a, C>
+) -> Scope<'a, C>
     ensures { result ≡ at_of record.now ue }
 {
-    At {
+    Scope {
         alloc,
         codec,
         gnb: record.gnb(),

@@ -1,15 +1,15 @@
 //! A row is carried out, if it could be made.
 
 ghost use Rattle.std.specs.Prelude.{List, ℕ};
-ghost use Rattle.unit_defs.specs.CpRecords as cp;
+ghost use Rattle.unit_defs.specs.CuCpRecords as cp;
 ghost use Rattle.unit_defs.specs.CuCp.{by_row};
 ghost use Rattle.unit_defs.specs.octet_defs.Codec.{octet_way};
-ghost use Rattle.cu_cp_records.specs.control_says.Rows.{RowGives};
+ghost use Rattle.cu_cp_records.specs.control_actions.Rows.{RowGives};
 ghost use Rattle.unit_messages.specs.steps.Steps.{step_after, IsStep};
 
 use crate::steps::carry_out;
+use cu_cp_records::control_actions::Row;
 use cu_cp_records::control_records::ControlRecord;
-use cu_cp_records::control_says::Row;
 use gnb_types::names::UeId;
 use gnb_types::outputs::Outputs;
 use std::alloc::Global;

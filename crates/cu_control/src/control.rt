@@ -1,9 +1,9 @@
 //! The unit.
 
 ghost use Rattle.std.specs.Prelude.{◌≡◌, None, IfOk};
-ghost use Rattle.unit_defs.specs.CpRecords.{new_cu_cp};
-ghost use Rattle.unit_defs.specs.Static.{cp_set_up};
-ghost use Rattle.unit_defs.specs.Accessors.{state_of, taken_epoch, place_of, is_set_up, cp_rests};
+ghost use Rattle.unit_defs.specs.CuCpRecords.{new_cu_cp};
+ghost use Rattle.unit_defs.specs.Static.{cu_cp_set_up};
+ghost use Rattle.unit_defs.specs.Accessors.{state_of, taken_epoch, place_of, is_set_up, cu_cp_rests};
 ghost use Rattle.unit_defs.specs.octet_defs.Units.{cu_cp_steps};
 ghost use Rattle.unit_messages.specs.steps.Steps.{step_after, IsStep};
 ghost use Rattle.cu_control.specs.Units.{StepsTo, PlacesTo};
@@ -89,7 +89,7 @@ impl CuControl {
 
     /// All units of the gNB count as set up. It takes no memory.
     pub fn mark_set_up(&mut self)
-        ensures { self.new ≡ record self.old { kept = cp_set_up self.old.kept } }
+        ensures { self.new ≡ record self.old { kept = cu_cp_set_up self.old.kept } }
     {
         self.record.mark_set_up();
     }
@@ -126,7 +126,7 @@ impl CuControl {
 
     /// Whether no request of a terminal is open or waits.
     pub fn rests(&self, ue: UeId) -> bool
-        ensures { result ≡ cp_rests self.now.kept ue }
+        ensures { result ≡ cu_cp_rests self.now.kept ue }
     {
         self.record.rests(ue)
     }

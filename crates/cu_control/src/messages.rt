@@ -4,16 +4,16 @@ ghost use Rattle.std.specs.Prelude.{◌≡◌};
 ghost use Rattle.gnb_types.specs.declared.inputs.Input.{Input};
 ghost use Rattle.unit_defs.specs.Messages.{shares_interface};
 ghost use Rattle.unit_defs.specs.Transactions.{kind_of, on_request, on_reply};
-ghost use Rattle.unit_defs.specs.CpRecords.{with_transactions};
-ghost use Rattle.unit_defs.specs.CuCp.{asked, reply_came, transferred, control_by, control_came};
+ghost use Rattle.unit_defs.specs.CuCpRecords.{with_transactions};
+ghost use Rattle.unit_defs.specs.CuCp.{asked, reply_received, transferred, control_by, control_received};
 ghost use Rattle.unit_defs.specs.octet_defs.Codec.{octet_way};
 ghost use Rattle.unit_defs.specs.octet_defs.Units.{cu_cp_steps};
 ghost use Rattle.unit_messages.specs.Messages.{message_as};
 ghost use Rattle.unit_messages.specs.steps.Steps.{step_after, IsStep};
 
 use crate::asked::asked;
-use crate::replies::reply_came;
-use crate::tokens::token_came;
+use crate::replies::reply_received;
+use crate::tokens::token_received;
 use cu_cp_records::control_records::ControlRecord;
 use cu_cp_rows::control_rows::is_same_gnb;
 use gnb_types::keys::Channel;
@@ -41,7 +41,7 @@ fn shares_interface(gnb: Gnb, from: NodeId) -> bool
 }
 
 /// Octets of a control message: those of a node that shares no interface, and those that are no message, are dropped.
-#[tactic(auto, unfolding(unit_defs::specs::octet_defs::Units::cu_cp_steps, unit_defs::specs::octet_defs::Reading::read_at_cu_cp, unit_defs::specs::CuCp::cu_cp_acts, unit_defs::specs::CuCp::control_came))]
+#[tactic(auto, unfolding(unit_defs::specs::octet_defs::Units::cu_cp_steps, unit_defs::specs::octet_defs::Reading::read_at_cu_cp, unit_defs::specs::CuCp::cu_cp_acts, unit_defs::specs::CuCp::control_received))]
 pub(crate) fn octets_came<C: MessageCodec>(
     record: &mut ControlRecord,
     alloc: Global,
@@ -133,14 +133,14 @@ fn on_reply<C: MessageCodec>(
     ensures { IsStep
         (step_after outputs.old (on_reply (octet_way C.codec) record.old record.old.transactions
         channel instance
-        (reply_came (octet_way C.codec) (record { 0 = channel.ue }) channel instance
+        (reply_received (octet_way C.codec) (record { 0 = channel.ue }) channel instance
         (message_as message.now) record.old)))
         outputs.new record.new result }
 {
     if !record.requests.is_awaited(&channel, instance) {
         return put(outputs, Output::Drop(DropReason::Stale));
     }
-    reply_came(record, alloc, codec, channel, instance, message, outputs)
+    reply_received(record, alloc, codec, channel, instance, message, outputs)
 }
 
 /// A message that is neither: a token of a terminal, by way of a DU.
@@ -159,7 +159,7 @@ fn transferred<C: MessageCodec>(
 {
     match message {
         Message::F1(F1::UlRrcMessageTransfer { ue, container }) => {
-            token_came(record, alloc, codec, *ue, from, container, outputs)
+            token_received(record, alloc, codec, *ue, from, container, outputs)
         }
         Message::F1(
             F1::F1SetupRequest { .. }

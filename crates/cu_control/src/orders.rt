@@ -1,8 +1,8 @@
 //! Orders of the script.
 
 ghost use Rattle.std.specs.Prelude.{◌≡◌};
-ghost use Rattle.unit_defs.specs.CpRecords.{terminal_of};
-ghost use Rattle.unit_defs.specs.CpRows.{attach, handover, cancel, release};
+ghost use Rattle.unit_defs.specs.CuCpRecords.{terminal_of};
+ghost use Rattle.unit_defs.specs.CuCpRows.{attach, handover, cancel, release};
 ghost use Rattle.unit_defs.specs.CuCp.{at_of, by_row, ordered};
 ghost use Rattle.unit_defs.specs.octet_defs.Codec.{octet_way};
 ghost use Rattle.unit_messages.specs.steps.Steps.{step_after, IsStep};

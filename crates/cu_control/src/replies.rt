@@ -2,17 +2,17 @@
 
 ghost use Rattle.std.specs.Prelude.{◌≡◌, ℕ, List, Some};
 ghost use Rattle.unit_defs.specs.Ways as ways;
-ghost use Rattle.unit_defs.specs.CuCp.{answers_none, answers_with, is_setup_failure, after_failed_setup, closed_at, answered_by, reply_came};
+ghost use Rattle.unit_defs.specs.CuCp.{answers_none, answers_with, is_setup_failure, after_failed_setup, closed_at, answered_by, reply_received};
 ghost use Rattle.unit_defs.specs.octet_defs.Codec.{octet_way};
 ghost use Rattle.unit_messages.specs.Messages.{message_as};
 ghost use Rattle.unit_messages.specs.steps.Steps.{step_after, IsStep};
-ghost use Rattle.cu_cp_records.specs.control_says.Rows.{row_as};
+ghost use Rattle.cu_cp_records.specs.control_actions.Rows.{row_as};
 
 use crate::asked::at_of;
 use crate::steps::{carry_out, put_next};
 use cu_cp_answers::control_answers::{Answered, answer};
+use cu_cp_records::control_actions::Row;
 use cu_cp_records::control_records::ControlRecord;
-use cu_cp_records::control_says::Row;
 use gnb_types::keys::Channel;
 use gnb_types::names::UeId;
 use gnb_types::outputs::{Output, Outputs};
@@ -111,8 +111,8 @@ fn awaited<C: MessageCodec>(
 }
 
 /// An awaited answer closes its request; then its row is made, if the attempt awaits it, and what waits longest is put.
-#[tactic(auto, unfolding(unit_defs::specs::CuCp::reply_came))]
-pub(crate) fn reply_came<C: MessageCodec>(
+#[tactic(auto, unfolding(unit_defs::specs::CuCp::reply_received))]
+pub(crate) fn reply_received<C: MessageCodec>(
     record: &mut ControlRecord,
     alloc: Global,
     codec: &C,
@@ -122,7 +122,7 @@ pub(crate) fn reply_came<C: MessageCodec>(
     outputs: &mut Outputs,
 ) -> Result<(), StepError>
     ensures { IsStep
-        (step_after outputs.old (reply_came (octet_way C.codec) (record { 0 = channel.ue }) channel
+        (step_after outputs.old (reply_received (octet_way C.codec) (record { 0 = channel.ue }) channel
         instance (message_as message.now) record.old))
         outputs.new record.new result }
 {

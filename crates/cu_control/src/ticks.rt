@@ -1,19 +1,19 @@
 //! A tick: open requests again, or what expires; then the commands.
 
 ghost use Rattle.std.specs.Prelude.{◌≡◌, [], map};
-ghost use Rattle.unit_defs.specs.CpRecords.{terminal_of, stays};
+ghost use Rattle.unit_defs.specs.CuCpRecords.{terminal_of, stays};
 ghost use Rattle.unit_defs.specs.CuCp.{at_of, by_row, expired_on, command_by, command_on, command_each, due_one, due_each, ues_of, tick};
 ghost use Rattle.unit_defs.specs.octet_defs.Codec.{octet_way};
-ghost use Rattle.cu_cp_records.specs.control_says.Rows.{RowGives};
+ghost use Rattle.cu_cp_records.specs.control_actions.Rows.{RowGives};
 ghost use Rattle.unit_messages.specs.steps.Steps.{step_after, IsStep};
 ghost use Rattle.cu_control.specs.inside.Dues.{due_in};
 
 use crate::asked::at_of;
 use crate::carrying::carry_made;
+use cu_cp_records::control_actions::actions::Actions;
+use cu_cp_records::control_actions::{Row, Scope};
 use cu_cp_records::control_contexts::{Context, Terminal};
 use cu_cp_records::control_records::ControlRecord;
-use cu_cp_records::control_says::says::Says;
-use cu_cp_records::control_says::{At, Row};
 use cu_cp_rows::control_rows::{command, handover_expires};
 use gnb_types::items::Items;
 use gnb_types::names::UeId;
@@ -27,15 +27,15 @@ use unit_messages::steps::StepError;
 use unit_requests::put;
 
 /// A row that says nothing, and keeps all.
-fn keeps_all<C>(at: &At<'_, C>, terminal: &Terminal) -> Result<Row, StepError>
+fn keeps_all<C>(at: &Scope<'_, C>, terminal: &Terminal) -> Result<Row, StepError>
     ensures { RowGives (stays terminal.now []) result }
 {
-    let says: Says = Items::new(at.alloc);
-    let row = Row::stays(at.alloc, terminal, says)?;
+    let actions: Actions = Items::new(at.alloc);
+    let row = Row::stays(at.alloc, terminal, actions)?;
     Ok(row)
 }
 
-fn expired_on<C: MessageCodec>(at: &At<'_, C>, terminal: &Terminal) -> Result<Row, StepError>
+fn expired_on<C: MessageCodec>(at: &Scope<'_, C>, terminal: &Terminal) -> Result<Row, StepError>
     ensures { RowGives
         (expired_on (octet_way C.codec) at.now terminal.now terminal.now.context) result }
 {
@@ -112,7 +112,7 @@ fn due_each<C: MessageCodec>(
 }
 
 fn command_by<C: MessageCodec>(
-    at: &At<'_, C>,
+    at: &Scope<'_, C>,
     terminal: &Terminal,
     context: &Context,
 ) -> Result<Row, StepError>
@@ -136,7 +136,7 @@ fn command_by<C: MessageCodec>(
 }
 
 fn command_of<C: MessageCodec>(
-    at: &At<'_, C>,
+    at: &Scope<'_, C>,
     terminal: &Terminal,
     context: &Context,
 ) -> Result<Row, StepError>
@@ -150,7 +150,7 @@ fn command_of<C: MessageCodec>(
     command(at, terminal, context, attempt.copy(at.alloc)?)
 }
 
-fn command_on<C: MessageCodec>(at: &At<'_, C>, terminal: &Terminal) -> Result<Row, StepError>
+fn command_on<C: MessageCodec>(at: &Scope<'_, C>, terminal: &Terminal) -> Result<Row, StepError>
     ensures { RowGives
         (command_on (octet_way C.codec) at.now terminal.now terminal.now.context) result }
 {

@@ -1,2 +1,2 @@
-pub mod control_says
+pub mod control_actions
 pub mod control_requests

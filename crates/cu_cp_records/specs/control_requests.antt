@@ -1,1 +1,1 @@
-pub use Rattle.cu_cp_records.specs.control_says as control_says
+pub use Rattle.cu_cp_records.specs.control_actions as control_says

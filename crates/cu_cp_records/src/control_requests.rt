@@ -5,6 +5,6 @@ mod modifying;
 mod releasing;
 mod setting_up;
 
-pub use modifying::{say_freeze, say_resume, say_status, say_switch, say_uplinks};
-pub use releasing::{du_release, source_release, transport_confirm, up_release, xn_cancel};
+pub use modifying::{freeze_action, resume_action, status_action, switch_action, uplinks_action};
+pub use releasing::{cu_up_release, du_release, source_release, transport_confirm, xn_cancel};
 pub use setting_up::{bearer_setup, du_modify, du_setup, path_switch};

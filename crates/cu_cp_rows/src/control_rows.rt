@@ -2,12 +2,12 @@
 //! is named as its row in `unit_defs`, and gives what that row is.
 
 mod attaching;
-mod leaving;
+mod handover_source;
 mod moving;
 mod releasing;
 
 pub use attaching::{attach, attach_fails, attach_has_tunnels, attach_is_placed};
-pub use leaving::{
+pub use handover_source::{
     cancel, command, handover, handover_expires, handover_is_acknowledged, handover_is_declined,
     handover_is_frozen, handover_is_not_frozen, is_same_gnb,
 };

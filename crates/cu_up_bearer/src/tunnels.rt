@@ -5,6 +5,6 @@ pub mod at;
 pub mod frames;
 pub mod hop;
 
-pub use at::{At, Flags};
-pub use frames::{Downlink, Frames};
+pub use at::{Flags, Scope};
+pub use frames::{DownlinkTunnel, Frames};
 pub use hop::{Hop, ShownCount};

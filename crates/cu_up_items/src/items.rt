@@ -6,4 +6,4 @@ pub mod holding;
 pub mod items;
 pub mod taking;
 
-pub use items::{Kind, UpItem};
+pub use items::{CuUpItem, Kind};

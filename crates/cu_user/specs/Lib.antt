@@ -1,2 +1,2 @@
 pub mod Users
-pub mod up_rows
+pub mod cu_up_rows

@@ -2,8 +2,8 @@
 //! could not be made it is of no use, and says so at each further call.
 #![tactic(auto)]
 
+pub mod cu_up_rows;
 pub mod node;
-pub mod up_rows;
 
-pub use crate::up_rows::PlaceError;
+pub use crate::cu_up_rows::PlaceError;
 pub use node::CuUser;

@@ -6,8 +6,8 @@ ghost use Rattle.gnb_types.specs.Orders.{ue_cmp};
 ghost use Rattle.tables.specs.Tables.{find};
 ghost use Rattle.unit_defs.specs.codec_defs.Reading.{ReadsItems};
 ghost use Rattle.unit_defs.specs.codec_range_defs.Ranges.{ReadsInRange};
-ghost use Rattle.unit_defs.specs.Accessors.{up_has_context, is_unconfirmed, up_rests};
-ghost use Rattle.unit_defs.specs.Static.{up_set_up};
+ghost use Rattle.unit_defs.specs.Accessors.{cu_up_has_context, is_unconfirmed, cu_up_rests};
+ghost use Rattle.unit_defs.specs.Static.{cu_up_set_up};
 ghost use Rattle.unit_defs.specs.octet_defs.Codec.{Codec};
 ghost use Rattle.unit_defs.specs.octet_defs.Reading.{up_link};
 ghost use Rattle.unit_defs.specs.octet_defs.Units.{cu_up_steps};
@@ -16,7 +16,7 @@ ghost use Rattle.cu_up_contexts.specs.declared.contexts.placing.PlaceError.TheVa
 ghost use Rattle.cu_up_contexts.specs.contexts.Placing.{IsPlaced};
 ghost use Rattle.cu_user.specs.Users.{new_user, outputs_in, failure_in, placing_failure_in};
 
-use crate::up_rows::{PlaceError, UpRecord};
+use crate::cu_up_rows::{CuUpRecord, PlaceError};
 use gnb_types::inputs::Input;
 use gnb_types::names::{BearerId, Gnb, UeId};
 use gnb_types::outputs::Outputs;
@@ -29,7 +29,7 @@ use unit_messages::steps::StepError;
 /// A CU-UP. Contracts see its record of the table of rows, and why it is of no use, if a step could not be made.
 #[derive(Drop)]
 pub struct CuUser {
-    record: UpRecord,
+    record: CuUpRecord,
     failure: Option<StepError>,
 }
 
@@ -47,7 +47,7 @@ impl CuUser {
         ensures { result ≡ new_user gnb number }
     {
         CuUser {
-            record: UpRecord::new(alloc, gnb, number),
+            record: CuUpRecord::new(alloc, gnb, number),
             failure: None,
         }
     }
@@ -112,7 +112,7 @@ impl CuUser {
 
     /// It counts as set up.
     pub fn mark_set_up(&mut self)
-        ensures { self.new ≡ record self.old { up = up_set_up self.old.up } }
+        ensures { self.new ≡ record self.old { up = cu_up_set_up self.old.up } }
     {
         self.record.mark_set_up();
     }
@@ -126,7 +126,7 @@ impl CuUser {
 
     /// Whether it has a context of this terminal.
     pub fn has_context(&self, ue: UeId) -> bool
-        ensures { result ≡ up_has_context self.now.up ue }
+        ensures { result ≡ cu_up_has_context self.now.up ue }
     {
         self.record.has_context(ue)
     }
@@ -139,7 +139,7 @@ impl CuUser {
 
     /// Whether nothing of this bearer is unconfirmed or waits, and no End Marker is awaited for it.
     pub fn rests(&self, ue: UeId, bearer: BearerId) -> bool
-        ensures { result ≡ up_rests self.now.up ue bearer }
+        ensures { result ≡ cu_up_rests self.now.up ue bearer }
     {
         self.record.rests(ue, bearer)
     }

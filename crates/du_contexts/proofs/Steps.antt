@@ -10,7 +10,7 @@ use Rattle.tables.specs.Tables.{find, put}
 use Rattle.pdcp.specs.Pdus.{Content}
 use Rattle.link_defs.specs.Decoding.{CarriesPdu}
 use Rattle.unit_defs.specs.Ways.{frame_item}
-use Rattle.unit_defs.specs.Du.{DuBearer, DuContext, DuTunnel, told, gap_after, carried, taken_of, taken_in, frame_came}
+use Rattle.unit_defs.specs.Du.{DuBearer, DuContext, DuTunnel, told, gap_after, carried, taken_of, taken_in, frame_received}
 use Rattle.unit_defs.specs.octet_defs.Codec.{Codec, octet_way}
 use Rattle.unit_defs.specs.octet_defs.Units.{OctetAnswer}
 use Rattle.unit_defs.specs.octet_defs.Writing.{outputs_of}
@@ -45,7 +45,7 @@ module _ (codec : Codec) (r : OctetDu) (ue : UeId) (bearer : BearerId) (before m
       → IsStep (step_after mid (carried (octet_way codec) ue bearer c gap pdu
       (with_tables r (record { next_teid = n; tunnels = ts; contexts = put ue_cmp cs ue (record c { bearers = put bearer_cmp c.bearers bearer after }) }))))
       outputs (with_tables r (record { next_teid = n; tunnels = ts; contexts = put ue_cmp cs ue (record c { bearers = put bearer_cmp c.bearers bearer after }) })) result
-      → IsStep (step_after before (frame_came (octet_way codec) ue bearer c b (frame_item polls restart number pdu)
+      → IsStep (step_after before (frame_received (octet_way codec) ue bearer c b (frame_item polls restart number pdu)
       (with_tables r (record { next_teid = n; tunnels = ts; contexts = cs }))))
       outputs (with_tables r (record { next_teid = n; tunnels = ts; contexts = put ue_cmp cs ue (record c { bearers = put bearer_cmp c.bearers bearer after }) })) result
   at_bearer n ts cs c b after polls restart number pdu gap after_is gap_is told_is carries =
@@ -54,7 +54,7 @@ module _ (codec : Codec) (r : OctetDu) (ue : UeId) (bearer : BearerId) (before m
       let goes : Bool → OctetDu → OctetAnswer OctetDu = λ g s. carried (octet_way codec) ue bearer c g pdu s in
       let now : Bool = gap_after (octet_way codec) b number restart pdu in
       let is : after ≡ record b { awaited = number + 1; gap = now } = after_is ∙ ap (λ (g : Bool). record b { awaited = number + 1; gap = g }) gap_is in
-      let steps : step_after before (frame_came (octet_way codec) ue bearer c b (frame_item polls restart number pdu)
+      let steps : step_after before (frame_received (octet_way codec) ue bearer c b (frame_item polls restart number pdu)
       (with_tables r (record { next_teid = n; tunnels = ts; contexts = cs }))) ≡ step_after mid (goes gap (kept after)) =
       step_with before (told (octet_way codec) ue bearer b polls number) (goes now (kept (record b { awaited = number + 1; gap = now })))
       ∙ ap (λ (os : List Output). step_after os (goes now (kept (record b { awaited = number + 1; gap = now })))) (sym told_is)
@@ -79,7 +79,7 @@ module _ (codec : Codec) (r : OctetDu) (ue : UeId) (bearer : BearerId) (before m
       let kept : OctetDu = with_tables r (record { next_teid = n; tunnels = ts; contexts = put ue_cmp cs ue (record c { bearers = put bearer_cmp c.bearers bearer after }) }) in
       let whole : OctetDu = with_tables r (record { next_teid = n; tunnels = ts; contexts = cs }) in
       let row : taken_of (octet_way codec) ue bearer (frame_item polls restart number pdu) whole (find ue_cmp cs ue)
-      ≡ frame_came (octet_way codec) ue bearer c b (frame_item polls restart number pdu) whole =
+      ≡ frame_received (octet_way codec) ue bearer c b (frame_item polls restart number pdu) whole =
       ap (λ (o : Option DuContext). taken_of (octet_way codec) ue bearer (frame_item polls restart number pdu) whole o) found
       ∙ ap (λ (o : Option DuBearer). taken_in (octet_way codec) ue bearer c (frame_item polls restart number pdu) whole o) has in
       subst (λ (s : DuTables). IsStep (step_after before (taken_of (octet_way codec) ue bearer (frame_item polls restart number pdu) (with_tables r s) (find ue_cmp s.contexts ue))) outputs kept result)

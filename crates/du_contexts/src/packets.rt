@@ -118,7 +118,7 @@ impl DuBearer {
     }
 
     /// What is missing before a frame of this number is told to the CU-UP, and a poll is answered.
-    fn tell(
+    fn report(
         &self,
         alloc: Global,
         key: RadioKey,
@@ -177,7 +177,7 @@ impl DuContexts {
             outputs.new (with_tables r self.new) result }
     {
         match self.read_frame(teid, octets) {
-            Ok((key, frame)) => self.frame_came(alloc, key, &frame, outputs),
+            Ok((key, frame)) => self.frame_received(alloc, key, &frame, outputs),
             Err(reason) => drop_input(outputs, reason),
         }
     }
@@ -265,7 +265,7 @@ impl DuContexts {
     }
 
     /// A frame of a bearer's downlink tunnel.
-    pub fn frame_came(
+    pub fn frame_received(
         &mut self,
         alloc: Global,
         key: RadioKey,
@@ -285,7 +285,7 @@ impl DuContexts {
         let Some(found) = context.bearers.get_mut(&key.bearer) else {
             return drop_input(outputs, DropReason::NoContext);
         };
-        found.tell(alloc, key, frame, outputs)?;
+        found.report(alloc, key, frame, outputs)?;
         let gap = found.gap_after(frame);
         found.took(frame.number, gap);
         carry(alloc, key, epoch, gap, frame.pdu, outputs)

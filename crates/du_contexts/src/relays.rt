@@ -54,7 +54,7 @@ impl DuContexts {
         outputs: &mut Outputs,
     ) -> Result<(), StepError>
         ensures { (codec : Codec) (r : OctetDu) (token : Token) → r.gnb ≡ gnb
-            → message ≡ codec.spell (f1 (f1s.UlRrcMessageTransfer ue (codec.spell (rrc token))))
+            → message ≡ codec.encode (f1 (f1s.UlRrcMessageTransfer ue (codec.encode (rrc token))))
             → IsStep (step_after outputs.old (relay_up (octet_way codec) ue token (with_tables r self.now)))
             outputs.new (with_tables r self.now) result }
     {

@@ -8,7 +8,7 @@ ghost use Rattle.aper_defs.specs.Spelling.{Spells, spelling_limit, whole_layout}
 ghost use Rattle.message_defs.specs.profile_defs.Profile.{e1_type};
 ghost use Rattle.message_defs.specs.E1.{written_e1};
 
-use crate::writing::written;
+use crate::writing::to_value;
 use aper::encoding::encode;
 use gnb_types::items::Memory;
 use gnb_types::octets::Octets;
@@ -23,7 +23,7 @@ pub fn to_bytes(alloc: Global, profile: &Profile, msg: &E1Message) -> Result<Oct
     requires short { octet_count (whole_layout e1_type (written_e1 msg.now)) ≤ spelling_limit }
     ensures { IfOk result (λ octets. Spells e1_type (written_e1 msg.now) octets) }
 {
-    let value = written(alloc, msg)?;
+    let value = to_value(alloc, msg)?;
     let id = e1_pdu(profile);
     let module = profile.module();
     let octets = encode(alloc, module, id, &value);

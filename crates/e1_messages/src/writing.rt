@@ -26,7 +26,7 @@ use message_values::places::{INITIATING, Place, SUCCESSFUL, UNSUCCESSFUL, messag
 use std::alloc::Global;
 
 /// The value of a message.
-pub fn written(alloc: Global, msg: &E1Message) -> Result<Value, Memory>
+pub fn to_value(alloc: Global, msg: &E1Message) -> Result<Value, Memory>
     ensures { IfOk result (λ v. view v ≡ written_e1 msg.now) }
 {
     match msg {

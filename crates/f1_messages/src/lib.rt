@@ -2,6 +2,6 @@
 #![tactic(auto)]
 
 mod codes;
-pub mod hearing;
 pub mod octets;
+pub mod reading;
 pub mod writing;

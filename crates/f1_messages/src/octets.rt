@@ -8,7 +8,7 @@ ghost use Rattle.aper_defs.specs.Spelling.{Spells, spelling_limit, whole_layout}
 ghost use Rattle.message_defs.specs.profile_defs.Profile.{f1_type};
 ghost use Rattle.message_defs.specs.F1.{written_f1};
 
-use crate::writing::written;
+use crate::writing::to_value;
 use aper::encoding::encode;
 use gnb_types::items::Memory;
 use gnb_types::octets::Octets;
@@ -23,7 +23,7 @@ pub fn to_bytes(alloc: Global, profile: &Profile, msg: &F1Message) -> Result<Oct
     requires short { octet_count (whole_layout f1_type (written_f1 msg.now)) ≤ spelling_limit }
     ensures { IfOk result (λ octets. Spells f1_type (written_f1 msg.now) octets) }
 {
-    let value = written(alloc, msg)?;
+    let value = to_value(alloc, msg)?;
     let id = f1_pdu(profile);
     let module = profile.module();
     let octets = encode(alloc, module, id, &value);

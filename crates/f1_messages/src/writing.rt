@@ -25,7 +25,7 @@ use message_values::places::{INITIATING, Place, SUCCESSFUL, message_of};
 use std::alloc::Global;
 
 /// The value of a message.
-pub fn written(alloc: Global, msg: &F1Message) -> Result<Value, Memory>
+pub fn to_value(alloc: Global, msg: &F1Message) -> Result<Value, Memory>
     ensures { IfOk result (λ v. view v ≡ written_f1 msg.now) }
 {
     match msg {

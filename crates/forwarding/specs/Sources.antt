@@ -5,7 +5,7 @@ use Rattle.gnb_types.specs.declared.names.Dir.TheVariants.{Dl, Ul}
 use Rattle.gnb_types.specs.declared.names.NodeId.{NodeId}
 use Rattle.gnb_types.specs.declared.names.SnBits.{SnBits}
 use Rattle.link_defs.specs.Layouts.{end_marker}
-use Rattle.unit_defs.specs.UpRecords.{SourceHop}
+use Rattle.unit_defs.specs.CuUpRecords.{SourceHop}
 use Rattle.forwarding.specs.declared.error.HopError.{HopError}
 use Rattle.forwarding.specs.declared.error.HopError.TheVariants.{EndSeen}
 

@@ -5,8 +5,8 @@ use Rattle.gnb_types.specs.declared.names.Dir.TheVariants.{Dl, Ul}
 use Rattle.gnb_types.specs.declared.names.SnBits.{SnBits}
 use Rattle.gnb_types.specs.declared.reasons.HeldReason.{HeldReason}
 use Rattle.pdcp_defs.specs.Counts.{count_below}
-use Rattle.unit_defs.specs.UpRecords.{UpFlags, UpBearer, TunnelKind, n3, f1u_uplink, forwarding_down, forwarding_up}
-use Rattle.unit_defs.specs.UpBearers.{made}
+use Rattle.unit_defs.specs.CuUpRecords.{CuUpFlags, CuUpBearer, TunnelKind, n3, f1u_uplink, forwarding_down, forwarding_up}
+use Rattle.unit_defs.specs.CuUpBearers.{made}
 use Rattle.forwarding.specs.declared.target.TunnelKind.{TunnelKind as Kind}
 use Rattle.forwarding.specs.declared.target.TunnelKind.TheVariants as kinds
 use Rattle.forwarding.specs.declared.error.HopError.{HopError}
@@ -30,10 +30,10 @@ target sn = target_end sn None false false false
 
 -- ---- a bearer of the procedure tables with this hop, and the flags of its context
 
-abbrev pub flags_of : TargetEnd → UpFlags
+abbrev pub flags_of : TargetEnd → CuUpFlags
 flags_of t = record { target = true; may_serve = is_some t.dl_next; arrived = t.arrived; frozen = false; released = false }
 
-abbrev pub bearer_of : TargetEnd → UpBearer
+abbrev pub bearer_of : TargetEnd → CuUpBearer
 bearer_of t = record (made true 1) { dl_next = unwrap_or t.dl_next 0; down_ended = t.down_ended; up_ended = t.up_ended }
 
 abbrev pub kind_of : Kind → TunnelKind

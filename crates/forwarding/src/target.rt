@@ -3,8 +3,8 @@
 ghost use Rattle.std.specs.Prelude.{◌≡◌, OnOk, OnErr, Some, true};
 ghost use Rattle.pdcp.specs.Numbers.{space};
 ghost use Rattle.pdcp_defs.specs.Counts.{count_below};
-ghost use Rattle.unit_defs.specs.UpItems.{held_as_target, first_held};
-ghost use Rattle.unit_defs.specs.UpBearers.{hop_is_done};
+ghost use Rattle.unit_defs.specs.CuUpItems.{held_as_target, first_held};
+ghost use Rattle.unit_defs.specs.CuUpBearers.{hop_is_done};
 ghost use Rattle.forwarding.specs.Targets.{target, has_ended, ended, end_of, flags_of, bearer_of, kind_of, passes, count_after};
 
 use crate::error::HopError;

@@ -3,7 +3,7 @@ use Rattle.std.specs.Prelude.{◌≡◌, ◌≢◌, ◌==◌, ℕ, ◌+◌, Bool
 use Rattle.gnb_types.specs.declared.names.UeId.{UeId}
 use Rattle.gnb_types.specs.declared.plans.Plan.{Plan}
 use Rattle.unit_defs.specs.declared.AttemptKind.{AttemptKind}
-use Rattle.unit_defs.specs.CpRecords.{is_instance}
+use Rattle.unit_defs.specs.CuCpRecords.{is_instance}
 use Rattle.handover.specs.declared.names.MessageName.{MessageName}
 use Rattle.handover.specs.declared.attempt.Awaited.{Awaited}
 use Rattle.handover.specs.declared.attempt.Attempt.{Attempt}

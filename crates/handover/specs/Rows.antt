@@ -11,7 +11,7 @@ use Rattle.message_types.specs.declared.rrc.Token.TheVariants as tokens
 use Rattle.unit_defs.specs.declared.AttemptKind.{AttemptKind}
 use Rattle.unit_defs.specs.declared.AttemptKind.TheVariants as kinds
 use Rattle.unit_defs.specs.Messages.{is_same_gnb}
-use Rattle.unit_defs.specs.CpRows.{is_between_dus, is_between_gnbs}
+use Rattle.unit_defs.specs.CuCpRows.{is_between_dus, is_between_gnbs}
 use Rattle.handover.specs.declared.names.MessageName.{MessageName}
 use Rattle.handover.specs.declared.names.MessageName.TheVariants.{UeContextSetupRequest, UeContextModificationRequest, UeContextReleaseCommand, DlRrcMessageTransfer, BearerContextSetupRequest, BearerContextModificationRequest, BearerContextReleaseCommand, HandoverRequest, HandoverRequestAcknowledge, HandoverPreparationFailure, SnStatusTransfer, HandoverCancel, UeContextRelease, TransportConfirm, PathSwitchRequest}
 use Rattle.handover.specs.declared.names.ModeName.{ModeName}

@@ -15,7 +15,7 @@ use Rattle.law_codecs.proofs.InRange.{read_within, within_only, within_stays}
 -- a codec that reads no message
 abbrev pub silent : Codec
 silent = record {
-  spell = λ message. [];
+  encode = λ message. [];
   read = λ from to octets. Err Unexpected;
   read_token = λ octets. None;
   read_item = λ link sn octets. None;
@@ -25,7 +25,7 @@ silent = record {
 -- it reads and spells messages as the given one, as far as they are in range
 abbrev pub lawful : Codec → Codec
 lawful given = record {
-  spell = given.spell;
+  encode = given.encode;
   read = λ from to octets. read_within (given.read from to octets);
   read_token = given.read_token;
   read_item = item_on;

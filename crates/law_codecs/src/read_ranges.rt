@@ -6,7 +6,7 @@ ghost use Rattle.message_types.specs.declared.e1.E1Message.{E1Message};
 ghost use Rattle.aper_defs.specs.Values.{Value};
 ghost use Rattle.aper_defs.specs.Membership.{Has};
 ghost use Rattle.message_defs.specs.profile_defs.Profile.{e1_type};
-ghost use Rattle.message_defs.specs.E1.{heard_e1};
+ghost use Rattle.message_defs.specs.E1.{e1_from_value};
 ghost use Rattle.unit_defs.specs.octet_defs.Codec.{Codec};
 ghost use Rattle.unit_defs.specs.codec_defs.Reading.{ReadsItems, ReadsPdus};
 ghost use Rattle.unit_defs.specs.codec_range_defs.Ranges.{IsE1InRange, ReadsInRange};
@@ -17,7 +17,7 @@ ghost use Rattle.law_codecs.specs.read_ranges.SameMessages.{HasMessagesOf};
 /// A message that is heard in a value of E1AP-PDU, and so one that octets say, has 1 to 8 bearers, a quota of 4 to 4,096 packets, and at
 /// most 4,096 bits in each SN status.
 pub fn e1_messages_are_in_range()
-    ensures heard { (v : Value) (message : E1Message) → Has [] e1_type v → heard_e1 v ≡ Ok message
+    ensures from_value { (v : Value) (message : E1Message) → Has [] e1_type v → e1_from_value v ≡ Ok message
         → IsE1InRange message }
     ensures said { (octets : List ℕ) (message : E1Message) → SaysInOctets octets message → IsE1InRange message }
 {}

@@ -1,4 +1,4 @@
-pub mod Hears
+pub mod Receives
 pub mod Moves
 pub mod Runs
 pub mod Lost

@@ -1,6 +1,6 @@
 pub mod chain
 pub mod path
 pub mod lossy_chain
-pub mod heard_packets
+pub mod received_packets
 pub mod waiting_frames
 pub mod sent_frames

@@ -4,7 +4,7 @@
 ghost use Rattle.std.specs.Prelude.{◌≡◌, ℕ, List, [], ◌∷◌};
 ghost use Rattle.gnb_types.specs.declared.names.SnBits.{SnBits};
 ghost use Rattle.gnb_types.specs.declared.names.SnBits.TheVariants.{Len12};
-ghost use Rattle.unit_defs.specs.UpRecords.{Downlink};
+ghost use Rattle.unit_defs.specs.CuUpRecords.{DownlinkTunnel};
 ghost use Rattle.unit_defs.specs.Du.{DuBearer};
 ghost use Rattle.law_downlink_order.specs.chain.Relay.{a, b, c};
 ghost use Rattle.law_downlink_order.specs.chain.Words as chain_words;
@@ -16,14 +16,14 @@ ghost use Rattle.law_downlink_order.specs.lossy_chain.Lossy.{lossy};
 /// What is delivered is a prefix of what was offered, each packet once, with COUNTs 0, 1, 2 and so on, whatever frames are lost, and
 /// whatever handovers there are.
 pub fn delivers_a_prefix()
-    ensures in_order { (sn : SnBits) (quota first teid : ℕ) (downlink : Downlink) (du : DuBearer)
+    ensures in_order { (sn : SnBits) (quota first teid : ℕ) (downlink : DownlinkTunnel) (du : DuBearer)
         (steps : List Step) → AreKept sn quota (offers_in steps) (start first teid downlink du) steps
         → chain_words.DeliversInOrder (offers_in steps) (run (start first teid downlink du) steps).chain }
 {}
 
 /// The terminal stores no packet, and finds none for which it has no room; and the chain and the way have one receiver.
 pub fn takes_each_packet_at_once()
-    ensures takes { (sn : SnBits) (quota first teid : ℕ) (downlink : Downlink) (du : DuBearer)
+    ensures takes { (sn : SnBits) (quota first teid : ℕ) (downlink : DownlinkTunnel) (du : DuBearer)
         (steps : List Step) → AreKept sn quota (offers_in steps) (start first teid downlink du) steps
         → let s = run (start first teid downlink du) steps in
         way_words.TakesAtOnce s.way × (s.way.terminal ≡ s.chain.terminal) }

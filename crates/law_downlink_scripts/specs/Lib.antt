@@ -1,7 +1,7 @@
-pub mod steady_rows
+pub mod downlink_only_rows
 pub mod delivers
 pub mod run_delivers
 pub mod packet_scripts
-pub mod steady_runs
-pub mod steady_counts
-pub mod steady_lines
+pub mod downlink_only_runs
+pub mod downlink_only_counts
+pub mod downlink_only_lines

@@ -15,12 +15,12 @@ ghost use Rattle.run_defs.specs.Conditions.{ready_home};
 ghost use Rattle.run_defs.specs.Events.{carry_done, get_done};
 ghost use Rattle.run_defs.specs.Runs.{happens, plain_world, Reading};
 ghost use Rattle.run_defs.specs.States.{entity, has_bearer, radio_of, State};
-ghost use Rattle.run_defs.specs.Units.{ue_of, up_of};
+ghost use Rattle.run_defs.specs.Units.{ue_of, cu_up_of};
 ghost use Rattle.run_defs.specs.Written.{Written};
 ghost use Rattle.scenario_text.specs.declared.event.Event.TheVariants.{Air, Get};
 ghost use Rattle.std.specs.Prelude.{length, List, Some, true, ℕ, ◌∷◌, ◌≡◌, ◌≤◌};
 ghost use Rattle.tables.specs.Tables.{find};
-ghost use Rattle.transport_defs.specs.Links.{most_letters, nth};
+ghost use Rattle.transport_defs.specs.Links.{most_control_messages, nth};
 ghost use Rattle.transport_defs.specs.declared.Item.{Item};
 ghost use Rattle.unit_defs.specs.Ue.{UeNode};
 ghost use Rattle.unit_defs.specs.Ways.{Load, Message, packet_pdu, Pdu};
@@ -33,8 +33,8 @@ pub fn a_cu_up_delivers_what_it_awaits()
         (s : State (Message Token) Token (Written (Load Pdu)) (Written Pdu))
         (gnb : Gnb) (number teid : ℕ) (item : Item (Written (Load Pdu)))
         (rest : List (Item (Written (Load Pdu))))
-        (count : ℕ) (packet : List ℕ) → length s.bag.letters ≤ most_letters
-        → (awaited : IsAwaitedAt (up_of s.units gnb number) teid item.content.says count packet)
+        (count : ℕ) (packet : List ℕ) → length s.bag.control_messages ≤ most_control_messages
+        → (awaited : IsAwaitedAt (cu_up_of s.units gnb number) teid item.content.says count packet)
         → IsDeliveredBy (entity awaited.tunnel.ue awaited.tunnel.bearer Ul) count packet
         (get_done (plain_world reading) (record { node = CuUp gnb number; teid = teid }) item rest
         s) }
@@ -42,9 +42,9 @@ pub fn a_cu_up_delivers_what_it_awaits()
         (s : State (Message Token) Token (Written (Load Pdu)) (Written Pdu))
         (gnb : Gnb) (number teid : ℕ) (item : Item (Written (Load Pdu)))
         (rest : List (Item (Written (Load Pdu))))
-        (count : ℕ) (packet : List ℕ) → length s.bag.letters ≤ most_letters
+        (count : ℕ) (packet : List ℕ) → length s.bag.control_messages ≤ most_control_messages
         → find tunnel_cmp s.tunnels (record { node = CuUp gnb number; teid = teid }) ≡ Some (item ∷ rest)
-        → (awaited : IsAwaitedAt (up_of s.units gnb number) teid item.content.says count packet)
+        → (awaited : IsAwaitedAt (cu_up_of s.units gnb number) teid item.content.says count packet)
         → DeliversIn (entity awaited.tunnel.ue awaited.tunnel.bearer Ul) count packet
         (happens (plain_world reading) (Get (CuUp gnb number) teid) s) }
 {}
@@ -54,7 +54,7 @@ pub fn a_terminal_delivers_what_it_awaits()
     ensures taken { (reading : Reading)
         (s : State (Message Token) Token (Written (Load Pdu)) (Written Pdu))
         (ue : UeId) (bearer : BearerId) (home : NodeId) (item : Item (Written Pdu)) (u : UeNode)
-        (count : ℕ) (packet : List ℕ) → length s.bag.letters ≤ most_letters
+        (count : ℕ) (packet : List ℕ) → length s.bag.control_messages ≤ most_control_messages
         → item.key ≡ entity ue bearer Dl → item.content.says ≡ packet_pdu count packet
         → ue_of s.units ue ≡ Some u → IsAwaitedBy u bearer count
         → IsDeliveredBy (entity u.plan.ue bearer Dl) count packet
@@ -62,7 +62,7 @@ pub fn a_terminal_delivers_what_it_awaits()
     ensures aired { (reading : Reading)
         (s : State (Message Token) Token (Written (Load Pdu)) (Written Pdu))
         (ue : UeId) (bearer : BearerId) (home : NodeId) (item : Item (Written Pdu)) (u : UeNode)
-        (count : ℕ) (packet : List ℕ) → length s.bag.letters ≤ most_letters
+        (count : ℕ) (packet : List ℕ) → length s.bag.control_messages ≤ most_control_messages
         → has_bearer s ue bearer ≡ true → ready_home s ue ≡ Some home
         → nth (radio_of s (entity ue bearer Dl)).items (radio_of s (entity ue bearer Dl)).carried
         ≡ Some item

@@ -15,7 +15,7 @@ ghost use Rattle.message_types.specs.declared.rrc.Token.{Token};
 ghost use Rattle.run_defs.specs.Conditions.{ready_home};
 ghost use Rattle.run_defs.specs.Runs.{happens, plain_world, Reading};
 ghost use Rattle.run_defs.specs.States.{entity, has_bearer, new_state, radio_of, State};
-ghost use Rattle.run_defs.specs.Units.{ue_of, up_of};
+ghost use Rattle.run_defs.specs.Units.{ue_of, cu_up_of};
 ghost use Rattle.run_defs.specs.Written.{Written};
 ghost use Rattle.scenario_text.specs.declared.event.Event.TheVariants.{Air, Get};
 ghost use Rattle.scenario_text.specs.declared.event.Event.{Event};
@@ -44,7 +44,7 @@ pub fn what_is_awaited_is_delivered()
         (rest : List (Item (Written (Load Pdu)))) (count : ℕ) (packet : List ℕ)
         → reached (plain_world reading) events new_state ≡ Some t
         → find tunnel_cmp t.tunnels (record { node = CuUp gnb number; teid = teid }) ≡ Some (item ∷ rest)
-        → (next : IsNextAt (up_of t.units gnb number) teid item.content.says count packet)
+        → (next : IsNextAt (cu_up_of t.units gnb number) teid item.content.says count packet)
         → DeliversIn (entity next.tunnel.ue next.tunnel.bearer Ul) count packet
         (happens (plain_world reading) (Get (CuUp gnb number) teid) t) }
     ensures down { (reading : Reading) (events : List Event)

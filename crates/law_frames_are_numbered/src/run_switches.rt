@@ -16,5 +16,5 @@ ghost use Rattle.unit_defs.specs.Ways.{Load, Message, Pdu};
 /// (such a request may be put, lost and got many times); and the answers of the DU that name it are to one request, for one bearer.
 pub fn no_two_switches_name_a_downlink()
     ensures { (reading : Reading) (events : List Event) (t : DownlinkTeid) (s : State (Message Token) Token (Written (Load Pdu)) (Written Pdu))
-        → reached (plain_world reading) events new_state ≡ Some s → NamedOnce t s.bag.letters }
+        → reached (plain_world reading) events new_state ≡ Some s → NamedOnce t s.bag.control_messages }
 {}

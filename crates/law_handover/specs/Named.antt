@@ -11,8 +11,8 @@ use Rattle.message_types.specs.declared.xn.XnMessage.TheVariants as xns
 use Rattle.message_types.specs.declared.xn.CoreMessage.{CoreMessage}
 use Rattle.message_types.specs.declared.xn.CoreMessage.TheVariants as cores
 use Rattle.unit_defs.specs.Ways.{Message, f1, e1, xn, core, rrc}
-use Rattle.unit_defs.specs.CpRecords.{CpContext, Attempt as CpAttempt, Say, asks, cancels, replies, replies_late, sends, fails, ignores, refuses, forgets}
-use Rattle.unit_defs.specs.CpRows.{CpAt, other_cp, own_up, own_du}
+use Rattle.unit_defs.specs.CuCpRecords.{CuCpContext, Attempt as CpAttempt, Action, asks, cancels, replies, replies_late, sends, fails, ignores, refuses, forgets}
+use Rattle.unit_defs.specs.CuCpRows.{CuCpScope, other_cu_cp, own_up, own_du}
 use Rattle.handover.specs.declared.names.MessageName.{MessageName}
 use Rattle.handover.specs.declared.names.MessageName.TheVariants as names
 use Rattle.handover.specs.declared.names.ModeName.{ModeName}
@@ -92,7 +92,7 @@ named to awaited (xn message) = record { to = to; message = xn_name message; mod
 named to awaited (core message) = record { to = to; message = core_name message; mode = None; awaited = awaited } ∷ []
 named to awaited (rrc token) = []
 
-abbrev pub named_in : {C : Type 0} → Say C → List Named
+abbrev pub named_in : {C : Type 0} → Action C → List Named
 named_in (asks to message deadline awaited) = named to awaited message
 named_in (cancels to message) = named to false message
 named_in (replies to message) = named to false message
@@ -103,17 +103,17 @@ named_in (ignores reason) = []
 named_in (refuses reason) = []
 named_in forgets = []
 
-abbrev pub all_named : {C : Type 0} → List (Say C) → List Named
+abbrev pub all_named : {C : Type 0} → List (Action C) → List Named
 all_named [] = []
 all_named (say ∷ says) = named_in say ++ all_named says
 
 -- ---- the same of the messages of a call: roles are nodes of the context and of the attempt before the step
 
-abbrev pub node_of : CpAt → CpContext → CpAttempt → Role → NodeId
+abbrev pub node_of : CuCpScope → CuCpContext → CpAttempt → Role → NodeId
 node_of at c a roles.ServingDu = own_du at c.du
 node_of at c a roles.TargetDu = own_du at a.du
 node_of at c a roles.CuUp = own_up at c.up
-node_of at c a roles.OtherCu = other_cp at
+node_of at c a roles.OtherCu = other_cu_cp at
 node_of at c a roles.Core = nodes.Core
 
 -- the requests whose answers an attempt awaits have numbers of their own, all others 0
@@ -141,7 +141,7 @@ awaits (Some h) roles.CuUp message = is_awaited_by h.awaits.cu_up message
 awaits (Some h) roles.OtherCu message = is_awaited_by h.awaits.other_cu message
 awaits (Some h) roles.Core message = is_awaited_by h.awaits.core message
 
-abbrev pub all_sent : CpAt → CpContext → CpAttempt → Option Attempt → List Send → List Named
+abbrev pub all_sent : CuCpScope → CuCpContext → CpAttempt → Option Attempt → List Send → List Named
 all_sent at c a next [] = []
 all_sent at c a next (send ∷ rest) =
     record { to = node_of at c a send.to; message = send.message; mode = send.mode; awaited = awaits next send.to send.message }

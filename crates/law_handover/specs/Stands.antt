@@ -2,8 +2,8 @@
 use Rattle.std.specs.Prelude.{◌≡◌, is_some, List, Option, Some, None}
 use Rattle.unit_defs.specs.declared.StateName.{StateName}
 use Rattle.unit_defs.specs.declared.StateName.TheVariants.{Serving}
-use Rattle.unit_defs.specs.CpRecords.{Attempt as CpAttempt, CpContext, Say, Row, row, row_spent}
-use Rattle.unit_defs.specs.CpRows.{CpAt}
+use Rattle.unit_defs.specs.CuCpRecords.{Attempt as CpAttempt, CuCpContext, Action, Row, row, row_spent}
+use Rattle.unit_defs.specs.CuCpRows.{CuCpScope}
 use Rattle.handover.specs.declared.names.Send.{Send}
 use Rattle.handover.specs.declared.attempt.Attempt.{Attempt}
 use Rattle.handover.specs.Rows.{Onward, Ending}
@@ -21,20 +21,20 @@ IsOf h None = ⊥
 IsOf h (Some a) = IsAttempt h a
 
 -- a context in this state, with this attempt
-abbrev pub IsIn : StateName → Attempt → Option CpContext → Type 0
+abbrev pub IsIn : StateName → Attempt → Option CuCpContext → Type 0
 IsIn state h None = ⊥
 IsIn state h (Some c) = (c.state ≡ state) × IsOf h c.attempt
 
 -- where a step begins: the unit and the terminal, its context, and its attempt
 pub record Place : Type 0 where
-  pub at : CpAt
-  pub context : CpContext
+  pub at : CuCpScope
+  pub context : CuCpContext
   pub attempt : CpAttempt
 
-abbrev pub place : CpAt → CpContext → CpAttempt → Place
+abbrev pub place : CuCpScope → CuCpContext → CpAttempt → Place
 place at c a = record { at = at; context = c; attempt = a }
 
-abbrev pub Says : {C : Type 0} → Place → Option Attempt → List Send → List (Say C) → Type 0
+abbrev pub Says : {C : Type 0} → Place → Option Attempt → List Send → List (Action C) → Type 0
 Says p next sends says = all_named says ≡ all_sent p.at p.context p.attempt next sends
 
 -- the row says what the call says, in order, and leaves a context in this state with the next attempt
@@ -43,7 +43,7 @@ Goes p state onward (row says after) = Says p (Some onward.0) onward.1 says × I
 Goes p state onward (row_spent counter) = ⊥
 
 -- the attempt is over: the terminal is served, or has no context any more
-abbrev pub IsServed : Option CpContext → Type 0
+abbrev pub IsServed : Option CuCpContext → Type 0
 IsServed None = ⊥
 IsServed (Some c) = (c.state ≡ Serving) × (c.attempt ≡ None)
 

@@ -7,9 +7,9 @@ ghost use Rattle.gnb_types.specs.declared.names.NodeId.{NodeId};
 ghost use Rattle.gnb_types.specs.declared.names.UeId.{UeId};
 ghost use Rattle.gnb_types.specs.Orders.{tunnel_cmp};
 ghost use Rattle.law_handover_delivers.specs.down_reports.Reports.{ReportsDownAreTrue, PutsAreTrue, RunItem, RunPut};
-ghost use Rattle.proof_bearer_refinement.specs.radio_downs.Down.{down_key};
+ghost use Rattle.proof_bearer_refinement.specs.downlink_radio.Down.{down_key};
 ghost use Rattle.proof_run_steps.specs.radio_steps.Radios.{on_air};
-ghost use Rattle.proof_bearer_refinement.specs.radio_ties.Radio.{RunCause, RunState};
+ghost use Rattle.proof_bearer_refinement.specs.uplink_radio.Radio.{RunCause, RunState};
 ghost use Rattle.proof_run_steps.specs.steps.Causes.{count_of, first_of, node_of, Stands};
 ghost use Rattle.proof_run_steps.specs.tunnel_steps.Standing.{standing};
 ghost use Rattle.message_types.specs.declared.rrc.Token.{Token};
@@ -22,8 +22,8 @@ ghost use Rattle.scenario_text.specs.declared.event.Event.{Event};
 ghost use Rattle.std.specs.Prelude.{List, Option, Some, ◌∷◌, ◌≡◌, ◌≤◌, ℕ};
 ghost use Rattle.tables.specs.Tables.{put};
 ghost use Rattle.unit_defs.specs.Ways.{Message};
-ghost use Rattle.bearer_defs.specs.uplink_defs.Orders.{after, Order, run};
-ghost use Rattle.bearer_defs.specs.uplink_defs.Parts.{Part};
+ghost use Rattle.bearer_defs.specs.uplink_defs.Orders.{after, ModelStep, run};
+ghost use Rattle.bearer_defs.specs.uplink_defs.Models.{Model};
 
 /// Where each status report that stands on the tunnels of a bearer, in a frame, or on its terminal's radio down reports only what was
 /// carried up, it does so still where more was carried up, where tunnels and that radio stay as they are, and where the oldest item of a
@@ -62,8 +62,8 @@ pub fn a_step_keeps_reports_true()
         → ReportsDownAreTrue ue bearer reached t }
 {}
 
-/// No order of a bearer's part up, whatever it is, takes back what was carried up.
+/// No order of a bearer's model up, whatever it is, takes back what was carried up.
 pub fn what_was_carried_up_stays_so()
-    ensures order { (u : Part) (o : Order) → u.reached ≤ (after u o).reached }
-    ensures orders { (u : Part) (os : List Order) → u.reached ≤ (run u os).reached }
+    ensures order { (u : Model) (o : ModelStep) → u.reached ≤ (after u o).reached }
+    ensures orders { (u : Model) (os : List ModelStep) → u.reached ≤ (run u os).reached }
 {}

@@ -1,15 +1,15 @@
 //! Laws of what stands on the links of a run and reports to a CU-UP what a terminal received. Each function does nothing: its contract
 //! is the law.
 
-ghost use Rattle.bearer_defs.specs.chain_defs.Parts.{Part};
+ghost use Rattle.bearer_defs.specs.chain_defs.Models.{Model};
 ghost use Rattle.gnb_types.specs.declared.keys.TunnelEnd.{TunnelEnd};
 ghost use Rattle.gnb_types.specs.declared.names.BearerId.{BearerId};
 ghost use Rattle.gnb_types.specs.declared.names.NodeId.{NodeId};
 ghost use Rattle.gnb_types.specs.declared.names.UeId.{UeId};
 ghost use Rattle.gnb_types.specs.Orders.{tunnel_cmp};
-ghost use Rattle.proof_cu_up_orders.specs.kept.Down.{ItemOwes};
+ghost use Rattle.proof_cu_up_orders.specs.kept.Down.{ItemAssumes};
 ghost use Rattle.proof_run_steps.specs.radio_steps.Radios.{on_air};
-ghost use Rattle.proof_bearer_refinement.specs.radio_ties.Radio.{RunCause, RunState, up_key};
+ghost use Rattle.proof_bearer_refinement.specs.uplink_radio.Radio.{RunCause, RunState, up_key};
 ghost use Rattle.proof_run_steps.specs.steps.Causes.{count_of, first_of, node_of, Stands};
 ghost use Rattle.law_handover_delivers.specs.report_links.Reports.{ReportsAreTrue, PutsAreTrue, RunItem, RunPut, LoadIsTrue};
 ghost use Rattle.proof_run_steps.specs.tunnel_steps.Standing.{standing};
@@ -22,7 +22,7 @@ ghost use Rattle.run_defs.specs.Units.{Units};
 ghost use Rattle.scenario_text.specs.declared.event.Event.{Event};
 ghost use Rattle.std.specs.Prelude.{List, Option, Some, ◌∷◌, ◌≡◌, ◌≤◌, ℕ};
 ghost use Rattle.tables.specs.Tables.{put};
-ghost use Rattle.unit_defs.specs.UpRecords.{TunnelKind};
+ghost use Rattle.unit_defs.specs.CuUpRecords.{TunnelKind};
 ghost use Rattle.unit_defs.specs.Ways.{Load, Message, Pdu};
 
 /// Where all that stands on the tunnels and on the radio up of a bearer reports only what its terminal received, it does so still where more
@@ -60,8 +60,8 @@ pub fn a_step_keeps_reports_true()
         → ReportsAreTrue ue bearer deliv s → PutsAreTrue ue bearer deliv outputs → ReportsAreTrue ue bearer deliv t }
 {}
 
-/// That an item which a CU-UP takes reports only what was received is what is owed of it.
-pub fn a_true_report_is_what_is_owed()
-    ensures { (d : Part) (x : ℕ) (kind : TunnelKind) (load : Load Pdu) → LoadIsTrue d.terminal.deliv load
-        → ItemOwes d x kind (taken_of load) }
+/// That an item which a CU-UP takes reports only what was received is what is assumed of it.
+pub fn a_true_report_is_what_is_assumed()
+    ensures { (d : Model) (x : ℕ) (kind : TunnelKind) (load : Load Pdu) → LoadIsTrue d.terminal.deliv load
+        → ItemAssumes d x kind (taken_of load) }
 {}

@@ -6,7 +6,7 @@ use Rattle.proof_aper.proofs.answers.NumberFacts.{same}
 use Rattle.message_defs.specs.profile_defs.Elements.{Element}
 use Rattle.message_defs.specs.profile_defs.Tables.{Use}
 use Rattle.message_defs.specs.Places.{Field, content_of, put_element, written_elements, element_of}
-use Rattle.message_defs.specs.Heard.{is_used, first_rejected}
+use Rattle.message_defs.specs.FromValue.{is_used, first_rejected}
 
 or_left : (a b : Bool) → (a || b) ≡ false → a ≡ false
 or_left false b h = refl

@@ -11,14 +11,14 @@ ghost use Rattle.profile.specs.declared.version.Version.{Version};
 ghost use Rattle.profile.specs.Versions.{number_of};
 ghost use Rattle.message_defs.specs.profile_defs.Profile.{f1_type, e1_type, xn_type, core_type, token_type};
 ghost use Rattle.message_defs.specs.profile_defs.Messages.{f1_messages, e1_messages, xn_messages, core_messages};
-ghost use Rattle.message_defs.specs.Heard.{rejected_in};
-ghost use Rattle.message_defs.specs.F1.{F1Message, written_f1, heard_f1, SaysF1};
-ghost use Rattle.message_defs.specs.E1.{written_e1, heard_e1, SaysE1};
-ghost use Rattle.message_defs.specs.Xn.{written_xn, heard_xn, SaysXn};
-ghost use Rattle.message_defs.specs.Core.{written_core, heard_core, SaysCore};
-ghost use Rattle.message_defs.specs.Tokens.{written_token, heard_token, SaysToken};
+ghost use Rattle.message_defs.specs.FromValue.{rejected_in};
+ghost use Rattle.message_defs.specs.F1.{F1Message, written_f1, f1_from_value, SaysF1};
+ghost use Rattle.message_defs.specs.E1.{written_e1, e1_from_value, SaysE1};
+ghost use Rattle.message_defs.specs.Xn.{written_xn, xn_from_value, SaysXn};
+ghost use Rattle.message_defs.specs.Core.{written_core, core_from_value, SaysCore};
+ghost use Rattle.message_defs.specs.Tokens.{written_token, token_from_value, SaysToken};
 ghost use Rattle.message_octets.specs.declared.error.MsgError.{MsgError};
-ghost use Rattle.message_octets.specs.Answers.{IsHeardIn};
+ghost use Rattle.message_octets.specs.Answers.{IsFromValueIn};
 ghost use Rattle.message_octets.specs.Reading.{read_as};
 ghost use Rattle.law_messages.specs.message_versions.Versions.{without_origin};
 ghost use Rattle.law_messages.specs.law_message_octets.Answered.{IsUnlessMemory, IsRefusal, SpellsNone, AreSaidIn, IsMessageWhereSaid, answer_of, IsFoundIn};
@@ -26,44 +26,44 @@ ghost use Rattle.law_messages.specs.law_message_octets.Answered.{IsUnlessMemory,
 /// To octets that spell a value the answer is what is heard in it, unless memory runs out.
 pub fn what_octets_say_is_answered()
     ensures f1 { (v : Value) (octets : List ℕ) (result : Result F1Message MsgError) → Spells f1_type v octets
-        → IsHeardIn f1_type heard_f1 octets result → IsUnlessMemory result (answer_of (heard_f1 v)) }
+        → IsFromValueIn f1_type f1_from_value octets result → IsUnlessMemory result (answer_of (f1_from_value v)) }
     ensures e1 { (v : Value) (octets : List ℕ) (result : Result E1Message MsgError) → Spells e1_type v octets
-        → IsHeardIn e1_type heard_e1 octets result → IsUnlessMemory result (answer_of (heard_e1 v)) }
+        → IsFromValueIn e1_type e1_from_value octets result → IsUnlessMemory result (answer_of (e1_from_value v)) }
     ensures xn { (w : Version) (v : Value) (octets : List ℕ) (result : Result XnMessage MsgError) → Spells (xn_type (number_of w)) v octets
-        → IsHeardIn (xn_type (number_of w)) heard_xn octets result → IsUnlessMemory result (answer_of (heard_xn v)) }
+        → IsFromValueIn (xn_type (number_of w)) xn_from_value octets result → IsUnlessMemory result (answer_of (xn_from_value v)) }
     ensures core { (v : Value) (octets : List ℕ) (result : Result CoreMessage MsgError) → Spells core_type v octets
-        → IsHeardIn core_type heard_core octets result → IsUnlessMemory result (answer_of (heard_core v)) }
+        → IsFromValueIn core_type core_from_value octets result → IsUnlessMemory result (answer_of (core_from_value v)) }
     ensures token { (v : Value) (octets : List ℕ) (result : Result Token MsgError) → Spells token_type v octets
-        → IsHeardIn token_type heard_token octets result → IsUnlessMemory result (answer_of (heard_token v)) }
+        → IsFromValueIn token_type token_from_value octets result → IsUnlessMemory result (answer_of (token_from_value v)) }
 {}
 
 /// Octets that spell no value are refused, unless memory runs out.
 pub fn what_spells_nothing_is_refused()
     ensures f1 { (octets : List ℕ) (result : Result F1Message MsgError) → SpellsNone f1_type octets
-        → IsHeardIn f1_type heard_f1 octets result → IsRefusal result }
+        → IsFromValueIn f1_type f1_from_value octets result → IsRefusal result }
     ensures e1 { (octets : List ℕ) (result : Result E1Message MsgError) → SpellsNone e1_type octets
-        → IsHeardIn e1_type heard_e1 octets result → IsRefusal result }
+        → IsFromValueIn e1_type e1_from_value octets result → IsRefusal result }
     ensures xn { (version : ℕ) (octets : List ℕ) (result : Result XnMessage MsgError) → SpellsNone (xn_type version) octets
-        → IsHeardIn (xn_type version) heard_xn octets result → IsRefusal result }
+        → IsFromValueIn (xn_type version) xn_from_value octets result → IsRefusal result }
     ensures core { (octets : List ℕ) (result : Result CoreMessage MsgError) → SpellsNone core_type octets
-        → IsHeardIn core_type heard_core octets result → IsRefusal result }
+        → IsFromValueIn core_type core_from_value octets result → IsRefusal result }
     ensures token { (octets : List ℕ) (result : Result Token MsgError) → SpellsNone token_type octets
-        → IsHeardIn token_type heard_token octets result → IsRefusal result }
+        → IsFromValueIn token_type token_from_value octets result → IsRefusal result }
 {}
 
 /// What is written for a message is read as the message, unless memory runs out.
 pub fn written_messages_are_read()
     ensures f1 { (msg : F1Message) (octets : List ℕ) (result : Result F1Message MsgError) → Spells f1_type (written_f1 msg) octets
-        → IsHeardIn f1_type heard_f1 octets result → IsUnlessMemory result (Ok msg) }
+        → IsFromValueIn f1_type f1_from_value octets result → IsUnlessMemory result (Ok msg) }
     ensures e1 { (msg : E1Message) (octets : List ℕ) (result : Result E1Message MsgError) → Spells e1_type (written_e1 msg) octets
-        → IsHeardIn e1_type heard_e1 octets result → IsUnlessMemory result (Ok msg) }
+        → IsFromValueIn e1_type e1_from_value octets result → IsUnlessMemory result (Ok msg) }
     ensures xn { (w : Version) (msg : XnMessage) (octets : List ℕ) (result : Result XnMessage MsgError)
         → Spells (xn_type (number_of w)) (written_xn msg) octets
-        → IsHeardIn (xn_type (number_of w)) heard_xn octets result → IsUnlessMemory result (Ok msg) }
+        → IsFromValueIn (xn_type (number_of w)) xn_from_value octets result → IsUnlessMemory result (Ok msg) }
     ensures core { (msg : CoreMessage) (octets : List ℕ) (result : Result CoreMessage MsgError) → Spells core_type (written_core msg) octets
-        → IsHeardIn core_type heard_core octets result → IsUnlessMemory result (Ok msg) }
+        → IsFromValueIn core_type core_from_value octets result → IsUnlessMemory result (Ok msg) }
     ensures token { (token : Token) (octets : List ℕ) (result : Result Token MsgError) → Spells token_type (written_token token) octets
-        → IsHeardIn token_type heard_token octets result → IsUnlessMemory result (Ok token) }
+        → IsFromValueIn token_type token_from_value octets result → IsUnlessMemory result (Ok token) }
 {}
 
 /// The octets of a message are no other's.
@@ -82,37 +82,37 @@ pub fn octets_are_of_one_message()
 /// written under version 1 is read as the message; unless memory runs out.
 pub fn other_versions_are_read()
     ensures older { (msg : XnMessage) (octets : List ℕ) (result : Result XnMessage MsgError) → Spells (xn_type 2) (written_xn msg) octets
-        → IsHeardIn (xn_type 1) heard_xn octets result → IsUnlessMemory result (Ok (without_origin msg)) }
+        → IsFromValueIn (xn_type 1) xn_from_value octets result → IsUnlessMemory result (Ok (without_origin msg)) }
     ensures newer { (msg : XnMessage) (octets : List ℕ) (result : Result XnMessage MsgError) → Spells (xn_type 1) (written_xn msg) octets
-        → IsHeardIn (xn_type 2) heard_xn octets result → IsUnlessMemory result (Ok msg) }
+        → IsFromValueIn (xn_type 2) xn_from_value octets result → IsUnlessMemory result (Ok msg) }
 {}
 
 /// A message is answered exactly where octets spell a value that says it and of which no information element is to be rejected, unless
 /// memory runs out.
 pub fn said_messages_are_answered()
-    ensures f1 { (msg : F1Message) (octets : List ℕ) → IsMessageWhereSaid F1Message (IsHeardIn f1_type heard_f1 octets) msg
+    ensures f1 { (msg : F1Message) (octets : List ℕ) → IsMessageWhereSaid F1Message (IsFromValueIn f1_type f1_from_value octets) msg
         (AreSaidIn f1_type SaysF1 (rejected_in f1_messages) msg octets) }
-    ensures e1 { (msg : E1Message) (octets : List ℕ) → IsMessageWhereSaid E1Message (IsHeardIn e1_type heard_e1 octets) msg
+    ensures e1 { (msg : E1Message) (octets : List ℕ) → IsMessageWhereSaid E1Message (IsFromValueIn e1_type e1_from_value octets) msg
         (AreSaidIn e1_type SaysE1 (rejected_in e1_messages) msg octets) }
     ensures xn { (w : Version) (msg : XnMessage) (octets : List ℕ)
-        → IsMessageWhereSaid XnMessage (IsHeardIn (xn_type (number_of w)) heard_xn octets) msg
+        → IsMessageWhereSaid XnMessage (IsFromValueIn (xn_type (number_of w)) xn_from_value octets) msg
         (AreSaidIn (xn_type (number_of w)) (SaysXn (number_of w)) (rejected_in (xn_messages (number_of w))) msg octets) }
-    ensures core { (msg : CoreMessage) (octets : List ℕ) → IsMessageWhereSaid CoreMessage (IsHeardIn core_type heard_core octets) msg
+    ensures core { (msg : CoreMessage) (octets : List ℕ) → IsMessageWhereSaid CoreMessage (IsFromValueIn core_type core_from_value octets) msg
         (AreSaidIn core_type SaysCore (rejected_in core_messages) msg octets) }
-    ensures token { (token : Token) (octets : List ℕ) → IsMessageWhereSaid Token (IsHeardIn token_type heard_token octets) token
+    ensures token { (token : Token) (octets : List ℕ) → IsMessageWhereSaid Token (IsFromValueIn token_type token_from_value octets) token
         (AreSaidIn token_type SaysToken (λ v. None) token octets) }
 {}
 
 /// A message that a unit reads in octets is heard in the value that is found in them.
-pub fn read_messages_are_heard()
-    ensures f1 { (msg : F1Message) (octets : List ℕ) → read_as f1_type heard_f1 octets ≡ Ok msg
-        → IsFoundIn f1_type heard_f1 msg octets }
-    ensures e1 { (msg : E1Message) (octets : List ℕ) → read_as e1_type heard_e1 octets ≡ Ok msg
-        → IsFoundIn e1_type heard_e1 msg octets }
-    ensures xn { (w : Version) (msg : XnMessage) (octets : List ℕ) → read_as (xn_type (number_of w)) heard_xn octets ≡ Ok msg
-        → IsFoundIn (xn_type (number_of w)) heard_xn msg octets }
-    ensures core { (msg : CoreMessage) (octets : List ℕ) → read_as core_type heard_core octets ≡ Ok msg
-        → IsFoundIn core_type heard_core msg octets }
-    ensures token { (token : Token) (octets : List ℕ) → read_as token_type heard_token octets ≡ Ok token
-        → IsFoundIn token_type heard_token token octets }
+pub fn read_messages_are_from_value()
+    ensures f1 { (msg : F1Message) (octets : List ℕ) → read_as f1_type f1_from_value octets ≡ Ok msg
+        → IsFoundIn f1_type f1_from_value msg octets }
+    ensures e1 { (msg : E1Message) (octets : List ℕ) → read_as e1_type e1_from_value octets ≡ Ok msg
+        → IsFoundIn e1_type e1_from_value msg octets }
+    ensures xn { (w : Version) (msg : XnMessage) (octets : List ℕ) → read_as (xn_type (number_of w)) xn_from_value octets ≡ Ok msg
+        → IsFoundIn (xn_type (number_of w)) xn_from_value msg octets }
+    ensures core { (msg : CoreMessage) (octets : List ℕ) → read_as core_type core_from_value octets ≡ Ok msg
+        → IsFoundIn core_type core_from_value msg octets }
+    ensures token { (token : Token) (octets : List ℕ) → read_as token_type token_from_value octets ≡ Ok token
+        → IsFoundIn token_type token_from_value token octets }
 {}

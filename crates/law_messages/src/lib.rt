@@ -1,7 +1,7 @@
 //! Laws of messages and tokens as values. Each function does nothing: its contract is the law.
 #![tactic(auto)]
 
-pub mod heard_messages;
+pub mod from_value_messages;
 pub mod law_message_octets;
 pub mod message_ranges;
 pub mod message_refusals;
@@ -17,19 +17,19 @@ ghost use Rattle.message_types.specs.declared.rrc.Token.{Token};
 ghost use Rattle.aper_defs.specs.Values.{Value};
 ghost use Rattle.aper_defs.specs.Membership.{Has};
 ghost use Rattle.message_defs.specs.profile_defs.Profile.{f1_type, e1_type, xn_type, core_type, token_type};
-ghost use Rattle.message_defs.specs.F1.{F1Message, written_f1, heard_f1, SaysF1};
-ghost use Rattle.message_defs.specs.E1.{written_e1, heard_e1, SaysE1};
-ghost use Rattle.message_defs.specs.Xn.{written_xn, heard_xn, SaysXn};
-ghost use Rattle.message_defs.specs.Core.{written_core, heard_core, SaysCore};
-ghost use Rattle.message_defs.specs.Tokens.{written_token, heard_token, SaysToken};
+ghost use Rattle.message_defs.specs.F1.{F1Message, written_f1, f1_from_value, SaysF1};
+ghost use Rattle.message_defs.specs.E1.{written_e1, e1_from_value, SaysE1};
+ghost use Rattle.message_defs.specs.Xn.{written_xn, xn_from_value, SaysXn};
+ghost use Rattle.message_defs.specs.Core.{written_core, core_from_value, SaysCore};
+ghost use Rattle.message_defs.specs.Tokens.{written_token, token_from_value, SaysToken};
 
 /// What is written for a message is heard as that message.
-pub fn written_messages_are_heard()
-    ensures f1 { (msg : F1Message) → heard_f1 (written_f1 msg) ≡ Ok msg }
-    ensures e1 { (msg : E1Message) → heard_e1 (written_e1 msg) ≡ Ok msg }
-    ensures xn { (msg : XnMessage) → heard_xn (written_xn msg) ≡ Ok msg }
-    ensures core { (msg : CoreMessage) → heard_core (written_core msg) ≡ Ok msg }
-    ensures token { (token : Token) → heard_token (written_token token) ≡ Ok token }
+pub fn written_messages_are_from_value()
+    ensures f1 { (msg : F1Message) → f1_from_value (written_f1 msg) ≡ Ok msg }
+    ensures e1 { (msg : E1Message) → e1_from_value (written_e1 msg) ≡ Ok msg }
+    ensures xn { (msg : XnMessage) → xn_from_value (written_xn msg) ≡ Ok msg }
+    ensures core { (msg : CoreMessage) → core_from_value (written_core msg) ≡ Ok msg }
+    ensures token { (token : Token) → token_from_value (written_token token) ≡ Ok token }
 {}
 
 /// A value says one message at most.

@@ -2,9 +2,9 @@
 
 ghost use Rattle.std.specs.Prelude.{map, ◌≡◌, Ok, Err, None};
 ghost use Rattle.law_aper.specs.rows.Row.{told_bits, laid_bits, AreValues};
-ghost use Rattle.message_defs.specs.F1.{heard_f1};
-ghost use Rattle.message_defs.specs.Xn.{heard_xn};
-ghost use Rattle.message_defs.specs.Heard.{unknown_element};
+ghost use Rattle.message_defs.specs.F1.{f1_from_value};
+ghost use Rattle.message_defs.specs.Xn.{xn_from_value};
+ghost use Rattle.message_defs.specs.FromValue.{unknown_element};
 ghost use Rattle.law_messages.specs.message_rows.F1Rows.{least_f1_rows, greatest_f1_rows};
 ghost use Rattle.law_messages.specs.message_rows.E1Rows.{least_e1_rows, greatest_e1_rows};
 ghost use Rattle.law_messages.specs.message_rows.XnRows.{least_xn_rows, greatest_xn_rows};
@@ -36,9 +36,9 @@ pub fn worked_message_values()
 
 /// An information element that isn't known is passed over, unless it is to be rejected; and version 1 passes over the origin.
 pub fn worked_hearings()
-    ensures ignored { heard_f1 (with_unknown 1) ≡ Ok uplink }
-    ensures rejected { heard_f1 (with_unknown 0) ≡ Err (unknown_element 99) }
-    ensures older { heard_xn with_raw_origin ≡ Ok (request None) }
+    ensures ignored { f1_from_value (with_unknown 1) ≡ Ok uplink }
+    ensures rejected { f1_from_value (with_unknown 0) ≡ Err (unknown_element 99) }
+    ensures older { xn_from_value with_raw_origin ≡ Ok (request None) }
 {}
 
 /// The octets are the spelling of each message and token with its least fields, and with its greatest numbers and lists.

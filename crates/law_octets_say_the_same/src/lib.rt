@@ -9,7 +9,7 @@
 //! - `plain_units`: Plain units, as the runner has them, have the run of the tables.
 //! - `octet_facts`: Proof steps: what stands on links and what units keep is in range, and stays so.
 //! - `octet_ranges`: What stands on links and what units keep is in range in runs of packets down.
-//! - `octet_steady`: Runs of packets down are the same over octets.
+//! - `octet_downlink_only`: Runs of packets down are the same over octets.
 //! - `octet_local`: Units over octets act on what they got; units of any meaning need not.
 //! - `octet_downlink`: Plain units over octets deliver downlink packets in order.
 #![tactic(auto)]
@@ -17,11 +17,11 @@
 pub mod octet_answers;
 pub mod octet_asks;
 pub mod octet_downlink;
+pub mod octet_downlink_only;
 pub mod octet_facts;
 pub mod octet_local;
 pub mod octet_ranges;
 pub mod octet_rows;
 pub mod octet_runs;
-pub mod octet_steady;
 pub mod plain_units;
 pub mod units_follow;

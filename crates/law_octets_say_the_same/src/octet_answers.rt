@@ -18,14 +18,14 @@ ghost use Rattle.nr_user_plane.specs.Frames.{FitsFrame};
 ghost use Rattle.pdcp_defs.specs.Counts.{near_count, number_of};
 ghost use Rattle.run_defs.specs.Runs.{Reading};
 ghost use Rattle.run_defs.specs.States.{carried_for, confirmed_for, entity, item_for, sn_of};
-ghost use Rattle.run_defs.specs.Units.{du_of, ue_of, up_of};
+ghost use Rattle.run_defs.specs.Units.{du_of, ue_of, cu_up_of};
 ghost use Rattle.run_defs.specs.Written.{Written, written_item, written_pdu};
 ghost use Rattle.tables.specs.Tables.{find};
 ghost use Rattle.transport_defs.specs.declared.Item.{Item};
 ghost use Rattle.unit_defs.specs.CuUp.{context_of as up_context_of};
 ghost use Rattle.unit_defs.specs.Du.{context_of as du_context_of, DuBearer, DuContext, DuTunnel};
 ghost use Rattle.unit_defs.specs.Ue.{UeBearer, UeNode};
-ghost use Rattle.unit_defs.specs.UpRecords.{f1u_uplink, n3, UpBearer, UpContext, UpTunnel};
+ghost use Rattle.unit_defs.specs.CuUpRecords.{f1u_uplink, n3, CuUpBearer, CuUpContext, CuUpTunnel};
 ghost use Rattle.unit_defs.specs.Ways.{frame, fresh, Load, packet_pdu, Pdu, status};
 ghost use Rattle.unit_defs.specs.octet_defs.Codec.{Codec};
 ghost use Rattle.unit_defs.specs.octet_defs.Reading.{count_confirmed};
@@ -37,10 +37,10 @@ ghost use Rattle.unit_defs.specs.octet_defs.Writing.{on_option};
 /// a packet that the radio carried, at the COUNT that the terminal finds near RX_DELIV.
 pub fn units_read_what_items_say()
     ensures packets { (codec : Codec) (reading : Reading) (s : PlainState) (g : Gnb) (n : ℕ)
-        → ReadsItems codec → (teid : ℕ) (t : UpTunnel) (c : UpContext) (b : UpBearer)
+        → ReadsItems codec → (teid : ℕ) (t : CuUpTunnel) (c : CuUpContext) (b : CuUpBearer)
         (p : List ℕ) (item : Item (Written (Load Pdu))) → teid < 2 ^ 32 → IsSized p
-        → find nat_cmp (up_of s.units g n).tunnels teid ≡ Some t → t.kind ≡ n3
-        → up_context_of (up_of s.units g n) t.ue ≡ Some c
+        → find nat_cmp (cu_up_of s.units g n).tunnels teid ≡ Some t → t.kind ≡ n3
+        → up_context_of (cu_up_of s.units g n) t.ue ≡ Some c
         → find bearer_cmp c.bearers t.bearer ≡ Some b → c.sn ≡ sn_of s t.ue
         → item.content ≡ written_item (sn_of s t.ue) teid (fresh p)
         → ReadsAlike codec reading s (up_id g n) (item_for teid item) }
@@ -54,10 +54,10 @@ pub fn units_read_what_items_say()
         → item.content ≡ written_item (sn_of s t.ue) teid (frame false restart number (Some (packet_pdu count p)))
         → ReadsAlike codec reading s (du_id g n) (item_for teid item) }
     ensures statuses { (codec : Codec) (reading : Reading) (s : PlainState) (g : Gnb) (n : ℕ)
-        → ReadsItems codec → (teid : ℕ) (t : UpTunnel) (c : UpContext) (b : UpBearer)
+        → ReadsItems codec → (teid : ℕ) (t : CuUpTunnel) (c : CuUpContext) (b : CuUpBearer)
         (delivered : Option ℕ) (item : Item (Written (Load Pdu))) → teid < 2 ^ 32
-        → find nat_cmp (up_of s.units g n).tunnels teid ≡ Some t → t.kind ≡ f1u_uplink
-        → up_context_of (up_of s.units g n) t.ue ≡ Some c
+        → find nat_cmp (cu_up_of s.units g n).tunnels teid ≡ Some t → t.kind ≡ f1u_uplink
+        → up_context_of (cu_up_of s.units g n) t.ue ≡ Some c
         → find bearer_cmp c.bearers t.bearer ≡ Some b → c.sn ≡ sn_of s t.ue
         → count_confirmed c.sn b (on_option (number_of (sn_of s t.ue)) delivered) ≡ delivered
         → FitsFrame (Status desired_buffer_size [] (on_option (number_of (sn_of s t.ue)) delivered))

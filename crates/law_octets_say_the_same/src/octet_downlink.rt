@@ -5,10 +5,10 @@ ghost use Rattle.gnb_types.specs.declared.names.BearerId.{BearerId};
 ghost use Rattle.gnb_types.specs.declared.names.Dir.TheVariants.{Dl};
 ghost use Rattle.gnb_types.specs.declared.names.UeId.{UeId};
 ghost use Rattle.law_octets_say_the_same.specs.octet_downlink.Promise.{KeepsPromise};
-ghost use Rattle.law_octets_say_the_same.specs.octet_steady.Near.{StatusesAreNear};
+ghost use Rattle.law_octets_say_the_same.specs.octet_downlink_only.Near.{StatusesAreNear};
 ghost use Rattle.law_octets_say_the_same.specs.octet_facts.Ranges.{IsConfirmedDown, IsDown};
 ghost use Rattle.law_octets_say_the_same.specs.octet_runs.Printed.{printed};
-ghost use Rattle.law_downlink_scripts.specs.steady_runs.Scripts.{DeliversInOrder};
+ghost use Rattle.law_downlink_scripts.specs.downlink_only_runs.Scripts.{DeliversInOrder};
 ghost use Rattle.message_types.specs.declared.rrc.Token.{Token};
 ghost use Rattle.run_defs.specs.plain_defs.Plain.{IsPlain, KeepRange};
 ghost use Rattle.run_defs.specs.Local.{CountMeans};
@@ -27,12 +27,12 @@ use crate::plain_units::Units;
 /// A transcript over octets that prints what another one prints, in which control messages are said, delivers what this one delivers,
 /// in the same order, with the same COUNTs, and what was offered is the same.
 pub fn what_prints_the_same_delivers_the_same()
-    ensures order { (spell : Message Token → List ℕ) (said : Transcript (Message Token)) (told : Transcript (List ℕ))
-        → printed (λ octets. octets) told ≡ printed spell said
+    ensures order { (encode : Message Token → List ℕ) (said : Transcript (Message Token)) (told : Transcript (List ℕ))
+        → printed (λ octets. octets) told ≡ printed encode said
         → (ue : UeId) (bearer : BearerId) → DeliversInOrder (entity ue bearer Dl) said.events
         → DeliversInOrder (entity ue bearer Dl) told.events }
-    ensures counts { (spell : Message Token → List ℕ) (said : Transcript (Message Token)) (told : Transcript (List ℕ))
-        → printed (λ octets. octets) told ≡ printed spell said
+    ensures counts { (encode : Message Token → List ℕ) (said : Transcript (Message Token)) (told : Transcript (List ℕ))
+        → printed (λ octets. octets) told ≡ printed encode said
         → CountMeans said.events → CountMeans told.events }
 {}
 

@@ -2,12 +2,12 @@
 
 ghost use Rattle.unit_defs.specs.codec_defs.Reading.{ReadsItems, ReadsPdus};
 ghost use Rattle.gnb_types.specs.declared.names.NodeId.{NodeId};
-ghost use Rattle.law_units_act_locally.specs.cp_interfaces.Interfaces.{IsOf};
+ghost use Rattle.law_units_act_locally.specs.cu_cp_interfaces.Interfaces.{IsOf};
 ghost use Rattle.law_octets_say_the_same.specs.octet_facts.Ranges.{IsConfirmedDown, IsDown};
 ghost use Rattle.law_octets_say_the_same.specs.octet_local.Example.{from_nothing, starting};
 ghost use Rattle.law_octets_say_the_same.specs.octet_local.Spelt.{Spelt};
 ghost use Rattle.law_octets_say_the_same.specs.octet_runs.Printed.{printed};
-ghost use Rattle.law_octets_say_the_same.specs.octet_steady.Near.{StatusesAreNear};
+ghost use Rattle.law_octets_say_the_same.specs.octet_downlink_only.Near.{StatusesAreNear};
 ghost use Rattle.message_types.specs.declared.rrc.Token.{Token};
 ghost use Rattle.run_defs.specs.Local.{Local};
 ghost use Rattle.run_defs.specs.Runs.{Reading, Transcript};
@@ -22,11 +22,11 @@ ghost use Rattle.unit_defs.specs.octet_defs.Spelling.{spelled};
 /// A transcript over octets that prints what another one prints is as local as this: where what units put and deliver in this one
 /// stood in what they got, and control messages are as they should be, so it is in that one, with the octets that these spell.
 pub fn what_prints_the_same_is_as_local()
-    ensures { (spell : Message Token → List ℕ) (is_so : NodeId → NodeId → Message Token → Bool)
+    ensures { (encode : Message Token → List ℕ) (is_so : NodeId → NodeId → Message Token → Bool)
         (said : Transcript (Message Token)) (told : Transcript (List ℕ))
-        → printed (λ octets. octets) told ≡ printed spell said
+        → printed (λ octets. octets) told ≡ printed encode said
         → Local (λ from to message. is_so from to message ≡ true) said.events
-        → Local (Spelt spell (λ from to message. is_so from to message ≡ true)) told.events }
+        → Local (Spelt encode (λ from to message. is_so from to message ≡ true)) told.events }
 {}
 
 /// So `Local` holds, whole, of the run of the tables after decoding, for every lawful codec, where terminals are set up without

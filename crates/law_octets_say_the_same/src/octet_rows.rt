@@ -21,7 +21,7 @@ ghost use Rattle.tables.specs.Tables.{find};
 ghost use Rattle.unit_defs.specs.CuUp.{context_of as up_context_of, cu_up_acts};
 ghost use Rattle.unit_defs.specs.Du.{context_of as du_context_of, Du, DuBearer, DuContext, DuTunnel, du_acts};
 ghost use Rattle.unit_defs.specs.Ue.{UeBearer, UeNode, ue_acts};
-ghost use Rattle.unit_defs.specs.UpRecords.{CuUp, f1u_uplink, n3, UpBearer, UpContext, UpTunnel};
+ghost use Rattle.unit_defs.specs.CuUpRecords.{CuUp, f1u_uplink, n3, CuUpBearer, CuUpContext, CuUpTunnel};
 ghost use Rattle.unit_defs.specs.Ways.{confirm_input, frame, frame_item, fresh_item, Message, packet_input, packet_pdu, radio_input, status_item};
 ghost use Rattle.unit_defs.specs.octet_defs.Codec.{Codec};
 ghost use Rattle.unit_defs.specs.octet_defs.Reading.{count_confirmed};
@@ -33,15 +33,15 @@ ghost use Rattle.unit_defs.specs.octet_defs.Writing.{load_octets, on_option, pdu
 /// the one that the CU-UP finds from its number.
 pub fn a_cu_up_reads_what_is_said()
     ensures packets { (codec : Codec) → ReadsItems codec → (spelled : Message Token → List ℕ)
-        → (sn : Lengths) (r : CuUp (Message Token) Token) (teid : ℕ) (t : UpTunnel) (c : UpContext)
-        (b : UpBearer) (p : List ℕ) → teid < 2 ^ 32 → IsSized p → find nat_cmp r.tunnels teid ≡ Some t
+        → (sn : Lengths) (r : CuUp (Message Token) Token) (teid : ℕ) (t : CuUpTunnel) (c : CuUpContext)
+        (b : CuUpBearer) (p : List ℕ) → teid < 2 ^ 32 → IsSized p → find nat_cmp r.tunnels teid ≡ Some t
         → t.kind ≡ n3 → up_context_of r t.ue ≡ Some c → find bearer_cmp c.bearers t.bearer ≡ Some b
         → c.sn ≡ sn t.ue
         → cu_up_steps codec (up_again r) (ins.Packet teid (forwarded_fresh teid p))
         ≡ answer_again spelled sn up_again (cu_up_acts plain_way r (packet_input teid (fresh_item p))) }
     ensures statuses { (codec : Codec) → ReadsItems codec → (spelled : Message Token → List ℕ)
-        → (sn : Lengths) (r : CuUp (Message Token) Token) (teid : ℕ) (t : UpTunnel) (c : UpContext)
-        (b : UpBearer) (lost : List (ℕ × ℕ)) (delivered : Option ℕ) → teid < 2 ^ 32
+        → (sn : Lengths) (r : CuUp (Message Token) Token) (teid : ℕ) (t : CuUpTunnel) (c : CuUpContext)
+        (b : CuUpBearer) (lost : List (ℕ × ℕ)) (delivered : Option ℕ) → teid < 2 ^ 32
         → find nat_cmp r.tunnels teid ≡ Some t → t.kind ≡ f1u_uplink → up_context_of r t.ue ≡ Some c
         → find bearer_cmp c.bearers t.bearer ≡ Some b → c.sn ≡ sn t.ue
         → count_confirmed c.sn b (on_option (number_of (sn t.ue)) delivered) ≡ delivered

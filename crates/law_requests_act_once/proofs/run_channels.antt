@@ -2,4 +2,4 @@ pub mod Exact
 pub mod Nodes
 pub mod Runs
 pub mod Terminals
-pub mod Ties
+pub mod Reaches

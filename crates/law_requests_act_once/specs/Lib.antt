@@ -1,7 +1,7 @@
 pub mod channel
 pub mod channel_rows
-pub mod cp_deadlines
-pub mod cp_offers
+pub mod cu_cp_deadlines
+pub mod cu_cp_offers
 pub mod unit_setups
 pub mod taken_requests
 pub mod run_channels

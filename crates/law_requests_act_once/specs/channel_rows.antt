@@ -1,3 +1,3 @@
-pub mod Made
-pub mod Owed
+pub mod IsPlayed
+pub mod Assumed
 pub mod Rows

@@ -1,2 +1,2 @@
 pub mod Example
-pub mod Tied
+pub mod Reached

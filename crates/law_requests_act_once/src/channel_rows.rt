@@ -8,16 +8,16 @@ ghost use Rattle.unit_defs.specs.Ways.{Message, Input, Output, gives};
 ghost use Rattle.unit_defs.specs.Transactions.{Transactions};
 ghost use Rattle.unit_defs.specs.Core.{CoreRecord, core_acts};
 ghost use Rattle.unit_defs.specs.Du.{Du, du_acts};
-ghost use Rattle.unit_defs.specs.UpRecords.{CuUp};
+ghost use Rattle.unit_defs.specs.CuUpRecords.{CuUp};
 ghost use Rattle.unit_defs.specs.CuUp.{cu_up_acts};
-ghost use Rattle.unit_defs.specs.CpRecords.{CuCpRecord};
+ghost use Rattle.unit_defs.specs.CuCpRecords.{CuCpRecord};
 ghost use Rattle.unit_defs.specs.CuCp.{cu_cp_acts};
 ghost use Rattle.law_requests_act_once.specs.channel.Replies.{Talk};
 ghost use Rattle.law_requests_act_once.specs.channel.Example.{plain_talk};
 ghost use Rattle.law_requests_act_once.specs.channel.Exactly.{IfGives};
 ghost use Rattle.law_requests_act_once.specs.channel.Moves.{Net, new_net, sent_by, Order, after, MayAll};
-ghost use Rattle.law_requests_act_once.specs.channel_rows.Owed.{Owes, Cancels};
-ghost use Rattle.law_requests_act_once.specs.channel_rows.Made.{ReadsWell, WasSent, IsPutTo, NoneExpired, AreUndated, MadeWhole, GoesOn};
+ghost use Rattle.law_requests_act_once.specs.channel_rows.Assumed.{Assumes, Cancels};
+ghost use Rattle.law_requests_act_once.specs.channel_rows.IsPlayed.{ReadsWell, WasSent, IsPutTo, NoneExpired, AreUndated, IsPlayedWhole, GoesOn};
 
 /// What the core does with a message that was put to it is a list of orders that may be made: none; a request taken, and answered
 /// or not; or the kept reply put again. As of each node, no request of it expired without its cancel then, if none had before.
@@ -26,7 +26,7 @@ pub fn the_core_makes_moves<M, C, P>()
         → (r : CoreRecord M C)
         → net.nodes Core ≡ r.transactions
         → (from : NodeId) (m : Message C) → WasSent talk net from Core m
-        → MadeWhole talk net Core (λ s. s.transactions) (core_acts talk.way r from m) }
+        → IsPlayedWhole talk net Core (λ s. s.transactions) (core_acts talk.way r from m) }
 {}
 
 /// The same of a DU and every input, after any list of orders that were made when they might be, where none of its requests
@@ -37,7 +37,7 @@ pub fn a_du_makes_moves<M, C, P>()
         → (n : NodeId) → NoneExpired talk (after talk new_net orders) n
         → (r : Du M C) → (after talk new_net orders).nodes n ≡ r.transactions → AreUndated r.transactions
         → (input : Input C P) → IsPutTo talk (after talk new_net orders) n input
-        → MadeWhole talk (after talk new_net orders) n (λ s. s.transactions) (du_acts talk.way r input)
+        → IsPlayedWhole talk (after talk new_net orders) n (λ s. s.transactions) (du_acts talk.way r input)
         × IfGives (λ s. AreUndated s.transactions) (du_acts talk.way r input) }
 {}
 
@@ -48,7 +48,7 @@ pub fn a_cu_up_makes_moves<M, C, P>()
         → (n : NodeId) → NoneExpired talk (after talk new_net orders) n
         → (r : CuUp M C) → (after talk new_net orders).nodes n ≡ r.transactions → AreUndated r.transactions
         → (input : Input C P) → IsPutTo talk (after talk new_net orders) n input
-        → MadeWhole talk (after talk new_net orders) n (λ s. s.transactions) (cu_up_acts talk.way r input)
+        → IsPlayedWhole talk (after talk new_net orders) n (λ s. s.transactions) (cu_up_acts talk.way r input)
         × IfGives (λ s. AreUndated s.transactions) (cu_up_acts talk.way r input) }
 {}
 
@@ -59,9 +59,9 @@ pub fn a_cu_cp_makes_moves<M, C, P>()
         → MayAll talk new_net orders
         → (n : NodeId) → NoneExpired talk (after talk new_net orders) n
         → (r : CuCpRecord M C) → (after talk new_net orders).nodes n ≡ r.transactions
-        → Owes talk n (after talk new_net orders) r → Cancels r
+        → Assumes talk n (after talk new_net orders) r → Cancels r
         → (input : Input C P) → IsPutTo talk (after talk new_net orders) n input
-        → MadeWhole talk (after talk new_net orders) n (λ s. s.transactions) (cu_cp_acts talk.way r input) }
+        → IsPlayedWhole talk (after talk new_net orders) n (λ s. s.transactions) (cu_cp_acts talk.way r input) }
 {}
 
 /// After a step that is a list of orders all goes on: the orders before it and its own are a list of orders, each made when it
@@ -71,7 +71,7 @@ pub fn a_cu_cp_makes_moves<M, C, P>()
 pub fn a_step_goes_on<M, C, P, R>()
     ensures { (talk : Talk M C P) (orders : List (Order talk)) → MayAll talk new_net orders
         → (n : NodeId) (kept : R → Transactions M C) (outputs : List (Output M P)) (r : R)
-        → MadeWhole talk (after talk new_net orders) n kept (gives outputs r)
+        → IsPlayedWhole talk (after talk new_net orders) n kept (gives outputs r)
         → GoesOn talk orders n (kept r) (sent_by n outputs) }
 {}
 

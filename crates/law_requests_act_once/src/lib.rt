@@ -3,8 +3,8 @@
 //! - `channel`: Between any two nodes and for any terminal each request acts at most once, and each reply is to the request that it
 //!   answers.
 //! - `channel_rows`: Each step of the core, a DU, a CU-UP and a CU-CP makes orders of a channel, each of which may be made.
-//! - `cp_deadlines`: Only the request of a handover under preparation has a deadline, so that what expires can be cancelled.
-//! - `cp_offers`: The request of each offer stays the newest that the CU-CP took, unanswered.
+//! - `cu_cp_deadlines`: Only the request of a handover under preparation has a deadline, so that what expires can be cancelled.
+//! - `cu_cp_offers`: The request of each offer stays the newest that the CU-CP took, unanswered.
 //! - `unit_setups`: A DU and a CU-UP ask for the setup of their interface alone, and the core asks nothing.
 //! - `taken_requests`: A CU-UP never takes an old request as new.
 //! - `run_channels`: Each request acts at most once in every run, where CU-CPs fit what their rows ask.
@@ -13,8 +13,8 @@
 
 pub mod channel;
 pub mod channel_rows;
-pub mod cp_deadlines;
-pub mod cp_offers;
+pub mod cu_cp_deadlines;
+pub mod cu_cp_offers;
 pub mod run_channels;
 pub mod run_once;
 pub mod taken_requests;

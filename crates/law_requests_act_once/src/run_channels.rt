@@ -12,7 +12,7 @@ ghost use Rattle.proof_run_steps.specs.steps.Reached.{reached};
 ghost use Rattle.law_requests_act_once.specs.channel.Moves.{Order};
 ghost use Rattle.proof_run_steps.specs.control.Control.{control_of};
 ghost use Rattle.law_requests_act_once.specs.run_channels.Example.{script, worked, expected};
-ghost use Rattle.law_requests_act_once.specs.run_channels.Tied.{PlainControl, run_talk, ComesOf, AreExact, CpsFit, IsPassed};
+ghost use Rattle.law_requests_act_once.specs.run_channels.Reached.{PlainControl, run_talk, ComesOf, AreExact, CpsFit, IsPassed};
 
 /// In every run the control messages, and what units and the core keep of requests and replies, are those after a list of orders,
 /// each made when it might be, and no request expired without its cancel. Premise: in all

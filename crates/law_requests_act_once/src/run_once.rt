@@ -11,7 +11,7 @@ ghost use Rattle.run_defs.specs.Runs.{plain_world, Reading};
 ghost use Rattle.proof_run_steps.specs.steps.Reached.{reached};
 ghost use Rattle.law_requests_act_once.specs.channel.Moves.{Order};
 ghost use Rattle.proof_run_steps.specs.control.Control.{control_of};
-ghost use Rattle.law_requests_act_once.specs.run_channels.Tied.{PlainControl, run_talk, ComesOf, AreExact, CpsFit, IsPassed};
+ghost use Rattle.law_requests_act_once.specs.run_channels.Reached.{PlainControl, run_talk, ComesOf, AreExact, CpsFit, IsPassed};
 
 /// In all that steps lead to, and so in each state that a run reaches, the request of each offered target is the newest that its CU-CP
 /// took from the other one, unanswered; and what expires at a tick is to the other CU-CP, for a terminal that has a context.

@@ -6,7 +6,7 @@ ghost use Rattle.std.specs.Prelude.{ℕ, ◌≡◌};
 ghost use Rattle.transaction_defs.specs.Callees.{new, verdict};
 ghost use Rattle.unit_defs.specs.CuUp.{cu_up_acts};
 ghost use Rattle.unit_defs.specs.Transactions.{Transactions};
-ghost use Rattle.unit_defs.specs.UpRecords.{CuUp};
+ghost use Rattle.unit_defs.specs.CuUpRecords.{CuUp};
 ghost use Rattle.unit_defs.specs.Ways.{Input, Way};
 
 /// Whatever a CU-UP is given, in any state: the newest instance of a channel is never lowered, so that a request which is not new never

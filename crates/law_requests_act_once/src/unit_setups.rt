@@ -7,7 +7,7 @@ ghost use Rattle.tables.specs.Tables.{IsSorted};
 ghost use Rattle.unit_defs.specs.Ways.{Message, Input, Way};
 ghost use Rattle.unit_defs.specs.Core.{CoreRecord, core_acts};
 ghost use Rattle.unit_defs.specs.Du.{Du, du_acts};
-ghost use Rattle.unit_defs.specs.UpRecords.{CuUp};
+ghost use Rattle.unit_defs.specs.CuUpRecords.{CuUp};
 ghost use Rattle.unit_defs.specs.CuUp.{cu_up_acts};
 ghost use Rattle.law_requests_act_once.specs.channel.Exactly.{IfGives};
 ghost use Rattle.law_requests_act_once.specs.channel.Replies.{Talk};

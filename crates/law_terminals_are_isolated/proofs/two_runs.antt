@@ -1,3 +1,3 @@
-pub mod Alike
+pub mod EqualStates
 pub mod Acts
 pub mod Lives

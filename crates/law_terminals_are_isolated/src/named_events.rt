@@ -4,7 +4,7 @@ ghost use Rattle.gnb_types.specs.declared.names.UeId.{UeId};
 ghost use Rattle.law_terminals_are_isolated.specs.named_events.Named.{event_ue};
 ghost use Rattle.law_terminals_are_isolated.specs.own_events.Events.{AllFor, RunState};
 ghost use Rattle.law_terminals_are_isolated.specs.own_steps.Own.{LeavesOthers};
-ghost use Rattle.proof_run_steps.specs.steps.Made.{Made};
+ghost use Rattle.proof_run_steps.specs.steps.IsOutcome.{IsOutcome};
 ghost use Rattle.proof_run_steps.specs.steps.Reached.{reached};
 ghost use Rattle.message_types.specs.declared.rrc.Token.{Token};
 ghost use Rattle.run_defs.specs.Runs.{happens, plain_world, Reading};
@@ -17,11 +17,11 @@ ghost use Rattle.unit_defs.specs.Ways.{Message};
 pub fn steps_of_an_event_for_a_terminal_are_its_own()
     ensures { (reading : Reading) (events : List Event) (event : Event) (s : RunState) (ue : UeId)
         → reached (plain_world reading) events new_state ≡ Some s → event_ue s event ≡ Some ue
-        → (made : Made (plain_world reading) event s (happens (plain_world reading) event s))
+        → (made : IsOutcome (plain_world reading) event s (happens (plain_world reading) event s))
         × AllFor reading event ue s (happens (plain_world reading) event s) made }
 {}
 
-/// So in every run an event that is for a terminal, refused or not, leaves the whole slices of all others: what every unit and the
+/// So in every run an event that is for a terminal, refused or not, leaves the whole projections of all others: what every unit and the
 /// core keep of them, which open TEIDs are theirs, and all that the run keeps beside, on every link.
 pub fn an_event_for_a_terminal_leaves_the_others()
     ensures { (reading : Reading) (events : List Event) (event : Event) (s t : RunState) (ue : UeId)

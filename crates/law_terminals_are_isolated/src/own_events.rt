@@ -2,17 +2,17 @@
 //! the law.
 
 ghost use Rattle.gnb_types.specs.declared.names.UeId.{UeId};
-ghost use Rattle.law_terminals_are_isolated.specs.others_stay.Others.{IsOutputFor, IsStepFor};
+ghost use Rattle.law_terminals_are_isolated.specs.frame_of_steps.Others.{IsOutputFor, IsStepFor};
 ghost use Rattle.law_terminals_are_isolated.specs.own_events.Events.{AllFor, RunOutcome, RunState};
 ghost use Rattle.law_terminals_are_isolated.specs.own_events.Passed.{Passes};
 ghost use Rattle.law_terminals_are_isolated.specs.own_steps.Own.{IsActed, LeavesOthers};
 ghost use Rattle.law_tunnels_are_owned.specs.open_tunnels.Open.{StandWhereOpen};
 ghost use Rattle.law_tunnels_are_owned.specs.owner_facts.Owned.{AreOwned};
 ghost use Rattle.proof_run_steps.specs.law_run_links.Own.{HoldTheirOwn};
-ghost use Rattle.law_terminals_are_isolated.specs.run_slices.Units.{given_ue, AreThemselves};
+ghost use Rattle.law_terminals_are_isolated.specs.run_projections.Units.{given_ue, AreThemselves};
 ghost use Rattle.law_tunnels_are_owned.specs.run_tunnels.Own.{TunnelsHoldTheirOwn};
 ghost use Rattle.proof_run_steps.specs.steps.Causes.{Cause, count_of, first_of, given_of, node_of};
-ghost use Rattle.proof_run_steps.specs.steps.Made.{Made};
+ghost use Rattle.proof_run_steps.specs.steps.IsOutcome.{IsOutcome};
 ghost use Rattle.proof_run_steps.specs.steps.Reached.{reached};
 ghost use Rattle.message_types.specs.declared.rrc.Token.{Token};
 ghost use Rattle.run_defs.specs.Lines.{RunLine};
@@ -38,7 +38,7 @@ pub fn links_hold_their_own_within_events()
 {}
 
 /// In every state that a run passes, within events too: where a unit acts with what is for a terminal, the step is the terminal's,
-/// and so is all that it puts out; on a tunnel that it closes nothing of another terminal stands; and it leaves the whole slices of
+/// and so is all that it puts out; on a tunnel that it closes nothing of another terminal stands; and it leaves the whole projections of
 /// all others.
 pub fn each_step_within_an_event_is_one_terminals()
     ensures is_its_own { (reading : Reading) (events : List Event) (event : Event)
@@ -66,12 +66,12 @@ pub fn each_step_within_an_event_is_one_terminals()
         outputs units t ≡ goes lines u → LeavesOthers ue t u }
 {}
 
-/// So an event of any run, or a part of one, all of whose steps are a terminal's leaves the whole slices of all others: those of
+/// So an event of any run, or a part of one, all of whose steps are a terminal's leaves the whole projections of all others: those of
 /// units and of the core, and what is lost between.
 pub fn an_event_of_one_terminal_leaves_the_others()
     ensures { (reading : Reading) (events : List Event) (event : Event) (s t u : RunState)
         (ue : UeId) (e : RunOutcome) (told : List (RunStep (Message Token)))
-        (made : Made (plain_world reading) event t e)
+        (made : IsOutcome (plain_world reading) event t e)
         → reached (plain_world reading) events new_state ≡ Some s
         → Passes (plain_world reading) event s t
         → AllFor reading event ue t e made → e ≡ goes told u → LeavesOthers ue t u }

@@ -2,9 +2,9 @@
 //! nothing: its contract is the law.
 
 ghost use Rattle.gnb_types.specs.declared.names.UeId.{UeId};
-ghost use Rattle.law_terminals_are_isolated.specs.others_stay.Others.{IsOutputFor, IsStepFor};
+ghost use Rattle.law_terminals_are_isolated.specs.frame_of_steps.Others.{IsOutputFor, IsStepFor};
 ghost use Rattle.law_terminals_are_isolated.specs.own_steps.Own.{IsActed, LeavesOthers};
-ghost use Rattle.law_terminals_are_isolated.specs.run_slices.Units.{given_ue};
+ghost use Rattle.law_terminals_are_isolated.specs.run_projections.Units.{given_ue};
 ghost use Rattle.proof_run_steps.specs.steps.Causes.{Cause, count_of, first_of, given_of, node_of};
 ghost use Rattle.proof_run_steps.specs.steps.Reached.{reached};
 ghost use Rattle.message_types.specs.declared.rrc.Token.{Token};
@@ -34,7 +34,7 @@ pub fn each_step_and_output_is_one_terminals()
         → IsStepFor ue t cause × AllByRecursion (IsOutputFor ue t (node_of cause)) outputs }
 {}
 
-/// So in every state that a run reaches, a step of a unit with what is for a terminal leaves the whole slices of all others: what
+/// So in every state that a run reaches, a step of a unit with what is for a terminal leaves the whole projections of all others: what
 /// every unit and the core keep of them, which open TEIDs are theirs, and all that the run keeps beside, on every link.
 pub fn each_step_leaves_the_others()
     ensures { (reading : Reading) (events : List Event)

@@ -62,9 +62,9 @@ backwards xs ys more e =
 backwards_one : (xs ys zs : List TextLine) (z : TextLine) → xs ≡ reverse (z ∷ zs) ++ ys → xs ≡ reverse zs ++ z ∷ ys
 backwards_one xs ys zs z e = e ∙ ap (λ l. l ++ ys) (reverse-append (z ∷ []) zs) ∙ append_assoc (reverse zs) (z ∷ []) ys
 
-sound_front : (spell : Spelling) (newer past : List TextLine) → AreSound spell (newer ++ past) → AreSound spell past
-sound_front spell [] past h = h
-sound_front spell (x ∷ newer) past h = sound_front spell newer past h.0
+sound_front : (encode : Spelling) (newer past : List TextLine) → AreSound encode (newer ++ past) → AreSound encode past
+sound_front encode [] past h = h
+sound_front encode (x ∷ newer) past h = sound_front encode newer past h.0
 
 proper_front : (newer past : List TextLine) → AllByRecursion IsProper (newer ++ past) → AllByRecursion IsProper past
 proper_front [] past h = h
@@ -81,34 +81,34 @@ one_place (text ∷ rest) no_line no_line p q = refl
 one_place rest a b p q = absurd assumption
 
 -- where something stands that keeps all rules, none is broken
-not_kept : (spell : Spelling) (texts : List (List ℕ)) (place : ℕ) (rule : Rule) (u : IsUnsound spell texts place rule) (at : AtPlace)
-    → Stands u.rest at → ((other : Rule) → Keeps spell other u.past at) → ⊥
-not_kept spell texts place rule u at stands kept =
-    u.broken (subst (λ a. Keeps spell rule u.past a) (one_place u.rest at u.at stands u.stands) (kept rule))
+not_kept : (encode : Spelling) (texts : List (List ℕ)) (place : ℕ) (rule : Rule) (u : IsUnsound encode texts place rule) (at : AtPlace)
+    → Stands u.rest at → ((other : Rule) → Keeps encode other u.past at) → ⊥
+not_kept encode texts place rule u at stands kept =
+    u.broken (subst (λ a. Keeps encode rule u.past a) (one_place u.rest at u.at stands u.stands) (kept rule))
 
 -- lines that keep all rules go on past the place
-not_gone_on : (spell : Spelling) (texts : List (List ℕ)) (place : ℕ) (rule : Rule) (u : IsUnsound spell texts place rule)
+not_gone_on : (encode : Spelling) (texts : List (List ℕ)) (place : ℕ) (rule : Rule) (u : IsUnsound encode texts place rule)
     → (past : List TextLine) (z : TextLine) (zs : List TextLine) (after : List (List ℕ))
-    → AreSound spell past → AllByRecursion IsProper past → past ≡ reverse (z ∷ zs) ++ u.past → map text_of (z ∷ zs) ++ after ≡ u.rest → ⊥
-not_gone_on spell texts place rule u past z zs after sound proper is rest_is =
+    → AreSound encode past → AllByRecursion IsProper past → past ≡ reverse (z ∷ zs) ++ u.past → map text_of (z ∷ zs) ++ after ≡ u.rest → ⊥
+not_gone_on encode texts place rule u past z zs after sound proper is rest_is =
     let is_now : past ≡ reverse zs ++ z ∷ u.past = backwards_one past u.past zs z is in
-    let s : AreSound spell (z ∷ u.past) = sound_front spell (reverse zs) (z ∷ u.past) (subst (AreSound spell) is_now sound) in
+    let s : AreSound encode (z ∷ u.past) = sound_front encode (reverse zs) (z ∷ u.past) (subst (AreSound encode) is_now sound) in
     let p : AllByRecursion IsProper (z ∷ u.past) = proper_front (reverse zs) (z ∷ u.past) (subst (AllByRecursion IsProper) is_now proper) in
-    not_kept spell texts place rule u (a_line z) (subst (λ ts. Stands ts (a_line z)) rest_is (record { text_is = refl; proper = p.0 })) s.1
+    not_kept encode texts place rule u (a_line z) (subst (λ ts. Stands ts (a_line z)) rest_is (record { text_is = refl; proper = p.0 })) s.1
 
-ended : (spell : Spelling) (past : List TextLine) → IsFinished past → (rule : Rule) → Keeps spell rule past the_end
-ended spell past finished rules.End = finished
-ended spell past finished rule = tt
+ended : (encode : Spelling) (past : List TextLine) → IsFinished past → (rule : Rule) → Keeps encode rule past the_end
+ended encode past finished rules.End = finished
+ended encode past finished rule = tt
 
-not_ended : (spell : Spelling) (texts : List (List ℕ)) (place : ℕ) (rule : Rule) (u : IsUnsound spell texts place rule)
+not_ended : (encode : Spelling) (texts : List (List ℕ)) (place : ℕ) (rule : Rule) (u : IsUnsound encode texts place rule)
     → (past : List TextLine) → IsFinished past → past ≡ u.past → [] ≡ u.rest → ⊥
-not_ended spell texts place rule u past finished is rest_is =
-    not_kept spell texts place rule u the_end (subst (λ ts. Stands ts the_end) rest_is tt) (ended spell u.past (subst IsFinished is finished))
+not_ended encode texts place rule u past finished is rest_is =
+    not_kept encode texts place rule u the_end (subst (λ ts. Stands ts the_end) rest_is tt) (ended encode u.past (subst IsFinished is finished))
 
 -- ---- sound and unsound
 
-pub not_both : (spell : Spelling) (texts : List (List ℕ)) (place : ℕ) (rule : Rule) → Sound spell texts → IsUnsound spell texts place rule → ⊥
-not_both spell texts place rule s u =
+pub not_both : (encode : Spelling) (texts : List (List ℕ)) (place : ℕ) (rule : Rule) → Sound encode texts → IsUnsound encode texts place rule → ⊥
+not_both encode texts place rule s u =
     elim (compare (reverse s.past) (reverse u.past) [] u.rest (proper-reverse s.past s.proper) (proper-reverse u.past u.proper)
     (append-nil (texts_of s.past) ∙ sym s.texts_are ∙ u.texts_are)) [
       | inl on ↦ longer on.more (backwards s.past u.past on.more on.lines_are) on.texts_are
@@ -116,11 +116,11 @@ not_both spell texts place rule s u =
     ]
   where
     longer : (more : List TextLine) → s.past ≡ reverse more ++ u.past → map text_of more ++ [] ≡ u.rest → ⊥
-    longer [] is rest_is = not_ended spell texts place rule u s.past s.finished is rest_is
-    longer (z ∷ zs) is rest_is = not_gone_on spell texts place rule u s.past z zs [] s.sound s.proper is rest_is
+    longer [] is rest_is = not_ended encode texts place rule u s.past s.finished is rest_is
+    longer (z ∷ zs) is rest_is = not_gone_on encode texts place rule u s.past z zs [] s.sound s.proper is rest_is
 
     shorter : (more : List TextLine) → u.past ≡ reverse more ++ s.past → map text_of more ++ u.rest ≡ [] → ⊥
-    shorter [] is rest_is = not_ended spell texts place rule u s.past s.finished (sym is) (sym rest_is)
+    shorter [] is rest_is = not_ended encode texts place rule u s.past s.finished (sym is) (sym rest_is)
     shorter (z ∷ zs) is rest_is = absurd (cc)
 
 -- ---- one place and rule
@@ -128,19 +128,19 @@ not_both spell texts place rule s u =
 abbrev AreOne : (place other : ℕ) (rule next : Rule) → Type 0
 AreOne place other rule next = (place ≡ other) × (rule ≡ next)
 
-not_lower : (spell : Spelling) (texts : List (List ℕ)) (p q : ℕ) (r s : Rule) (u : IsUnsound spell texts p r) (v : IsUnsound spell texts q s)
+not_lower : (encode : Spelling) (texts : List (List ℕ)) (p q : ℕ) (r s : Rule) (u : IsUnsound encode texts p r) (v : IsUnsound encode texts q s)
     → u.past ≡ v.past → u.at ≡ v.at → rule_number r < rule_number s → ⊥
-not_lower spell texts p q r s u v same here less =
-    u.broken (subst (λ a. Keeps spell r u.past a) (sym here) (subst (λ l. Keeps spell r l v.at) (sym same) (v.least r less)))
+not_lower encode texts p q r s u v same here less =
+    u.broken (subst (λ a. Keeps encode r u.past a) (sym here) (subst (λ l. Keeps encode r l v.at) (sym same) (v.least r less)))
 
-at_one_place : (spell : Spelling) (texts : List (List ℕ)) (p q : ℕ) (r s : Rule) (u : IsUnsound spell texts p r) (v : IsUnsound spell texts q s)
+at_one_place : (encode : Spelling) (texts : List (List ℕ)) (p q : ℕ) (r s : Rule) (u : IsUnsound encode texts p r) (v : IsUnsound encode texts q s)
     → u.past ≡ v.past → u.rest ≡ v.rest → AreOne p q r s
-at_one_place spell texts p q r s u v same rest_is = (
+at_one_place encode texts p q r s u v same rest_is = (
   u.place_is ∙ ap (λ l. length l + 1) same ∙ sym v.place_is,
   elim (cases_lt (rule_number r) (rule_number s)) [
-    | inl less ↦ absurd (not_lower spell texts p q r s u v same here less)
+    | inl less ↦ absurd (not_lower encode texts p q r s u v same here less)
     | inr most ↦ elim (cases_lt (rule_number s) (rule_number r)) [
-      | inl less ↦ absurd (not_lower spell texts q p s r v u (sym same) (sym here) less)
+      | inl less ↦ absurd (not_lower encode texts q p s r v u (sym same) (sym here) less)
       | inr least ↦ one_rule r s (omega (arith, most, least))
     ]
   ],
@@ -149,9 +149,9 @@ at_one_place spell texts p q r s u v same rest_is = (
     here : u.at ≡ v.at
     here = one_place v.rest u.at v.at (subst (λ ts. Stands ts u.at) rest_is u.stands) v.stands
 
-pub one_unsound : (spell : Spelling) (texts : List (List ℕ)) (p q : ℕ) (r s : Rule) → IsUnsound spell texts p r → IsUnsound spell texts q s
+pub one_unsound : (encode : Spelling) (texts : List (List ℕ)) (p q : ℕ) (r s : Rule) → IsUnsound encode texts p r → IsUnsound encode texts q s
     → AreOne p q r s
-one_unsound spell texts p q r s u v =
+one_unsound encode texts p q r s u v =
     elim (compare (reverse u.past) (reverse v.past) u.rest v.rest (proper-reverse u.past u.proper) (proper-reverse v.past v.proper)
     (sym u.texts_are ∙ v.texts_are)) [
       | inl on ↦ longer on.more (backwards u.past v.past on.more on.lines_are) on.texts_are
@@ -159,9 +159,9 @@ one_unsound spell texts p q r s u v =
     ]
   where
     longer : (more : List TextLine) → u.past ≡ reverse more ++ v.past → map text_of more ++ u.rest ≡ v.rest → AreOne p q r s
-    longer [] is rest_is = at_one_place spell texts p q r s u v is rest_is
-    longer (z ∷ zs) is rest_is = absurd (not_gone_on spell texts q s v u.past z zs u.rest u.sound u.proper is rest_is)
+    longer [] is rest_is = at_one_place encode texts p q r s u v is rest_is
+    longer (z ∷ zs) is rest_is = absurd (not_gone_on encode texts q s v u.past z zs u.rest u.sound u.proper is rest_is)
 
     shorter : (more : List TextLine) → v.past ≡ reverse more ++ u.past → map text_of more ++ v.rest ≡ u.rest → AreOne p q r s
-    shorter [] is rest_is = at_one_place spell texts p q r s u v (sym is) (sym rest_is)
-    shorter (z ∷ zs) is rest_is = absurd (not_gone_on spell texts p r u v.past z zs v.rest v.sound v.proper is rest_is)
+    shorter [] is rest_is = at_one_place encode texts p q r s u v (sym is) (sym rest_is)
+    shorter (z ∷ zs) is rest_is = absurd (not_gone_on encode texts p r u v.past z zs v.rest v.sound v.proper is rest_is)

@@ -58,35 +58,35 @@ texts_step line past text rest is =
 
 -- ---- neither
 
-pub record Neither (spell : Spelling) (texts : List (List ℕ)) : Type 0 where
-  pub not_sound : Sound spell texts → ⊥
-  pub not_unsound : (place : ℕ) (rule : Rule) → IsUnsound spell texts place rule → ⊥
+pub record Neither (encode : Spelling) (texts : List (List ℕ)) : Type 0 where
+  pub not_sound : Sound encode texts → ⊥
+  pub not_unsound : (place : ℕ) (rule : Rule) → IsUnsound encode texts place rule → ⊥
 
 -- what is known at a place: the lines before it, and the texts from it on
-record Upto (spell : Spelling) (texts : List (List ℕ)) (past : List TextLine) (rest : List (List ℕ)) : Type 0 where
+record Upto (encode : Spelling) (texts : List (List ℕ)) (past : List TextLine) (rest : List (List ℕ)) : Type 0 where
   texts_are : texts ≡ texts_of past ++ rest
   proper : AllByRecursion IsProper past
-  sound : AreSound spell past
+  sound : AreSound encode past
 
 Below : Spelling → List TextLine → AtPlace → ℕ → Type 0
-Below spell past at n = (other : Rule) → rule_number other < n → Keeps spell other past at
+Below encode past at n = (other : Rule) → rule_number other < n → Keeps encode other past at
 
 -- the rules below the next number are kept, where this one is
-one_more : (spell : Spelling) (past : List TextLine) (at : AtPlace) (rule : Rule) → Below spell past at (rule_number rule)
-    → Keeps spell rule past at → Below spell past at (rule_number rule + 1)
+one_more : (encode : Spelling) (past : List TextLine) (at : AtPlace) (rule : Rule) → Below encode past at (rule_number rule)
+    → Keeps encode rule past at → Below encode past at (rule_number rule + 1)
 unfolding Below
-one_more spell past at rule below kept other less =
+one_more encode past at rule below kept other less =
     elim (cases_lt (rule_number other) (rule_number rule)) [
       | inl lower ↦ below other lower
-      | inr high ↦ subst (λ r. Keeps spell r past at) (one_rule rule other (omega (arith, less, high))) kept
+      | inr high ↦ subst (λ r. Keeps encode r past at) (one_rule rule other (omega (arith, less, high))) kept
     ]
 
 -- a rule whose lower ones are kept can't be missing
-next : (spell : Spelling) (texts : List (List ℕ)) (past : List TextLine) (rest : List (List ℕ)) (at : AtPlace)
-    → Neither spell texts → Upto spell texts past rest → Stands rest at
-    → (rule : Rule) → Below spell past at (rule_number rule) → (Below spell past at (rule_number rule + 1) → ⊥) → ⊥
+next : (encode : Spelling) (texts : List (List ℕ)) (past : List TextLine) (rest : List (List ℕ)) (at : AtPlace)
+    → Neither encode texts → Upto encode texts past rest → Stands rest at
+    → (rule : Rule) → Below encode past at (rule_number rule) → (Below encode past at (rule_number rule + 1) → ⊥) → ⊥
 unfolding Below
-next spell texts past rest at neither upto stands rule below go =
+next encode texts past rest at neither upto stands rule below go =
     neither.not_unsound (length past + 1) rule (record {
       past = past;
       rest = rest;
@@ -96,21 +96,21 @@ next spell texts past rest at neither upto stands rule below go =
       place_is = refl;
       at = at;
       stands = stands;
-      broken = λ kept. go (one_more spell past at rule below kept);
+      broken = λ kept. go (one_more encode past at rule below kept);
       least = below;
     })
 
-none_below : (spell : Spelling) (past : List TextLine) (at : AtPlace) → Below spell past at 1
+none_below : (encode : Spelling) (past : List TextLine) (at : AtPlace) → Below encode past at 1
 unfolding Below
-none_below spell past at other less = absurd (let low = (small other).0 in omega arith)
+none_below encode past at other less = absurd (let low = (small other).0 in omega arith)
 
 -- every rule is kept
-all_rules_kept : (spell : Spelling) (texts : List (List ℕ)) (past : List TextLine) (rest : List (List ℕ)) (at : AtPlace)
-    → Neither spell texts → Upto spell texts past rest → Stands rest at → (((rule : Rule) → Keeps spell rule past at) → ⊥) → ⊥
+all_rules_kept : (encode : Spelling) (texts : List (List ℕ)) (past : List TextLine) (rest : List (List ℕ)) (at : AtPlace)
+    → Neither encode texts → Upto encode texts past rest → Stands rest at → (((rule : Rule) → Keeps encode rule past at) → ⊥) → ⊥
 unfolding Below
-all_rules_kept spell texts past rest at neither upto stands go =
-    let rule = next spell texts past rest at neither upto stands in
-    rule rules.Form (none_below spell past at) (λ b2.
+all_rules_kept encode texts past rest at neither upto stands go =
+    let rule = next encode texts past rest at neither upto stands in
+    rule rules.Form (none_below encode past at) (λ b2.
     rule rules.Wire b2 (λ b3.
     rule rules.Packet b3 (λ b4.
     rule rules.Count b4 (λ b5.
@@ -119,11 +119,11 @@ all_rules_kept spell texts past rest at neither upto stands go =
     rule rules.Spelling b7 (λ b8.
     rule rules.End b8 (λ b9. go (λ r. b9 r (small r).1)))))))))
 
-neither_from : (spell : Spelling) (texts : List (List ℕ)) → Neither spell texts
-    → (rest : List (List ℕ)) (past : List TextLine) → Upto spell texts past rest → ⊥
+neither_from : (encode : Spelling) (texts : List (List ℕ)) → Neither encode texts
+    → (rest : List (List ℕ)) (past : List TextLine) → Upto encode texts past rest → ⊥
 unfolding Below
-neither_from spell texts neither [] past upto =
-    all_rules_kept spell texts past [] the_end neither upto tt (λ kept.
+neither_from encode texts neither [] past upto =
+    all_rules_kept encode texts past [] the_end neither upto tt (λ kept.
     neither.not_sound (record {
       past = past;
       texts_are = upto.texts_are ∙ append-nil (texts_of past);
@@ -131,7 +131,7 @@ neither_from spell texts neither [] past upto =
       sound = upto.sound;
       finished = kept rules.End;
     }))
-neither_from spell texts neither (text ∷ rest) past upto =
+neither_from encode texts neither (text ∷ rest) past upto =
     neither.not_unsound (length past + 1) rules.Form (record {
       past = past;
       rest = text ∷ rest;
@@ -141,18 +141,18 @@ neither_from spell texts neither (text ∷ rest) past upto =
       place_is = refl;
       at = no_line;
       stands = λ line is.
-          all_rules_kept spell texts past (text ∷ rest) (a_line line) neither upto is (λ kept.
-          neither_from spell texts neither rest (line ∷ past) (record {
+          all_rules_kept encode texts past (text ∷ rest) (a_line line) neither upto is (λ kept.
+          neither_from encode texts neither rest (line ∷ past) (record {
             texts_are = upto.texts_are ∙ texts_step line past text rest is.text_is;
             proper = (is.proper, upto.proper);
             sound = (upto.sound, kept);
           }));
       broken = λ kept. kept;
-      least = none_below spell past no_line;
+      least = none_below encode past no_line;
     })
 
 -- A text is sound, or breaks a rule at a first place.
-pub not_neither : (spell : Spelling) (texts : List (List ℕ)) → (Sound spell texts → ⊥)
-    → ((place : ℕ) (rule : Rule) → IsUnsound spell texts place rule → ⊥) → ⊥
-not_neither spell texts not_sound not_unsound =
-    neither_from spell texts (record { not_sound = not_sound; not_unsound = not_unsound }) texts [] (record { texts_are = refl; proper = tt; sound = tt })
+pub not_neither : (encode : Spelling) (texts : List (List ℕ)) → (Sound encode texts → ⊥)
+    → ((place : ℕ) (rule : Rule) → IsUnsound encode texts place rule → ⊥) → ⊥
+not_neither encode texts not_sound not_unsound =
+    neither_from encode texts (record { not_sound = not_sound; not_unsound = not_unsound }) texts [] (record { texts_are = refl; proper = tt; sound = tt })

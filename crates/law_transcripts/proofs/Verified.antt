@@ -68,22 +68,22 @@ others key line next past h =
     (subst (λ l. HasPrefix l (delivered key past)) (sym (more_offered key (accepted line past) (accepted_at line next)))
     (longer (offered key (accepted line past)) (delivered key past) (offered key (accepted_at line next)) h))
 
-by_line : (spell : Spelling) (key : EntityKey) (next line : TextLine) (past : List TextLine) → ShowsCount past line → IsInOrder past line
+by_line : (encode : Spelling) (key : EntityKey) (next line : TextLine) (past : List TextLine) → ShowsCount past line → IsInOrder past line
     → HasPrefix (offered key (accepted line past)) (delivered key past)
     → HasPrefix (offered key (accepted line past ++ accepted_at line next)) (delivered key past ++ delivery_at key line)
-by_line spell key next (Printed (lines.Deliver ue bearer dir count packet)) past counted order h =
+by_line encode key next (Printed (lines.Deliver ue bearer dir count packet)) past counted order h =
     let line : TextLine = Printed (lines.Deliver ue bearer dir count packet) in
     subst (λ es. HasPrefix (offered key es) (delivered key past ++ delivery_at key line)) (sym (append-nil (accepted line past)))
     (delivers_next key (record { ue = ue; bearer = bearer; dir = dir }) (accepted line past) past count packet h counted order)
-by_line spell key next line past counted order h = others key line next past h
+by_line encode key next line past counted order h = others key line next past h
 
 -- What was delivered is a prefix of what was offered.
-pub prefix : (spell : Spelling) (key : EntityKey) (next : TextLine) (past : List TextLine) → AreSound spell past
+pub prefix : (encode : Spelling) (key : EntityKey) (next : TextLine) (past : List TextLine) → AreSound encode past
     → HasPrefix (offered key (accepted next past)) (delivered key past)
 unfolding accepted delivered
-prefix spell key next [] sound = (offered key [], refl)
-prefix spell key next (line ∷ past) sound =
-    by_line spell key next line past (sound.1 rules.Count) (sound.1 rules.Order) (prefix spell key line past sound.0)
+prefix encode key next [] sound = (offered key [], refl)
+prefix encode key next (line ∷ past) sound =
+    by_line encode key next line past (sound.1 rules.Count) (sound.1 rules.Order) (prefix encode key line past sound.0)
 
 all_of : (list front : List (List ℕ)) (number : ℕ) → HasPrefix list front → number ≡ length list → number ≡ length front → front ≡ list
 all_of list front number (more, is) a b = ended more is (length-append front more)
@@ -93,17 +93,17 @@ all_of list front number (more, is) a b = ended more is (length-append front mor
     ended (x ∷ rest) e l = absurd (let whole : length list ≡ length (front ++ x ∷ rest) = ap length e in omega (arith, a, b, l, whole))
 
 -- A quiet bearer has delivered all.
-pub quiet_has_all : (spell : Spelling) (past : List TextLine) (ue : UeId) (bearer : BearerId) (downlink uplink : ℕ)
-    → AreSound spell (Printed (lines.Quiet ue bearer downlink uplink) ∷ past)
+pub quiet_has_all : (encode : Spelling) (past : List TextLine) (ue : UeId) (bearer : BearerId) (downlink uplink : ℕ)
+    → AreSound encode (Printed (lines.Quiet ue bearer downlink uplink) ∷ past)
     → (dir : Dir) → delivered (record { ue = ue; bearer = bearer; dir = dir }) past
     ≡ offered (record { ue = ue; bearer = bearer; dir = dir }) (accepted (Printed (lines.Quiet ue bearer downlink uplink)) past)
-quiet_has_all spell past ue bearer downlink uplink sound Dl =
+quiet_has_all encode past ue bearer downlink uplink sound Dl =
     let key : EntityKey = record { ue = ue; bearer = bearer; dir = Dl } in
     let order = sound.1 rules.Order in
     all_of (offered key (accepted (Printed (lines.Quiet ue bearer downlink uplink)) past)) (delivered key past) downlink
-    (prefix spell key (Printed (lines.Quiet ue bearer downlink uplink)) past sound.0) order.0.0 order.0.1
-quiet_has_all spell past ue bearer downlink uplink sound Ul =
+    (prefix encode key (Printed (lines.Quiet ue bearer downlink uplink)) past sound.0) order.0.0 order.0.1
+quiet_has_all encode past ue bearer downlink uplink sound Ul =
     let key : EntityKey = record { ue = ue; bearer = bearer; dir = Ul } in
     let order = sound.1 rules.Order in
     all_of (offered key (accepted (Printed (lines.Quiet ue bearer downlink uplink)) past)) (delivered key past) uplink
-    (prefix spell key (Printed (lines.Quiet ue bearer downlink uplink)) past sound.0) order.1.0 order.1.1
+    (prefix encode key (Printed (lines.Quiet ue bearer downlink uplink)) past sound.0) order.1.0 order.1.1

@@ -45,24 +45,24 @@ bytes octets pass k d less = below _ (AllPass-from_list_all (λ b. nat_lt b 256)
     below y e = grind (arith, nat_tests)
 
 -- the rules of a line that is not the end
-record KeptAll (spell : Spelling) (past : List TextLine) (line : TextLine) : Type 0 where
+record KeptAll (encode : Spelling) (past : List TextLine) (line : TextLine) : Type 0 where
   form : KeepsForm past (a_line line)
   wire : IsOnWire past line
   packet : IsReadable past line
   count : ShowsCount past line
   order : IsInOrder past line
   seen : WasSeen past line
-  spelling : IsSpelled spell line
+  spelling : IsSpelled encode line
 
-kept : (spell : Spelling) (past : List TextLine) (line : TextLine) → KeptAll spell past line → (rule : Rule) → Keeps spell rule past (a_line line)
-kept spell past line k rules.Form = k.form
-kept spell past line k rules.Wire = k.wire
-kept spell past line k rules.Packet = k.packet
-kept spell past line k rules.Count = k.count
-kept spell past line k rules.Order = k.order
-kept spell past line k rules.Seen = k.seen
-kept spell past line k rules.Spelling = k.spelling
-kept spell past line k rules.End = tt
+kept : (encode : Spelling) (past : List TextLine) (line : TextLine) → KeptAll encode past line → (rule : Rule) → Keeps encode rule past (a_line line)
+kept encode past line k rules.Form = k.form
+kept encode past line k rules.Wire = k.wire
+kept encode past line k rules.Packet = k.packet
+kept encode past line k rules.Count = k.count
+kept encode past line k rules.Order = k.order
+kept encode past line k rules.Seen = k.seen
+kept encode past line k rules.Spelling = k.spelling
+kept encode past line k rules.End = tt
 
 -- ---- the first packet
 
@@ -247,57 +247,57 @@ r11 : Reading (accepted l11 p11) radio (item (Some 0) pdu_octets)
 unfolding accepted offered plans standing messages delivered events_of
 r11 = record { plan = plan; is_set = refl; has_bearer = omega arith; says = pdu (data_pdu 0 (69 ∷ [])) pdu_octets; laid_out = (refl, ((omega arith, refl, refl), (omega arith, omega arith))) }
 
-k1 : (spell : Spelling) → KeptAll spell [] l1
+k1 : (encode : Spelling) → KeptAll encode [] l1
 unfolding accepted offered plans standing messages delivered events_of
-k1 spell = record { form = (tt, tt); wire = tt; packet = tt; count = tt; order = tt; seen = tt; spelling = tt }
+k1 encode = record { form = (tt, tt); wire = tt; packet = tt; count = tt; order = tt; seen = tt; spelling = tt }
 
-k2 : (spell : Spelling) → KeptAll spell p2 l2
+k2 : (encode : Spelling) → KeptAll encode p2 l2
 unfolding accepted offered plans standing messages delivered events_of
-k2 spell = record { form = (tt, tt); wire = tt; packet = tt; count = tt; order = tt; seen = tt; spelling = tt }
+k2 encode = record { form = (tt, tt); wire = tt; packet = tt; count = tt; order = tt; seen = tt; spelling = tt }
 
-k3 : (spell : Spelling) → KeptAll spell p3 l3
+k3 : (encode : Spelling) → KeptAll encode p3 l3
 unfolding accepted offered plans standing messages delivered events_of
-k3 spell = record { form = (tt, tt); wire = tt; packet = record { plan = plan; is_set = refl; has_bearer = omega arith; says = fresh (69 ∷ []); laid_out = (refl, inl n3_says) }; count = (record { plan = plan; is_set = refl; has_bearer = omega arith; says = fresh (69 ∷ []); laid_out = (refl, inl n3_says) }, tt); order = tt; seen = (record { plan = plan; is_set = refl; has_bearer = omega arith; says = fresh (69 ∷ []); laid_out = (refl, inl n3_says) }, (0, refl)); spelling = tt }
+k3 encode = record { form = (tt, tt); wire = tt; packet = record { plan = plan; is_set = refl; has_bearer = omega arith; says = fresh (69 ∷ []); laid_out = (refl, inl n3_says) }; count = (record { plan = plan; is_set = refl; has_bearer = omega arith; says = fresh (69 ∷ []); laid_out = (refl, inl n3_says) }, tt); order = tt; seen = (record { plan = plan; is_set = refl; has_bearer = omega arith; says = fresh (69 ∷ []); laid_out = (refl, inl n3_says) }, (0, refl)); spelling = tt }
 
-k4 : (spell : Spelling) → KeptAll spell p4 l4
+k4 : (encode : Spelling) → KeptAll encode p4 l4
 unfolding accepted offered plans standing messages delivered events_of
-k4 spell = record { form = (tt, tt); wire = tt; packet = tt; count = tt; order = tt; seen = tt; spelling = tt }
+k4 encode = record { form = (tt, tt); wire = tt; packet = tt; count = tt; order = tt; seen = tt; spelling = tt }
 
-k5 : (spell : Spelling) → KeptAll spell p5 l5
+k5 : (encode : Spelling) → KeptAll encode p5 l5
 unfolding accepted offered plans standing messages delivered events_of
-k5 spell = record { form = (tt, tt); wire = refl; packet = tt; count = (record { plan = plan; is_set = refl; has_bearer = omega arith; says = fresh (69 ∷ []); laid_out = (refl, inl n3_says) }, tt); order = tt; seen = tt; spelling = tt }
+k5 encode = record { form = (tt, tt); wire = refl; packet = tt; count = (record { plan = plan; is_set = refl; has_bearer = omega arith; says = fresh (69 ∷ []); laid_out = (refl, inl n3_says) }, tt); order = tt; seen = tt; spelling = tt }
 
-k6 : (spell : Spelling) → KeptAll spell p6 l6
+k6 : (encode : Spelling) → KeptAll encode p6 l6
 unfolding accepted offered plans standing messages delivered events_of
-k6 spell = record { form = (tt, tt); wire = tt; packet = record { plan = plan; is_set = refl; has_bearer = omega arith; says = framed false 0 (data_pdu 0 (69 ∷ [])) pdu_octets; laid_out = f1_says }; count = (record { plan = plan; is_set = refl; has_bearer = omega arith; says = framed false 0 (data_pdu 0 (69 ∷ [])) pdu_octets; laid_out = f1_says }, (refl, refl)); order = tt; seen = (record { plan = plan; is_set = refl; has_bearer = omega arith; says = framed false 0 (data_pdu 0 (69 ∷ [])) pdu_octets; laid_out = f1_says }, (0, refl)); spelling = tt }
+k6 encode = record { form = (tt, tt); wire = tt; packet = record { plan = plan; is_set = refl; has_bearer = omega arith; says = framed false 0 (data_pdu 0 (69 ∷ [])) pdu_octets; laid_out = f1_says }; count = (record { plan = plan; is_set = refl; has_bearer = omega arith; says = framed false 0 (data_pdu 0 (69 ∷ [])) pdu_octets; laid_out = f1_says }, (refl, refl)); order = tt; seen = (record { plan = plan; is_set = refl; has_bearer = omega arith; says = framed false 0 (data_pdu 0 (69 ∷ [])) pdu_octets; laid_out = f1_says }, (0, refl)); spelling = tt }
 
-k7 : (spell : Spelling) → KeptAll spell p7 l7
+k7 : (encode : Spelling) → KeptAll encode p7 l7
 unfolding accepted offered plans standing messages delivered events_of
-k7 spell = record { form = (tt, tt); wire = tt; packet = tt; count = tt; order = tt; seen = tt; spelling = tt }
+k7 encode = record { form = (tt, tt); wire = tt; packet = tt; count = tt; order = tt; seen = tt; spelling = tt }
 
-k8 : (spell : Spelling) → KeptAll spell p8 l8
+k8 : (encode : Spelling) → KeptAll encode p8 l8
 unfolding accepted offered plans standing messages delivered events_of
-k8 spell = record { form = (tt, tt); wire = refl; packet = tt; count = (record { plan = plan; is_set = refl; has_bearer = omega arith; says = framed false 0 (data_pdu 0 (69 ∷ [])) pdu_octets; laid_out = f1_says }, (refl, refl)); order = tt; seen = tt; spelling = tt }
+k8 encode = record { form = (tt, tt); wire = refl; packet = tt; count = (record { plan = plan; is_set = refl; has_bearer = omega arith; says = framed false 0 (data_pdu 0 (69 ∷ [])) pdu_octets; laid_out = f1_says }, (refl, refl)); order = tt; seen = tt; spelling = tt }
 
-k9 : (spell : Spelling) → KeptAll spell p9 l9
+k9 : (encode : Spelling) → KeptAll encode p9 l9
 unfolding accepted offered plans standing messages delivered events_of
-k9 spell = record { form = (tt, tt); wire = tt; packet = record { plan = plan; is_set = refl; has_bearer = omega arith; says = pdu (data_pdu 0 (69 ∷ [])) pdu_octets; laid_out = (refl, ((omega arith, refl, refl), (omega arith, omega arith))) }; count = (record { plan = plan; is_set = refl; has_bearer = omega arith; says = pdu (data_pdu 0 (69 ∷ [])) pdu_octets; laid_out = (refl, ((omega arith, refl, refl), (omega arith, omega arith))) }, (refl, refl)); order = tt; seen = (record { plan = plan; is_set = refl; has_bearer = omega arith; says = pdu (data_pdu 0 (69 ∷ [])) pdu_octets; laid_out = (refl, ((omega arith, refl, refl), (omega arith, omega arith))) }, (0, refl)); spelling = tt }
+k9 encode = record { form = (tt, tt); wire = tt; packet = record { plan = plan; is_set = refl; has_bearer = omega arith; says = pdu (data_pdu 0 (69 ∷ [])) pdu_octets; laid_out = (refl, ((omega arith, refl, refl), (omega arith, omega arith))) }; count = (record { plan = plan; is_set = refl; has_bearer = omega arith; says = pdu (data_pdu 0 (69 ∷ [])) pdu_octets; laid_out = (refl, ((omega arith, refl, refl), (omega arith, omega arith))) }, (refl, refl)); order = tt; seen = (record { plan = plan; is_set = refl; has_bearer = omega arith; says = pdu (data_pdu 0 (69 ∷ [])) pdu_octets; laid_out = (refl, ((omega arith, refl, refl), (omega arith, omega arith))) }, (0, refl)); spelling = tt }
 
-k10 : (spell : Spelling) → KeptAll spell p10 l10
+k10 : (encode : Spelling) → KeptAll encode p10 l10
 unfolding accepted offered plans standing messages delivered events_of
-k10 spell = record { form = (tt, tt); wire = tt; packet = tt; count = tt; order = tt; seen = tt; spelling = tt }
+k10 encode = record { form = (tt, tt); wire = tt; packet = tt; count = tt; order = tt; seen = tt; spelling = tt }
 
-k11 : (spell : Spelling) → KeptAll spell p11 l11
+k11 : (encode : Spelling) → KeptAll encode p11 l11
 unfolding accepted offered plans standing messages delivered events_of
-k11 spell = record { form = (tt, tt); wire = refl; packet = tt; count = (record { plan = plan; is_set = refl; has_bearer = omega arith; says = pdu (data_pdu 0 (69 ∷ [])) pdu_octets; laid_out = (refl, ((omega arith, refl, refl), (omega arith, omega arith))) }, (refl, refl)); order = tt; seen = tt; spelling = tt }
+k11 encode = record { form = (tt, tt); wire = refl; packet = tt; count = (record { plan = plan; is_set = refl; has_bearer = omega arith; says = pdu (data_pdu 0 (69 ∷ [])) pdu_octets; laid_out = (refl, ((omega arith, refl, refl), (omega arith, omega arith))) }, (refl, refl)); order = tt; seen = tt; spelling = tt }
 
-k12 : (spell : Spelling) → KeptAll spell p12 l12
+k12 : (encode : Spelling) → KeptAll encode p12 l12
 unfolding accepted offered plans standing messages delivered events_of
-k12 spell = record { form = (tt, tt); wire = tt; packet = tt; count = refl; order = refl; seen = inl (refl, record { receiver = tt; count_is = refl; reading = record { plan = plan; is_set = refl; has_bearer = omega arith; says = pdu (data_pdu 0 (69 ∷ [])) pdu_octets; laid_out = (refl, ((omega arith, refl, refl), (omega arith, omega arith))) }; packet_is = refl }); spelling = tt }
+k12 encode = record { form = (tt, tt); wire = tt; packet = tt; count = refl; order = refl; seen = inl (refl, record { receiver = tt; count_is = refl; reading = record { plan = plan; is_set = refl; has_bearer = omega arith; says = pdu (data_pdu 0 (69 ∷ [])) pdu_octets; laid_out = (refl, ((omega arith, refl, refl), (omega arith, omega arith))) }; packet_is = refl }); spelling = tt }
 
-k13 : (spell : Spelling) → KeptAll spell p13 l13
+k13 : (encode : Spelling) → KeptAll encode p13 l13
 unfolding accepted offered plans standing messages delivered events_of
-k13 spell = record { form = (tt, refl); wire = tt; packet = tt; count = tt; order = tt; seen = tt; spelling = tt }
+k13 encode = record { form = (tt, refl); wire = tt; packet = tt; count = tt; order = tt; seen = tt; spelling = tt }
 
 -- ---- the lines are proper
 
@@ -341,13 +341,13 @@ proper13 : IsProper l13
 proper13 = (omega arith, tt)
 
 -- The transcript is sound, however control messages are spelled.
-pub first_packet_is_sound : (spell : Spelling) → Sound spell first_packet
+pub first_packet_is_sound : (encode : Spelling) → Sound encode first_packet
 unfolding text_of line_text item_text event_text digits first_packet
-first_packet_is_sound spell = record {
+first_packet_is_sound encode = record {
   past = p14;
   texts_are = refl;
   proper = (proper13, (proper12, (proper11, (proper10, (proper9, (proper8, (proper7, (proper6, (proper5, (proper4, (proper3, (proper2, (proper1, tt)))))))))))));
-  sound = (((((((((((((tt, kept spell [] l1 (k1 spell)), kept spell p2 l2 (k2 spell)), kept spell p3 l3 (k3 spell)), kept spell p4 l4 (k4 spell)), kept spell p5 l5 (k5 spell)), kept spell p6 l6 (k6 spell)), kept spell p7 l7 (k7 spell)), kept spell p8 l8 (k8 spell)), kept spell p9 l9 (k9 spell)), kept spell p10 l10 (k10 spell)), kept spell p11 l11 (k11 spell)), kept spell p12 l12 (k12 spell)), kept spell p13 l13 (k13 spell));
+  sound = (((((((((((((tt, kept encode [] l1 (k1 encode)), kept encode p2 l2 (k2 encode)), kept encode p3 l3 (k3 encode)), kept encode p4 l4 (k4 encode)), kept encode p5 l5 (k5 encode)), kept encode p6 l6 (k6 encode)), kept encode p7 l7 (k7 encode)), kept encode p8 l8 (k8 encode)), kept encode p9 l9 (k9 encode)), kept encode p10 l10 (k10 encode)), kept encode p11 l11 (k11 encode)), kept encode p12 l12 (k12 encode)), kept encode p13 l13 (k13 encode));
   finished = tt;
 }
 
@@ -380,20 +380,20 @@ end_one = Printed (lines.End 1)
 proper_octet : IsProper put_for_nobody
 proper_octet = (((record { from = omega arith; to = omega arith }, record { from = omega arith; to = omega arith }), record { ue = record { from = omega arith; to = omega arith }; bearer = record { from = omega arith; to = omega arith }; count = tt; bytes = bytes (0 ∷ []) refl }), (tt, omega arith))
 
-tick_kept : (spell : Spelling) → KeptAll spell [] tick
+tick_kept : (encode : Spelling) → KeptAll encode [] tick
 unfolding accepted offered plans standing messages delivered events_of
-tick_kept spell = record { form = (tt, tt); wire = tt; packet = tt; count = tt; order = tt; seen = tt; spelling = tt }
+tick_kept encode = record { form = (tt, tt); wire = tt; packet = tt; count = tt; order = tt; seen = tt; spelling = tt }
 
 -- what is told of a line after `> tick`
-after_tick : (spell : Spelling) (line : TextLine) (texts : List (List ℕ)) (rule : Rule) → texts ≡ text_of tick ∷ text_of line ∷ [] → IsProper line
-    → (Keeps spell rule (tick ∷ []) (a_line line) → ⊥)
-    → ((other : Rule) → rule_number other < rule_number rule → Keeps spell other (tick ∷ []) (a_line line)) → IsUnsound spell texts 2 rule
-after_tick spell line texts rule are proper broken least = record {
+after_tick : (encode : Spelling) (line : TextLine) (texts : List (List ℕ)) (rule : Rule) → texts ≡ text_of tick ∷ text_of line ∷ [] → IsProper line
+    → (Keeps encode rule (tick ∷ []) (a_line line) → ⊥)
+    → ((other : Rule) → rule_number other < rule_number rule → Keeps encode other (tick ∷ []) (a_line line)) → IsUnsound encode texts 2 rule
+after_tick encode line texts rule are proper broken least = record {
   past = tick ∷ [];
   rest = text_of line ∷ [];
   texts_are = are;
   proper = ((tt, tt), tt);
-  sound = (tt, kept spell [] tick (tick_kept spell));
+  sound = (tt, kept encode [] tick (tick_kept encode));
   place_is = refl;
   at = a_line line;
   stands = record { text_is = refl; proper = proper };
@@ -401,9 +401,9 @@ after_tick spell line texts rule are proper broken least = record {
   least = least;
 }
 
-pub breaks_form : (spell : Spelling) → IsUnsound spell counts_no_event 1 rules.Form
+pub breaks_form : (encode : Spelling) → IsUnsound encode counts_no_event 1 rules.Form
 unfolding text_of line_text item_text message_text event_text digits counts_no_event events_of
-breaks_form spell = record {
+breaks_form encode = record {
   past = [];
   rest = counts_no_event;
   texts_are = refl;
@@ -416,72 +416,72 @@ breaks_form spell = record {
   least = λ other less. absurd (let low = (small other).0 in omega arith);
 }
 
-wire_least : (spell : Spelling) (other : Rule) → rule_number other < 2 → Keeps spell other (tick ∷ []) (a_line got_nothing)
-wire_least spell rules.Form less = (tt, tt)
-wire_least spell other less = absurd (omega arith)
+wire_least : (encode : Spelling) (other : Rule) → rule_number other < 2 → Keeps encode other (tick ∷ []) (a_line got_nothing)
+wire_least encode rules.Form less = (tt, tt)
+wire_least encode other less = absurd (omega arith)
 
-pub breaks_wire : (spell : Spelling) → IsUnsound spell takes_nothing 2 rules.Wire
+pub breaks_wire : (encode : Spelling) → IsUnsound encode takes_nothing 2 rules.Wire
 unfolding text_of line_text item_text message_text event_text digits takes_nothing standing
-breaks_wire spell = after_tick spell got_nothing takes_nothing rules.Wire refl proper_octet (λ k. absurd (cc)) (wire_least spell)
+breaks_wire encode = after_tick encode got_nothing takes_nothing rules.Wire refl proper_octet (λ k. absurd (cc)) (wire_least encode)
 
-packet_least : (spell : Spelling) (other : Rule) → rule_number other < 3 → Keeps spell other (tick ∷ []) (a_line put_for_nobody)
-packet_least spell rules.Form less = (tt, tt)
-packet_least spell rules.Wire less = tt
-packet_least spell other less = absurd (omega arith)
+packet_least : (encode : Spelling) (other : Rule) → rule_number other < 3 → Keeps encode other (tick ∷ []) (a_line put_for_nobody)
+packet_least encode rules.Form less = (tt, tt)
+packet_least encode rules.Wire less = tt
+packet_least encode other less = absurd (omega arith)
 
 never_set : Reading (events.Tick ∷ []) at_du one_octet → ⊥
 unfolding plans
 never_set r = let none : None ≡ Some r.plan = r.is_set in absurd (cc)
 
-pub breaks_packet : (spell : Spelling) → IsUnsound spell puts_for_nobody 2 rules.Packet
+pub breaks_packet : (encode : Spelling) → IsUnsound encode puts_for_nobody 2 rules.Packet
 unfolding text_of line_text item_text message_text event_text digits puts_for_nobody accepted
-breaks_packet spell = after_tick spell put_for_nobody puts_for_nobody rules.Packet refl proper_octet never_set (packet_least spell)
+breaks_packet encode = after_tick encode put_for_nobody puts_for_nobody rules.Packet refl proper_octet never_set (packet_least encode)
 
-count_least : (spell : Spelling) (other : Rule) → rule_number other < 4 → Keeps spell other (tick ∷ []) (a_line l12)
-count_least spell rules.Form less = (tt, tt)
-count_least spell rules.Wire less = tt
-count_least spell rules.Packet less = tt
-count_least spell other less = absurd (omega arith)
+count_least : (encode : Spelling) (other : Rule) → rule_number other < 4 → Keeps encode other (tick ∷ []) (a_line l12)
+count_least encode rules.Form less = (tt, tt)
+count_least encode rules.Wire less = tt
+count_least encode rules.Packet less = tt
+count_least encode other less = absurd (omega arith)
 
-pub breaks_count : (spell : Spelling) → IsUnsound spell delivers_no_offer 2 rules.Count
+pub breaks_count : (encode : Spelling) → IsUnsound encode delivers_no_offer 2 rules.Count
 unfolding text_of line_text item_text message_text event_text digits delivers_no_offer accepted offered
-breaks_count spell = after_tick spell l12 delivers_no_offer rules.Count refl proper12 (λ k. let none : None ≡ Some (69 ∷ []) = k in absurd (cc)) (count_least spell)
+breaks_count encode = after_tick encode l12 delivers_no_offer rules.Count refl proper12 (λ k. let none : None ≡ Some (69 ∷ []) = k in absurd (cc)) (count_least encode)
 
-order_least : (spell : Spelling) (other : Rule) → rule_number other < 5 → Keeps spell other (tick ∷ []) (a_line quiet)
-order_least spell rules.Form less = (tt, tt)
-order_least spell rules.Wire less = tt
-order_least spell rules.Packet less = tt
-order_least spell rules.Count less = tt
-order_least spell other less = absurd (omega arith)
+order_least : (encode : Spelling) (other : Rule) → rule_number other < 5 → Keeps encode other (tick ∷ []) (a_line quiet)
+order_least encode rules.Form less = (tt, tt)
+order_least encode rules.Wire less = tt
+order_least encode rules.Packet less = tt
+order_least encode rules.Count less = tt
+order_least encode other less = absurd (omega arith)
 
-pub breaks_order : (spell : Spelling) → IsUnsound spell is_quiet_without_offers 2 rules.Order
+pub breaks_order : (encode : Spelling) → IsUnsound encode is_quiet_without_offers 2 rules.Order
 unfolding text_of line_text item_text message_text event_text digits is_quiet_without_offers accepted offered
-breaks_order spell =
-    after_tick spell quiet is_quiet_without_offers rules.Order refl ((record { from = omega arith; to = omega arith }, record { from = omega arith; to = omega arith }, omega arith, omega arith), tt)
-    (λ k. let none : 1 ≡ 0 = k.0.0 in omega arith) (order_least spell)
+breaks_order encode =
+    after_tick encode quiet is_quiet_without_offers rules.Order refl ((record { from = omega arith; to = omega arith }, record { from = omega arith; to = omega arith }, omega arith, omega arith), tt)
+    (λ k. let none : 1 ≡ 0 = k.0.0 in omega arith) (order_least encode)
 
-seen_least : (spell : Spelling) (other : Rule) → rule_number other < 6 → Keeps spell other p3 (a_line l12)
+seen_least : (encode : Spelling) (other : Rule) → rule_number other < 6 → Keeps encode other p3 (a_line l12)
 unfolding accepted offered plans standing messages delivered events_of
-seen_least spell rules.Form less = (tt, tt)
-seen_least spell rules.Wire less = tt
-seen_least spell rules.Packet less = tt
-seen_least spell rules.Count less = refl
-seen_least spell rules.Order less = refl
-seen_least spell other less = absurd (omega arith)
+seen_least encode rules.Form less = (tt, tt)
+seen_least encode rules.Wire less = tt
+seen_least encode rules.Packet less = tt
+seen_least encode rules.Count less = refl
+seen_least encode rules.Order less = refl
+seen_least encode other less = absurd (omega arith)
 
-pub breaks_seen : (spell : Spelling) → IsUnsound spell delivers_unseen 3 rules.Seen
+pub breaks_seen : (encode : Spelling) → IsUnsound encode delivers_unseen 3 rules.Seen
 unfolding text_of line_text item_text message_text event_text digits delivers_unseen
-breaks_seen spell = record {
+breaks_seen encode = record {
   past = p3;
   rest = text_of l12 ∷ [];
   texts_are = refl;
   proper = (proper2, (proper1, tt));
-  sound = ((tt, kept spell [] l1 (k1 spell)), kept spell p2 l2 (k2 spell));
+  sound = ((tt, kept encode [] l1 (k1 encode)), kept encode p2 l2 (k2 encode));
   place_is = refl;
   at = a_line l12;
   stands = record { text_is = refl; proper = proper12 };
   broken = λ k. elim k [ inl here ↦ here | inr before ↦ elim before [ inl here ↦ here | inr none ↦ none ] ];
-  least = seen_least spell;
+  least = seen_least encode;
 }
 
 abbrev says_nothing : Spelling
@@ -504,21 +504,21 @@ breaks_spelling =
     (record { number = record { from = omega arith; to = omega arith }; sender = tt; receiver = tt; ue = omega arith; bytes = bytes (0 ∷ []) refl }, omega arith)
     (λ k. let none : [] ≡ 0 ∷ [] = k.1 in absurd (cc)) spelling_least
 
-end_least : (spell : Spelling) (other : Rule) → rule_number other < 8 → Keeps spell other (tick ∷ []) the_end
-end_least spell rules.End less = absurd (omega arith)
-end_least spell other less = tt
+end_least : (encode : Spelling) (other : Rule) → rule_number other < 8 → Keeps encode other (tick ∷ []) the_end
+end_least encode rules.End less = absurd (omega arith)
+end_least encode other less = tt
 
-pub breaks_end : (spell : Spelling) → IsUnsound spell ends_early 2 rules.End
+pub breaks_end : (encode : Spelling) → IsUnsound encode ends_early 2 rules.End
 unfolding text_of line_text item_text message_text event_text digits ends_early
-breaks_end spell = record {
+breaks_end encode = record {
   past = tick ∷ [];
   rest = [];
   texts_are = refl;
   proper = ((tt, tt), tt);
-  sound = (tt, kept spell [] tick (tick_kept spell));
+  sound = (tt, kept encode [] tick (tick_kept encode));
   place_is = refl;
   at = the_end;
   stands = tt;
   broken = λ k. k;
-  least = end_least spell;
+  least = end_least encode;
 }

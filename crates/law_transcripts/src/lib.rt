@@ -19,20 +19,20 @@ ghost use Rattle.law_transcripts.specs.Worked.{first_packet, counts_no_event, ta
 
 /// A text is sound, or breaks a rule at a first place: it can't be that neither holds.
 pub fn each_text_is_sound_or_breaks_a_rule()
-    ensures { (spell : Spelling) (texts : List (List ℕ)) → (Sound spell texts → ⊥)
-        → ((place : ℕ) (rule : Rule) → IsUnsound spell texts place rule → ⊥) → ⊥ }
+    ensures { (encode : Spelling) (texts : List (List ℕ)) → (Sound encode texts → ⊥)
+        → ((place : ℕ) (rule : Rule) → IsUnsound encode texts place rule → ⊥) → ⊥ }
 {}
 
 /// No text is sound and breaks a rule.
 pub fn a_sound_text_breaks_no_rule()
-    ensures { (spell : Spelling) (texts : List (List ℕ)) (place : ℕ) (rule : Rule)
-        → Sound spell texts → IsUnsound spell texts place rule → ⊥ }
+    ensures { (encode : Spelling) (texts : List (List ℕ)) (place : ℕ) (rule : Rule)
+        → Sound encode texts → IsUnsound encode texts place rule → ⊥ }
 {}
 
 /// A text that isn't sound has one place, and one rule that is reported for it.
 pub fn the_first_broken_rule_is_one()
-    ensures { (spell : Spelling) (texts : List (List ℕ)) (place other : ℕ) (rule next : Rule)
-        → IsUnsound spell texts place rule → IsUnsound spell texts other next
+    ensures { (encode : Spelling) (texts : List (List ℕ)) (place other : ℕ) (rule next : Rule)
+        → IsUnsound encode texts place rule → IsUnsound encode texts other next
         → (place ≡ other) × (rule ≡ next) }
 {}
 
@@ -44,31 +44,31 @@ pub fn texts_tell_lines_apart()
 /// In a sound transcript the packets that were delivered on a bearer and direction are a prefix of those that were offered there, each once and
 /// in order, whatever the line `next` is that is looked at.
 pub fn deliveries_are_a_prefix()
-    ensures { (spell : Spelling) (key : EntityKey) (next : TextLine) (past : List TextLine) → AreSound spell past
+    ensures { (encode : Spelling) (key : EntityKey) (next : TextLine) (past : List TextLine) → AreSound encode past
         → (more : List (List ℕ)) × (offered key (accepted next past) ≡ delivered key past ++ more) }
 {}
 
 /// Where a sound transcript says that a bearer is quiet, all was delivered that was offered there, in both directions.
 pub fn a_quiet_bearer_has_delivered_all()
-    ensures { (spell : Spelling) (past : List TextLine) (ue : UeId) (bearer : BearerId) (downlink uplink : ℕ)
-        → AreSound spell (Printed (Quiet ue bearer downlink uplink) ∷ past) → (dir : Dir)
+    ensures { (encode : Spelling) (past : List TextLine) (ue : UeId) (bearer : BearerId) (downlink uplink : ℕ)
+        → AreSound encode (Printed (Quiet ue bearer downlink uplink) ∷ past) → (dir : Dir)
         → delivered (record { ue = ue; bearer = bearer; dir = dir }) past
         ≡ offered (record { ue = ue; bearer = bearer; dir = dir }) (accepted (Printed (Quiet ue bearer downlink uplink)) past) }
 {}
 
 /// The transcript of the first packet of a static terminal is sound.
 pub fn the_first_packet_is_sound()
-    ensures { (spell : Spelling) → Sound spell first_packet }
+    ensures { (encode : Spelling) → Sound encode first_packet }
 {}
 
 /// For each rule there is a text that breaks it and none before it, at the place that is reported.
 pub fn each_rule_can_be_broken()
-    ensures form { (spell : Spelling) → IsUnsound spell counts_no_event 1 rules.Form }
-    ensures wire { (spell : Spelling) → IsUnsound spell takes_nothing 2 rules.Wire }
-    ensures packet { (spell : Spelling) → IsUnsound spell puts_for_nobody 2 rules.Packet }
-    ensures count { (spell : Spelling) → IsUnsound spell delivers_no_offer 2 rules.Count }
-    ensures order { (spell : Spelling) → IsUnsound spell is_quiet_without_offers 2 rules.Order }
-    ensures seen { (spell : Spelling) → IsUnsound spell delivers_unseen 3 rules.Seen }
+    ensures form { (encode : Spelling) → IsUnsound encode counts_no_event 1 rules.Form }
+    ensures wire { (encode : Spelling) → IsUnsound encode takes_nothing 2 rules.Wire }
+    ensures packet { (encode : Spelling) → IsUnsound encode puts_for_nobody 2 rules.Packet }
+    ensures count { (encode : Spelling) → IsUnsound encode delivers_no_offer 2 rules.Count }
+    ensures order { (encode : Spelling) → IsUnsound encode is_quiet_without_offers 2 rules.Order }
+    ensures seen { (encode : Spelling) → IsUnsound encode delivers_unseen 3 rules.Seen }
     ensures spelling { IsUnsound (λ control. []) spells_nothing 2 rules.Spelling }
-    ensures end { (spell : Spelling) → IsUnsound spell ends_early 2 rules.End }
+    ensures end { (encode : Spelling) → IsUnsound encode ends_early 2 rules.End }
 {}

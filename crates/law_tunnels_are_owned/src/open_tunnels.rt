@@ -11,7 +11,7 @@ ghost use Rattle.scenario_text.specs.declared.event.Event.{Event};
 ghost use Rattle.std.specs.Prelude.{List, Some, ℕ, ◌≡◌};
 ghost use Rattle.unit_defs.specs.CuUp.{cu_up_acts};
 ghost use Rattle.unit_defs.specs.Du.{Du, du_acts};
-ghost use Rattle.unit_defs.specs.UpRecords.{CuUp};
+ghost use Rattle.unit_defs.specs.CuUpRecords.{CuUp};
 ghost use Rattle.unit_defs.specs.octet_defs.Codec.{Codec};
 ghost use Rattle.unit_defs.specs.Ways.{Input, Load, Message, Pdu, Way};
 

@@ -1,7 +1,7 @@
 //! Laws of the owners of tunnels. Each function does nothing: its contract is the law.
 
 ghost use Rattle.proof_run_steps.specs.steps.Reached.{reached};
-ghost use Rattle.law_tunnels_are_owned.specs.owner_facts.Owned.{up_names, du_names, UpOwns, DuOwns, AreOwned};
+ghost use Rattle.law_tunnels_are_owned.specs.owner_facts.Owned.{cu_up_names, du_names, CuUpOwns, DuOwns, AreOwned};
 ghost use Rattle.proof_unit_steps.specs.answers.After.{HoldsAfter};
 ghost use Rattle.message_types.specs.declared.rrc.Token.{Token};
 ghost use Rattle.run_defs.specs.Runs.{plain_world, Reading};
@@ -12,7 +12,7 @@ ghost use Rattle.scenario_text.specs.declared.event.Event.{Event};
 ghost use Rattle.std.specs.Prelude.{List, Some, ℕ, ◌≡◌, true};
 ghost use Rattle.unit_defs.specs.CuUp.{cu_up_acts};
 ghost use Rattle.unit_defs.specs.Du.{Du, DuTunnel, du_acts};
-ghost use Rattle.unit_defs.specs.UpRecords.{CuUp, UpTunnel};
+ghost use Rattle.unit_defs.specs.CuUpRecords.{CuUp, CuUpTunnel};
 ghost use Rattle.unit_defs.specs.octet_defs.Codec.{Codec};
 ghost use Rattle.unit_defs.specs.Ways.{Input, Load, Message, Pdu, Way};
 
@@ -20,9 +20,9 @@ ghost use Rattle.unit_defs.specs.Ways.{Input, Load, Message, Pdu, Way};
 /// input; so no TEID is ever named twice.
 pub fn a_cu_up_keeps_owners<M, C, P>()
     ensures keeps { (way : Way M C P) (r : CuUp M C) (input : Input C P)
-        → UpOwns r → HoldsAfter UpOwns (cu_up_acts way r input) }
-    ensures once { (r : CuUp M C) → UpOwns r → (teid : ℕ) (a b : UpTunnel)
-        → up_names r.contexts a teid ≡ true → up_names r.contexts b teid ≡ true → a ≡ b }
+        → CuUpOwns r → HoldsAfter CuUpOwns (cu_up_acts way r input) }
+    ensures once { (r : CuUp M C) → CuUpOwns r → (teid : ℕ) (a b : CuUpTunnel)
+        → cu_up_names r.contexts a teid ≡ true → cu_up_names r.contexts b teid ≡ true → a ≡ b }
 {}
 
 /// The same of a DU.

@@ -1,6 +1,6 @@
 pub mod local_packets
 pub mod local_lengths
 pub mod local
-pub mod cp_interfaces
+pub mod cu_cp_interfaces
 pub mod run_interfaces
 pub mod local_interfaces

@@ -2,7 +2,7 @@
 //! contract is the law.
 
 ghost use Rattle.gnb_types.specs.declared.names.NodeId.{NodeId};
-ghost use Rattle.law_units_act_locally.specs.cp_interfaces.Interfaces.{IsOf};
+ghost use Rattle.law_units_act_locally.specs.cu_cp_interfaces.Interfaces.{IsOf};
 ghost use Rattle.law_units_act_locally.specs.local.Offered.{OffersHaveOctets};
 ghost use Rattle.law_units_act_locally.specs.local_interfaces.Example.{to_the_core};
 ghost use Rattle.message_types.specs.declared.rrc.Token.{Token};

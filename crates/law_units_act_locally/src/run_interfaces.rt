@@ -1,9 +1,9 @@
 //! Laws of the interfaces of control messages in any run. Each function does nothing: its contract is the law.
 
 ghost use Rattle.gnb_types.specs.declared.names.NodeId.{NodeId};
-ghost use Rattle.law_units_act_locally.specs.cp_interfaces.Interfaces.{Interface, Joins};
+ghost use Rattle.law_units_act_locally.specs.cu_cp_interfaces.Interfaces.{Interface, Joins};
 ghost use Rattle.proof_run_steps.specs.steps.Reached.{reached};
-ghost use Rattle.law_units_act_locally.specs.run_interfaces.Lines.{AreOf, IsLetterOf};
+ghost use Rattle.law_units_act_locally.specs.run_interfaces.Lines.{AreOf, IsControlMessageOf};
 ghost use Rattle.message_types.specs.declared.rrc.Token.{Token};
 ghost use Rattle.run_defs.specs.Runs.{plain_world, Reading, Run};
 ghost use Rattle.run_defs.specs.States.{new_state, State};
@@ -13,7 +13,7 @@ ghost use Rattle.unit_defs.specs.Ways.{Load, Message, Pdu};
 ghost use Rattle.scenario_text.specs.declared.event.Event.{Event};
 ghost use Rattle.std.specs.List.{AllByRecursion};
 ghost use Rattle.std.specs.Prelude.{List, Some, true, ℕ, ◌≡◌};
-ghost use Rattle.transport_defs.specs.declared.Letter.{Letter};
+ghost use Rattle.transport_defs.specs.declared.ControlMessage.{ControlMessage};
 
 /// In every run of the whole base station, for every list of events: each control message that is put is of the interface between
 /// the node that puts it and the one to which it goes. So it is of each line, also of an event at which the run stops.
@@ -26,7 +26,7 @@ pub fn all_messages_are_of_their_interfaces()
     ensures { (reading : Reading) (events : List Event)
         (t : State (Message Token) Token (Written (Load Pdu)) (Written Pdu))
         → reached (plain_world reading) events new_state ≡ Some t
-        → AllByRecursion (λ (e : ℕ × Letter (Message Token)). IsLetterOf e.1) t.bag.letters }
+        → AllByRecursion (λ (e : ℕ × ControlMessage (Message Token)). IsControlMessageOf e.1) t.bag.control_messages }
 {}
 
 /// Two nodes that an interface joins share one, as the units' own test has it.

@@ -1,3 +1,3 @@
 pub mod uplink
-pub mod gone
+pub mod after_release
 pub mod closing

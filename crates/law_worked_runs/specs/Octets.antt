@@ -16,7 +16,7 @@ use Rattle.law_worked_runs.specs.Short.{Worked}
 use Rattle.law_worked_runs.specs.PlainCodec.{plain_codec}
 
 abbrev pub message_in : RunLine (Message Token) → List (Message Token)
-message_in (put_message number letter) = letter.message ∷ []
+message_in (put_message number control_message) = control_message.message ∷ []
 message_in line = []
 
 abbrev pub codec_of : Worked → Codec

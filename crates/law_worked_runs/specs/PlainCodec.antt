@@ -236,7 +236,7 @@ plain_codec messages faults items =
     let written = map (with_containers of_token) messages in
     let said = flat_map token_in written in
     record {
-      spell = of_message;
+      encode = of_message;
       read = λ from to octets. fault_or (found faults octets) (message_among written octets);
       read_token = token_among said;
       read_item = λ link sn octets. item_or (found items octets) (item_of link sn octets);

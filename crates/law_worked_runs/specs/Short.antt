@@ -17,7 +17,7 @@ use Rattle.gnb_types.specs.declared.reasons.DropReason.{DropReason}
 use Rattle.message_types.specs.declared.rrc.Token.{Token}
 use Rattle.unit_defs.specs.Ways.{Message}
 use Rattle.scenario_text.specs.declared.event.Event.{Event}
-use Rattle.run_defs.specs.Lines.{RunLine, Letter}
+use Rattle.run_defs.specs.Lines.{RunLine, ControlMessage}
 use Rattle.run_defs.specs.States.{Stop}
 use Rattle.run_defs.specs.Runs.{Reading, Run, lines_of}
 
@@ -45,7 +45,7 @@ pe gnb up = record { gnb = gnb; up = up }
 abbrev pub plan : ℕ → Gnb → ℕ → ℕ → SnBits → ℕ → ℕ → Plan
 plan u gnb up du sn bearers quota = record { ue = ue u; gnb = gnb; up = up; du = du; sn = sn; bearers = bearers; quota = quota }
 
-abbrev pub le : NodeId → NodeId → ℕ → Message Token → Letter (Message Token)
+abbrev pub le : NodeId → NodeId → ℕ → Message Token → ControlMessage (Message Token)
 le from to u message = record { from = from; to = to; ue = u; message = message }
 
 -- an event with its lines

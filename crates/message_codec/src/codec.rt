@@ -6,8 +6,8 @@ ghost use Rattle.profile.specs.profile_module.Profiles.{IsBuiltin};
 ghost use Rattle.message_codec_defs.specs.Codecs.{read_between};
 ghost use Rattle.unit_messages.specs.Messages.{answer_as};
 
+use crate::encoding::{spell_core, spell_e1, spell_f1, spell_token, spell_xn};
 use crate::reading::{read_core, read_e1, read_f1, read_rrc, read_xn, token_in};
-use crate::spelling::{spell_core, spell_e1, spell_f1, spell_token, spell_xn};
 use gnb_types::names::NodeId;
 use gnb_types::octets::{Memory, Octets};
 use gnb_types::reasons::DropReason;
@@ -94,7 +94,7 @@ impl MessageCodec for ProfileCodec {
 
     ghost codec = { profile_codec };
 
-    fn spell(&self, alloc: Global, message: &Message) -> Result<Octets, Memory> {
+    fn encode(&self, alloc: Global, message: &Message) -> Result<Octets, Memory> {
         match message {
             Message::F1(message) => spell_f1(alloc, &self.profile, message),
             Message::E1(message) => spell_e1(alloc, &self.profile, message),

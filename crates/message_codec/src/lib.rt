@@ -2,7 +2,7 @@
 #![tactic(auto)]
 
 mod codec;
+mod encoding;
 mod reading;
-mod spelling;
 
 pub use codec::ProfileCodec;

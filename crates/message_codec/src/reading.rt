@@ -3,11 +3,11 @@
 ghost use Rattle.std.specs.Prelude.{◌≡◌, Some, IfOk};
 ghost use Rattle.profile.specs.Versions.{number_of};
 ghost use Rattle.message_defs.specs.profile_defs.Profile.{f1_type, e1_type, xn_type, core_type, token_type};
-ghost use Rattle.message_defs.specs.F1.{heard_f1};
-ghost use Rattle.message_defs.specs.E1.{heard_e1};
-ghost use Rattle.message_defs.specs.Xn.{heard_xn};
-ghost use Rattle.message_defs.specs.Core.{heard_core};
-ghost use Rattle.message_defs.specs.Tokens.{heard_token};
+ghost use Rattle.message_defs.specs.F1.{f1_from_value};
+ghost use Rattle.message_defs.specs.E1.{e1_from_value};
+ghost use Rattle.message_defs.specs.Xn.{xn_from_value};
+ghost use Rattle.message_defs.specs.Core.{core_from_value};
+ghost use Rattle.message_defs.specs.Tokens.{token_from_value};
 ghost use Rattle.message_octets.specs.Reading.{read_as};
 ghost use Rattle.unit_defs.specs.Ways.{f1, e1, xn, core, rrc};
 ghost use Rattle.message_codec_defs.specs.Codecs.{answered, token_of};
@@ -41,7 +41,7 @@ pub(crate) fn read_f1(
     profile: &Profile,
     octets: &[u8],
 ) -> Result<Result<Message, DropReason>, Memory>
-    ensures { IfOk result (λ answer. answer_as answer ≡ answered f1 (read_as f1_type heard_f1 octets.now)) }
+    ensures { IfOk result (λ answer. answer_as answer ≡ answered f1 (read_as f1_type f1_from_value octets.now)) }
 {
     match f1_octets::from_bytes(alloc, profile, octets) {
         Ok(message) => Ok(Ok(Message::F1(message))),
@@ -55,7 +55,7 @@ pub(crate) fn read_e1(
     profile: &Profile,
     octets: &[u8],
 ) -> Result<Result<Message, DropReason>, Memory>
-    ensures { IfOk result (λ answer. answer_as answer ≡ answered e1 (read_as e1_type heard_e1 octets.now)) }
+    ensures { IfOk result (λ answer. answer_as answer ≡ answered e1 (read_as e1_type e1_from_value octets.now)) }
 {
     match e1_octets::from_bytes(alloc, profile, octets) {
         Ok(message) => Ok(Ok(Message::E1(message))),
@@ -69,7 +69,7 @@ pub(crate) fn read_xn(
     profile: &Profile,
     octets: &[u8],
 ) -> Result<Result<Message, DropReason>, Memory>
-    ensures { IfOk result (λ answer. answer_as answer ≡ answered xn (read_as (xn_type (number_of profile.now.version)) heard_xn octets.now)) }
+    ensures { IfOk result (λ answer. answer_as answer ≡ answered xn (read_as (xn_type (number_of profile.now.version)) xn_from_value octets.now)) }
 {
     match xn_octets::from_bytes(alloc, profile, octets) {
         Ok(message) => Ok(Ok(Message::Xn(message))),
@@ -83,7 +83,7 @@ pub(crate) fn read_core(
     profile: &Profile,
     octets: &[u8],
 ) -> Result<Result<Message, DropReason>, Memory>
-    ensures { IfOk result (λ answer. answer_as answer ≡ answered core (read_as core_type heard_core octets.now)) }
+    ensures { IfOk result (λ answer. answer_as answer ≡ answered core (read_as core_type core_from_value octets.now)) }
 {
     match core_octets::from_bytes(alloc, profile, octets) {
         Ok(message) => Ok(Ok(Message::Core(message))),
@@ -97,7 +97,7 @@ pub(crate) fn read_rrc(
     profile: &Profile,
     octets: &[u8],
 ) -> Result<Result<Message, DropReason>, Memory>
-    ensures { IfOk result (λ answer. answer_as answer ≡ answered rrc (read_as token_type heard_token octets.now)) }
+    ensures { IfOk result (λ answer. answer_as answer ≡ answered rrc (read_as token_type token_from_value octets.now)) }
 {
     match token_octets::from_bytes(alloc, profile, octets) {
         Ok(message) => Ok(Ok(Message::Rrc(message))),
@@ -111,7 +111,7 @@ pub(crate) fn token_in(
     profile: &Profile,
     octets: &[u8],
 ) -> Result<Option<Token>, Memory>
-    ensures { IfOk result (λ token. token ≡ token_of (read_as token_type heard_token octets.now)) }
+    ensures { IfOk result (λ token. token ≡ token_of (read_as token_type token_from_value octets.now)) }
 {
     match token_octets::from_bytes(alloc, profile, octets) {
         Ok(token) => Ok(Some(token)),

@@ -10,11 +10,11 @@ use Rattle.unit_defs.specs.Ways.{Message, f1, e1, xn, core, rrc}
 use Rattle.unit_defs.specs.octet_defs.Codec.{Codec}
 use Rattle.aper_defs.specs.octet_defs.Octets.{spelled_as}
 use Rattle.message_defs.specs.profile_defs.Profile.{f1_type, e1_type, xn_type, core_type, token_type}
-use Rattle.message_defs.specs.F1.{written_f1, heard_f1}
-use Rattle.message_defs.specs.E1.{written_e1, heard_e1}
-use Rattle.message_defs.specs.Xn.{written_xn, heard_xn}
-use Rattle.message_defs.specs.Core.{written_core, heard_core}
-use Rattle.message_defs.specs.Tokens.{written_token, heard_token}
+use Rattle.message_defs.specs.F1.{written_f1, f1_from_value}
+use Rattle.message_defs.specs.E1.{written_e1, e1_from_value}
+use Rattle.message_defs.specs.Xn.{written_xn, xn_from_value}
+use Rattle.message_defs.specs.Core.{written_core, core_from_value}
+use Rattle.message_defs.specs.Tokens.{written_token, token_from_value}
 use Rattle.message_octets.specs.Reading.{read_as}
 use Rattle.link_defs.specs.read_defs.Items.{item_on}
 use Rattle.link_defs.specs.read_defs.Pdus.{pdu_on}
@@ -35,15 +35,15 @@ answered as_message (Ok message) = Ok (as_message message)
 answered as_message (Err reason) = Err reason
 
 abbrev pub read_between : NodeId → NodeId → List ℕ → Result (Message (List ℕ)) DropReason
-read_between (CuCp g) (Du h n) octets = answered f1 (read_as f1_type heard_f1 octets)
-read_between (Du h n) (CuCp g) octets = answered f1 (read_as f1_type heard_f1 octets)
-read_between (CuCp g) (CuUp h n) octets = answered e1 (read_as e1_type heard_e1 octets)
-read_between (CuUp h n) (CuCp g) octets = answered e1 (read_as e1_type heard_e1 octets)
-read_between (CuCp g) (CuCp h) octets = answered xn (read_as (xn_type 1) heard_xn octets)
-read_between (CuCp g) Core octets = answered core (read_as core_type heard_core octets)
-read_between Core (CuCp g) octets = answered core (read_as core_type heard_core octets)
-read_between (Ue u) (Du h n) octets = answered rrc (read_as token_type heard_token octets)
-read_between (Du h n) (Ue u) octets = answered rrc (read_as token_type heard_token octets)
+read_between (CuCp g) (Du h n) octets = answered f1 (read_as f1_type f1_from_value octets)
+read_between (Du h n) (CuCp g) octets = answered f1 (read_as f1_type f1_from_value octets)
+read_between (CuCp g) (CuUp h n) octets = answered e1 (read_as e1_type e1_from_value octets)
+read_between (CuUp h n) (CuCp g) octets = answered e1 (read_as e1_type e1_from_value octets)
+read_between (CuCp g) (CuCp h) octets = answered xn (read_as (xn_type 1) xn_from_value octets)
+read_between (CuCp g) Core octets = answered core (read_as core_type core_from_value octets)
+read_between Core (CuCp g) octets = answered core (read_as core_type core_from_value octets)
+read_between (Ue u) (Du h n) octets = answered rrc (read_as token_type token_from_value octets)
+read_between (Du h n) (Ue u) octets = answered rrc (read_as token_type token_from_value octets)
 read_between from to octets = Err Unexpected
 
 abbrev pub token_of : Result Token DropReason → Option Token
@@ -53,9 +53,9 @@ token_of (Err reason) = None
 -- ---- the codec
 abbrev pub profile_codec : Codec
 profile_codec = record {
-  spell = octets_of_message;
+  encode = octets_of_message;
   read = λ from to octets. within_ranges (read_between from to octets);
-  read_token = λ octets. token_of (read_as token_type heard_token octets);
+  read_token = λ octets. token_of (read_as token_type token_from_value octets);
   read_item = item_on;
   read_pdu = pdu_on;
 }

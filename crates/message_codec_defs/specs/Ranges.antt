@@ -8,7 +8,7 @@ use Rattle.gnb_types.specs.declared.reasons.DropReason.TheVariants.{Undecodable}
 use Rattle.message_types.specs.declared.e1.E1Message.{E1Message}
 use Rattle.message_types.specs.declared.e1.E1Message.TheVariants as e1s
 use Rattle.unit_defs.specs.Ways.{Message, e1}
-use Rattle.unit_defs.specs.UpBearers.{bits_in}
+use Rattle.unit_defs.specs.CuUpBearers.{bits_in}
 
 abbrev pub is_short : SnStatus → Bool
 is_short s = nat_le (length (bits_in s.ul_received)) 4096

@@ -10,7 +10,7 @@ use Rattle.message_defs.specs.profile_defs.Profile.{core_type}
 use Rattle.message_defs.specs.Fields.{from_number, from_peer, from_tunnels, from_ue, to_number, to_peer, to_tunnels, to_ue}
 use Rattle.message_defs.specs.Places.{has, written_message, the, elements_in}
 use Rattle.message_defs.specs.Known.{Says}
-use Rattle.message_defs.specs.Heard.{Cause, unknown_procedure, heard_as}
+use Rattle.message_defs.specs.FromValue.{Cause, unknown_procedure, from_value_as}
 
 unfoldable pub written_core : CoreMessage → Value
 written_core (cores.PathSwitchRequest ue instance peer n3) = written_message path_switch_request
@@ -24,13 +24,13 @@ SaysCore msg v = Says core_type (written_core msg) v
 
 unfoldable pub core_at : (index code criticality : ℕ) → Ies → Result CoreMessage Cause
 core_at index code criticality found =
-    if is_at code index path_switch_request then heard_as path_switch_request found
+    if is_at code index path_switch_request then from_value_as path_switch_request found
     (cores.PathSwitchRequest (the ies.ue to_ue found) (the ies.instance to_number found) (the ies.peer to_peer found)
     (the ies.n3 to_tunnels found))
-    else if is_at code index path_switch_acknowledge then heard_as path_switch_acknowledge found
+    else if is_at code index path_switch_acknowledge then from_value_as path_switch_acknowledge found
     (cores.PathSwitchAcknowledge (the ies.ue to_ue found) (the ies.instance to_number found))
     else Err (unknown_procedure code criticality)
 
-unfoldable pub heard_core : Value → Result CoreMessage Cause
-heard_core (message index code criticality body) = core_at index code criticality (elements_in body)
-heard_core v = Err (unknown_procedure 0 0)
+unfoldable pub core_from_value : Value → Result CoreMessage Cause
+core_from_value (message index code criticality body) = core_at index code criticality (elements_in body)
+core_from_value v = Err (unknown_procedure 0 0)

@@ -10,7 +10,7 @@ use Rattle.message_defs.specs.profile_defs.Profile.{e1_type}
 use Rattle.message_defs.specs.Fields.{from_number, from_peer, from_sn, from_statuses, from_tunnels, from_ue, to_flag, to_index, to_number, to_peer, to_sn, to_statuses, to_text, to_tunnels, to_ue}
 use Rattle.message_defs.specs.Places.{has, may_have, written_message, the, any, elements_in}
 use Rattle.message_defs.specs.Known.{Says}
-use Rattle.message_defs.specs.Heard.{Cause, unknown_procedure, heard_as}
+use Rattle.message_defs.specs.FromValue.{Cause, unknown_procedure, from_value_as}
 
 unfoldable pub written_e1 : E1Message → Value
 written_e1 (e1s.E1SetupRequest instance name) = written_message e1_setup_request
@@ -49,38 +49,38 @@ SaysE1 msg v = Says e1_type (written_e1 msg) v
 
 unfoldable pub e1_at : (index code criticality : ℕ) → Ies → Result E1Message Cause
 e1_at index code criticality found =
-    if is_at code index e1_setup_request then heard_as e1_setup_request found
+    if is_at code index e1_setup_request then from_value_as e1_setup_request found
     (e1s.E1SetupRequest (the ies.instance to_number found) (the ies.name to_text found))
-    else if is_at code index e1_setup_response then heard_as e1_setup_response found
+    else if is_at code index e1_setup_response then from_value_as e1_setup_response found
     (e1s.E1SetupResponse (the ies.instance to_number found))
-    else if is_at code index bearer_context_setup_request then heard_as bearer_context_setup_request found
+    else if is_at code index bearer_context_setup_request then from_value_as bearer_context_setup_request found
     (e1s.BearerContextSetupRequest (the ies.ue to_ue found) (the ies.instance to_number found)
     (the ies.bearers to_number found) (the ies.sn to_sn found) (the ies.quota to_number found)
     (the ies.forward to_flag found))
-    else if is_at code index bearer_context_setup_response then heard_as bearer_context_setup_response found
+    else if is_at code index bearer_context_setup_response then from_value_as bearer_context_setup_response found
     (e1s.BearerContextSetupResponse (the ies.ue to_ue found) (the ies.instance to_number found)
     (the ies.uplinks to_tunnels found) (the ies.n3 to_tunnels found) (any ies.forward_down to_tunnels found)
     (any ies.forward_up to_tunnels found))
-    else if is_at code index bearer_context_setup_failure then heard_as bearer_context_setup_failure found
+    else if is_at code index bearer_context_setup_failure then from_value_as bearer_context_setup_failure found
     (e1s.BearerContextSetupFailure (the ies.ue to_ue found) (the ies.instance to_number found) (the ies.cause to_index found))
-    else if is_at code index bearer_context_modification_request then heard_as bearer_context_modification_request found
+    else if is_at code index bearer_context_modification_request then from_value_as bearer_context_modification_request found
     (e1s.BearerContextModificationRequest (the ies.ue to_ue found) (the ies.instance to_number found)
     (any ies.downlinks to_tunnels found) (the ies.mode to_index found) (any ies.peer to_peer found)
     (any ies.forward_down to_tunnels found) (any ies.forward_up to_tunnels found) (any ies.statuses to_statuses found)
     (any ies.du to_number found))
-    else if is_at code index bearer_context_modification_response then heard_as bearer_context_modification_response found
+    else if is_at code index bearer_context_modification_response then from_value_as bearer_context_modification_response found
     (e1s.BearerContextModificationResponse (the ies.ue to_ue found) (the ies.instance to_number found)
     (any ies.uplinks to_tunnels found) (any ies.statuses to_statuses found))
-    else if is_at code index bearer_context_modification_failure then heard_as bearer_context_modification_failure found
+    else if is_at code index bearer_context_modification_failure then from_value_as bearer_context_modification_failure found
     (e1s.BearerContextModificationFailure (the ies.ue to_ue found) (the ies.instance to_number found)
     (the ies.cause to_index found))
-    else if is_at code index bearer_context_release_command then heard_as bearer_context_release_command found
+    else if is_at code index bearer_context_release_command then from_value_as bearer_context_release_command found
     (e1s.BearerContextReleaseCommand (the ies.ue to_ue found) (the ies.instance to_number found)
     (the ies.is_final to_flag found))
-    else if is_at code index bearer_context_release_complete then heard_as bearer_context_release_complete found
+    else if is_at code index bearer_context_release_complete then from_value_as bearer_context_release_complete found
     (e1s.BearerContextReleaseComplete (the ies.ue to_ue found) (the ies.instance to_number found))
     else Err (unknown_procedure code criticality)
 
-unfoldable pub heard_e1 : Value → Result E1Message Cause
-heard_e1 (message index code criticality body) = e1_at index code criticality (elements_in body)
-heard_e1 v = Err (unknown_procedure 0 0)
+unfoldable pub e1_from_value : Value → Result E1Message Cause
+e1_from_value (message index code criticality body) = e1_at index code criticality (elements_in body)
+e1_from_value v = Err (unknown_procedure 0 0)

@@ -10,7 +10,7 @@ use Rattle.message_defs.specs.profile_defs.Profile.{f1_type}
 use Rattle.message_defs.specs.Fields.{from_number, from_peer, from_sn, from_tunnels, from_ue, to_number, to_octets, to_peer, to_sn, to_text, to_tunnels, to_ue}
 use Rattle.message_defs.specs.Places.{has, written_message, the, elements_in}
 use Rattle.message_defs.specs.Known.{Says}
-use Rattle.message_defs.specs.Heard.{Cause, unknown_procedure, heard_as}
+use Rattle.message_defs.specs.FromValue.{Cause, unknown_procedure, from_value_as}
 
 abbrev pub F1Message : Type 0
 F1Message = F1 (List ℕ)
@@ -43,32 +43,32 @@ SaysF1 msg v = Says f1_type (written_f1 msg) v
 
 unfoldable pub f1_at : (index code criticality : ℕ) → Ies → Result F1Message Cause
 f1_at index code criticality found =
-    if is_at code index f1_setup_request then heard_as f1_setup_request found
+    if is_at code index f1_setup_request then from_value_as f1_setup_request found
     (f1s.F1SetupRequest (the ies.instance to_number found) (the ies.name to_text found))
-    else if is_at code index f1_setup_response then heard_as f1_setup_response found
+    else if is_at code index f1_setup_response then from_value_as f1_setup_response found
     (f1s.F1SetupResponse (the ies.instance to_number found))
-    else if is_at code index ue_context_setup_request then heard_as ue_context_setup_request found
+    else if is_at code index ue_context_setup_request then from_value_as ue_context_setup_request found
     (f1s.UeContextSetupRequest (the ies.ue to_ue found) (the ies.instance to_number found) (the ies.epoch to_number found)
     (the ies.uplinks to_tunnels found) (the ies.sn to_sn found) (the ies.peer to_peer found))
-    else if is_at code index ue_context_setup_response then heard_as ue_context_setup_response found
+    else if is_at code index ue_context_setup_response then from_value_as ue_context_setup_response found
     (f1s.UeContextSetupResponse (the ies.ue to_ue found) (the ies.instance to_number found)
     (the ies.downlinks to_tunnels found))
-    else if is_at code index ue_context_modification_request then heard_as ue_context_modification_request found
+    else if is_at code index ue_context_modification_request then from_value_as ue_context_modification_request found
     (f1s.UeContextModificationRequest (the ies.ue to_ue found) (the ies.instance to_number found)
     (the ies.epoch to_number found))
-    else if is_at code index ue_context_modification_response then heard_as ue_context_modification_response found
+    else if is_at code index ue_context_modification_response then from_value_as ue_context_modification_response found
     (f1s.UeContextModificationResponse (the ies.ue to_ue found) (the ies.instance to_number found)
     (the ies.downlinks to_tunnels found))
-    else if is_at code index ue_context_release_command then heard_as ue_context_release_command found
+    else if is_at code index ue_context_release_command then from_value_as ue_context_release_command found
     (f1s.UeContextReleaseCommand (the ies.ue to_ue found) (the ies.instance to_number found))
-    else if is_at code index ue_context_release_complete then heard_as ue_context_release_complete found
+    else if is_at code index ue_context_release_complete then from_value_as ue_context_release_complete found
     (f1s.UeContextReleaseComplete (the ies.ue to_ue found) (the ies.instance to_number found))
-    else if is_at code index dl_rrc_message_transfer then heard_as dl_rrc_message_transfer found
+    else if is_at code index dl_rrc_message_transfer then from_value_as dl_rrc_message_transfer found
     (f1s.DlRrcMessageTransfer (the ies.ue to_ue found) (the ies.container to_octets found))
-    else if is_at code index ul_rrc_message_transfer then heard_as ul_rrc_message_transfer found
+    else if is_at code index ul_rrc_message_transfer then from_value_as ul_rrc_message_transfer found
     (f1s.UlRrcMessageTransfer (the ies.ue to_ue found) (the ies.container to_octets found))
     else Err (unknown_procedure code criticality)
 
-unfoldable pub heard_f1 : Value → Result F1Message Cause
-heard_f1 (message index code criticality body) = f1_at index code criticality (elements_in body)
-heard_f1 v = Err (unknown_procedure 0 0)
+unfoldable pub f1_from_value : Value → Result F1Message Cause
+f1_from_value (message index code criticality body) = f1_at index code criticality (elements_in body)
+f1_from_value v = Err (unknown_procedure 0 0)

@@ -1,7 +1,7 @@
 pub mod Fields
 pub mod Known
 pub mod Places
-pub mod Heard
+pub mod FromValue
 pub mod F1
 pub mod E1
 pub mod Xn

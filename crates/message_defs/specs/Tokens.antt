@@ -7,7 +7,7 @@ use Rattle.aper_defs.specs.Values.{Value, Options, raw, enumeral, components, ch
 use Rattle.message_defs.specs.profile_defs.Profile.{token_type}
 use Rattle.message_defs.specs.Fields.{from_number, to_number, from_ue, to_ue, to_index, gnb_index, gnb_at}
 use Rattle.message_defs.specs.Known.{Says}
-use Rattle.message_defs.specs.Heard.{Cause, unknown_procedure}
+use Rattle.message_defs.specs.FromValue.{Cause, unknown_procedure}
 
 -- the alternatives, in their order
 abbrev pub command : ℕ
@@ -54,6 +54,6 @@ token_at index vs =
     else if index == accepted then Ok (tokens.Accepted (to_ue (component_in 0 vs)) (to_number (component_in 1 vs)))
     else Err (unknown_procedure 0 0)
 
-unfoldable pub heard_token : Value → Result Token Cause
-heard_token (chosen index body) = token_at index (components_in body)
-heard_token v = Err (unknown_procedure 0 0)
+unfoldable pub token_from_value : Value → Result Token Cause
+token_from_value (chosen index body) = token_at index (components_in body)
+token_from_value v = Err (unknown_procedure 0 0)

@@ -10,7 +10,7 @@ use Rattle.message_defs.specs.profile_defs.Profile.{xn_type}
 use Rattle.message_defs.specs.Fields.{from_number, from_peer, from_sn, from_statuses, from_tunnels, from_ue, to_index, to_number, to_peer, to_sn, to_statuses, to_tunnels, to_ue}
 use Rattle.message_defs.specs.Places.{has, written_message, the, elements_in, additions_in}
 use Rattle.message_defs.specs.Known.{Says}
-use Rattle.message_defs.specs.Heard.{Cause, unknown_procedure, heard_as}
+use Rattle.message_defs.specs.FromValue.{Cause, unknown_procedure, from_value_as}
 
 -- The name of the source is a named addition of HandoverRequest in version 2 of the profile. In version 1 it isn't named: there an addition
 -- is raw, so no value with one is read as a name, and no written value with a name is of the type. All else is the same in both.
@@ -46,26 +46,26 @@ SaysXn version msg v = Says (xn_type version) (written_xn msg) v
 
 unfoldable pub xn_at : (index code criticality : ℕ) → Ies → Options → Result XnMessage Cause
 xn_at index code criticality found more =
-    if is_at code index (handover_request 2) then heard_as (handover_request 2) found
+    if is_at code index (handover_request 2) then from_value_as (handover_request 2) found
     (xns.HandoverRequest (the ies.ue to_ue found) (the ies.instance to_number found) (the ies.epoch to_number found)
     (the ies.bearers to_number found) (the ies.sn to_sn found) (the ies.quota to_number found) (the ies.peer to_peer found)
     (the ies.du to_number found) (to_origin more))
-    else if is_at code index handover_request_acknowledge then heard_as handover_request_acknowledge found
+    else if is_at code index handover_request_acknowledge then from_value_as handover_request_acknowledge found
     (xns.HandoverRequestAcknowledge (the ies.ue to_ue found) (the ies.instance to_number found) (the ies.peer to_peer found)
     (the ies.forward_down to_tunnels found) (the ies.forward_up to_tunnels found))
-    else if is_at code index handover_preparation_failure then heard_as handover_preparation_failure found
+    else if is_at code index handover_preparation_failure then from_value_as handover_preparation_failure found
     (xns.HandoverPreparationFailure (the ies.ue to_ue found) (the ies.instance to_number found)
     (the ies.cause to_index found))
-    else if is_at code index sn_status_transfer then heard_as sn_status_transfer found
+    else if is_at code index sn_status_transfer then from_value_as sn_status_transfer found
     (xns.SnStatusTransfer (the ies.ue to_ue found) (the ies.instance to_number found) (the ies.statuses to_statuses found))
-    else if is_at code index handover_cancel then heard_as handover_cancel found
+    else if is_at code index handover_cancel then from_value_as handover_cancel found
     (xns.HandoverCancel (the ies.ue to_ue found) (the ies.instance to_number found))
-    else if is_at code index ue_context_release then heard_as ue_context_release found
+    else if is_at code index ue_context_release then from_value_as ue_context_release found
     (xns.UeContextRelease (the ies.ue to_ue found) (the ies.instance to_number found))
-    else if is_at code index transport_confirm then heard_as transport_confirm found
+    else if is_at code index transport_confirm then from_value_as transport_confirm found
     (xns.TransportConfirm (the ies.ue to_ue found) (the ies.instance to_number found))
     else Err (unknown_procedure code criticality)
 
-unfoldable pub heard_xn : Value → Result XnMessage Cause
-heard_xn (message index code criticality body) = xn_at index code criticality (elements_in body) (additions_in body)
-heard_xn v = Err (unknown_procedure 0 0)
+unfoldable pub xn_from_value : Value → Result XnMessage Cause
+xn_from_value (message index code criticality body) = xn_at index code criticality (elements_in body) (additions_in body)
+xn_from_value v = Err (unknown_procedure 0 0)

@@ -8,13 +8,13 @@ use Rattle.profile.specs.declared.version.Version.TheVariants.{One, Two}
 use Rattle.profile.specs.Versions.{number_of}
 use Rattle.message_defs.specs.profile_defs.Profile.{xn_type}
 use Rattle.message_types.specs.declared.xn.XnMessage.{XnMessage}
-use Rattle.message_defs.specs.Xn.{heard_xn}
+use Rattle.message_defs.specs.Xn.{xn_from_value}
 use Rattle.proof_messages.proofs.message_refusals.Types.{xn1, xn2}
 use Rattle.profile.specs.xn.Alike.{IsAlike}
 use Rattle.profile.proofs.xn.Spellings.{spells, spelled, same_decoded}
 use Rattle.message_octets.specs.declared.error.MsgError.{MsgError}
 use Rattle.message_octets.specs.declared.error.MsgError.TheVariants as errors
-use Rattle.message_octets.specs.Answers.{IsHeardIn}
+use Rattle.message_octets.specs.Answers.{IsFromValueIn}
 
 -- the first wrong field of refused octets, under either version
 pub xn_wrong : (version : Version) (octets : List ℕ) (fault : Fault) → decoded (xn_type (number_of version)) octets ≡ Err fault
@@ -23,8 +23,8 @@ xn_wrong One octets fault e = xn1 octets fault e
 xn_wrong Two octets fault e = xn2 octets fault e
 
 pub answered : (a b : Tree) → IsAlike a b → ((octets : List ℕ) (fault : Fault) → decoded b octets ≡ Err fault → WrongAt b octets fault)
-    → (octets : List ℕ) (result : Result XnMessage MsgError) → IsHeardIn a heard_xn octets result
-    → IsHeardIn b heard_xn octets result
+    → (octets : List ℕ) (result : Result XnMessage MsgError) → IsFromValueIn a xn_from_value octets result
+    → IsFromValueIn b xn_from_value octets result
 answered a b alike wrong octets (Ok msg) h = (h.0, spells a b alike h.0 octets h.1, h.2)
 answered a b alike wrong octets (Err (errors.Refused bit reason path)) h = (
   record {

@@ -5,7 +5,7 @@ use Rattle.gnb_types.specs.declared.reasons.DropReason.TheVariants.{Undecodable,
 use Rattle.aper_defs.specs.Trees.{Tree}
 use Rattle.aper_defs.specs.Values.{Value}
 use Rattle.aper_defs.specs.Reading.{Fault, decoded}
-use Rattle.message_defs.specs.Heard.{Cause}
+use Rattle.message_defs.specs.FromValue.{Cause}
 use Rattle.message_octets.specs.declared.error.MsgError.{MsgError}
 use Rattle.message_octets.specs.declared.error.MsgError.TheVariants as errors
 
@@ -14,12 +14,12 @@ unless_dropped (Ok msg) = Ok msg
 unless_dropped (Err cause) = Err Criticality
 
 abbrev pub read_value : {M : Type 0} → (Value → Result M Cause) → Result Value Fault → Result M DropReason
-read_value heard (Ok v) = unless_dropped (heard v)
-read_value heard (Err fault) = Err Undecodable
+read_value from_value (Ok v) = unless_dropped (from_value v)
+read_value from_value (Err fault) = Err Undecodable
 
 -- the message that the octets say; or why a unit drops them: they spell no value of the type, or no message is heard in it
 abbrev pub read_as : {M : Type 0} → Tree → (Value → Result M Cause) → List ℕ → Result M DropReason
-read_as t heard octets = read_value heard (decoded t octets)
+read_as t from_value octets = read_value from_value (decoded t octets)
 
 -- This is read, by what was answered. Where memory ran out nothing is.
 abbrev pub IsReading : {M : Type 0} → Result M MsgError → Result M DropReason → Type 0

@@ -5,16 +5,16 @@ ghost use Rattle.aper_defs.specs.Bits.{octet_count};
 ghost use Rattle.aper_defs.specs.Membership.{Has};
 ghost use Rattle.aper_defs.specs.Spelling.{Spells, spelling_limit, whole_layout};
 ghost use Rattle.message_defs.specs.profile_defs.Profile.{core_type};
-ghost use Rattle.message_defs.specs.Core.{written_core, heard_core};
+ghost use Rattle.message_defs.specs.Core.{written_core, core_from_value};
 ghost use Rattle.profile.specs.types.Types.{IsTypeOf};
-ghost use Rattle.message_octets.specs.Answers.{IsHeardIn};
+ghost use Rattle.message_octets.specs.Answers.{IsFromValueIn};
 ghost use Rattle.message_octets.specs.Reading.{read_as, IsReading};
 
 use crate::error::MsgError;
 use aper::{decode, encode};
 use asn1_syntax::types::TypeId;
-use core_messages::hearing::heard;
-use core_messages::writing::written;
+use core_messages::reading::from_value;
+use core_messages::writing::to_value;
 use gnb_types::octets::{Memory, Octets};
 use message_types::CoreMessage;
 use profile::profile_module::Profile;
@@ -27,7 +27,7 @@ pub fn to_bytes(alloc: Global, profile: &Profile, msg: &CoreMessage) -> Result<O
     requires short { octet_count (whole_layout core_type (written_core msg.now)) ≤ spelling_limit }
     ensures { IfOk result (λ octets. Spells core_type (written_core msg.now) octets) }
 {
-    let value = written(alloc, msg)?;
+    let value = to_value(alloc, msg)?;
     let id = core_pdu(profile);
     let module = profile.module();
     let octets = encode(alloc, module, id, &value);
@@ -42,29 +42,29 @@ pub fn to_bytes(alloc: Global, profile: &Profile, msg: &CoreMessage) -> Result<O
 /// `Refused` where they spell no value of Core-PDU; `UnknownProcedure` where its code isn't in the set or has no such outcome; `UnknownIe`
 /// for the first information element that the message doesn't have and that has criticality reject (TS 38.413, 10.3); `Memory`.
 pub fn from_bytes(alloc: Global, profile: &Profile, octets: &[u8]) -> Result<CoreMessage, MsgError>
-    ensures heard { IsHeardIn core_type heard_core octets.now result }
-    ensures read { IsReading result (read_as core_type heard_core octets.now) }
+    ensures from_value { IsFromValueIn core_type core_from_value octets.now result }
+    ensures read { IsReading result (read_as core_type core_from_value octets.now) }
 {
     let id = core_pdu(profile);
     let module = profile.module();
     // A module that was read has types within the bounds of encodings, of which the laws of spellings speak.
     let _name = module.name();
-    heard_in(alloc, profile, id, octets)
+    from_value_in(alloc, profile, id, octets)
 }
 
 /// The message that octets say as a value of the module's own type.
-fn heard_in(
+fn from_value_in(
     alloc: Global,
     profile: &Profile,
     id: TypeId,
     octets: &[u8],
 ) -> Result<CoreMessage, MsgError>
     requires { IsTypeOf profile.now.syntax core_type id }
-    ensures { IsHeardIn core_type heard_core octets.now result }
+    ensures { IsFromValueIn core_type core_from_value octets.now result }
 {
     let module = profile.module();
     let value = decode(alloc, module, id, octets)?;
-    let message = heard(alloc, &value);
+    let message = from_value(alloc, &value);
     drop(value);
     Ok(message?)
 }

@@ -1,16 +1,16 @@
 //! The octets of messages of E1AP: the spellings of values of E1AP-PDU.
 
 ghost use Rattle.message_defs.specs.profile_defs.Profile.{e1_type};
-ghost use Rattle.message_defs.specs.E1.{heard_e1};
+ghost use Rattle.message_defs.specs.E1.{e1_from_value};
 ghost use Rattle.profile.specs.types.Types.{IsTypeOf};
-ghost use Rattle.message_octets.specs.Answers.{IsHeardIn};
+ghost use Rattle.message_octets.specs.Answers.{IsFromValueIn};
 ghost use Rattle.message_octets.specs.Reading.{read_as, IsReading};
 
 use crate::error::MsgError;
 use aper::decode;
 use asn1_syntax::types::TypeId;
-use e1_messages::hearing::heard;
 pub use e1_messages::octets::to_bytes;
+use e1_messages::reading::from_value;
 use message_types::E1Message;
 use profile::profile_module::Profile;
 use profile::types::e1_pdu;
@@ -23,29 +23,29 @@ use std::alloc::Global;
 /// `Refused` where they spell no value of E1AP-PDU; `UnknownProcedure` where its code isn't in the set or has no such outcome; `UnknownIe`
 /// for the first information element that the message doesn't have and that has criticality reject (TS 37.483, 10.3); `Memory`.
 pub fn from_bytes(alloc: Global, profile: &Profile, octets: &[u8]) -> Result<E1Message, MsgError>
-    ensures heard { IsHeardIn e1_type heard_e1 octets.now result }
-    ensures read { IsReading result (read_as e1_type heard_e1 octets.now) }
+    ensures from_value { IsFromValueIn e1_type e1_from_value octets.now result }
+    ensures read { IsReading result (read_as e1_type e1_from_value octets.now) }
 {
     let id = e1_pdu(profile);
     let module = profile.module();
     // A module that was read has types within the bounds of encodings, of which the laws of spellings speak.
     let _name = module.name();
-    heard_in(alloc, profile, id, octets)
+    from_value_in(alloc, profile, id, octets)
 }
 
 /// The message that octets say as a value of the module's own type.
-fn heard_in(
+fn from_value_in(
     alloc: Global,
     profile: &Profile,
     id: TypeId,
     octets: &[u8],
 ) -> Result<E1Message, MsgError>
     requires { IsTypeOf profile.now.syntax e1_type id }
-    ensures { IsHeardIn e1_type heard_e1 octets.now result }
+    ensures { IsFromValueIn e1_type e1_from_value octets.now result }
 {
     let module = profile.module();
     let value = decode(alloc, module, id, octets)?;
-    let message = heard(alloc, &value);
+    let message = from_value(alloc, &value);
     drop(value);
     Ok(message?)
 }

@@ -5,9 +5,9 @@ ghost use Rattle.aper_defs.specs.Bits.{octet_count};
 ghost use Rattle.aper_defs.specs.Membership.{Has};
 ghost use Rattle.aper_defs.specs.Spelling.{Spells, spelling_limit, whole_layout};
 ghost use Rattle.message_defs.specs.profile_defs.Profile.{token_type};
-ghost use Rattle.message_defs.specs.Tokens.{written_token, heard_token};
+ghost use Rattle.message_defs.specs.Tokens.{written_token, token_from_value};
 ghost use Rattle.profile.specs.types.Types.{IsTypeOf};
-ghost use Rattle.message_octets.specs.Answers.{IsHeardIn};
+ghost use Rattle.message_octets.specs.Answers.{IsFromValueIn};
 ghost use Rattle.message_octets.specs.Reading.{read_as, IsReading};
 
 use crate::error::MsgError;
@@ -17,8 +17,8 @@ use gnb_types::octets::{Memory, Octets};
 use message_types::Token;
 use profile::profile_module::Profile;
 use profile::types::rrc_token;
-use rrc_tokens::hearing::heard;
-use rrc_tokens::writing::written;
+use rrc_tokens::reading::from_value;
+use rrc_tokens::writing::to_value;
 use std::alloc::Global;
 
 /// The one spelling of a token, of at most 131,072 octets. Out of memory is the one error.
@@ -27,7 +27,7 @@ pub fn to_bytes(alloc: Global, profile: &Profile, token: Token) -> Result<Octets
     requires short { octet_count (whole_layout token_type (written_token token)) ≤ spelling_limit }
     ensures { IfOk result (λ octets. Spells token_type (written_token token) octets) }
 {
-    let value = written(alloc, token)?;
+    let value = to_value(alloc, token)?;
     let id = rrc_token(profile);
     let module = profile.module();
     let octets = encode(alloc, module, id, &value);
@@ -41,24 +41,29 @@ pub fn to_bytes(alloc: Global, profile: &Profile, token: Token) -> Result<Octets
 /// `Refused` where they spell no value of RrcToken; `UnknownProcedure`, with code 0 and criticality 0, for an alternative that isn't known;
 /// `Memory`.
 pub fn from_bytes(alloc: Global, profile: &Profile, octets: &[u8]) -> Result<Token, MsgError>
-    ensures heard { IsHeardIn token_type heard_token octets.now result }
-    ensures read { IsReading result (read_as token_type heard_token octets.now) }
+    ensures from_value { IsFromValueIn token_type token_from_value octets.now result }
+    ensures read { IsReading result (read_as token_type token_from_value octets.now) }
 {
     let id = rrc_token(profile);
     let module = profile.module();
     // A module that was read has types within the bounds of encodings, of which the laws of spellings speak.
     let _name = module.name();
-    heard_in(alloc, profile, id, octets)
+    from_value_in(alloc, profile, id, octets)
 }
 
 /// The token that octets say as a value of the module's own type.
-fn heard_in(alloc: Global, profile: &Profile, id: TypeId, octets: &[u8]) -> Result<Token, MsgError>
+fn from_value_in(
+    alloc: Global,
+    profile: &Profile,
+    id: TypeId,
+    octets: &[u8],
+) -> Result<Token, MsgError>
     requires { IsTypeOf profile.now.syntax token_type id }
-    ensures { IsHeardIn token_type heard_token octets.now result }
+    ensures { IsFromValueIn token_type token_from_value octets.now result }
 {
     let module = profile.module();
     let value = decode(alloc, module, id, octets)?;
-    let token = heard(&value);
+    let token = from_value(&value);
     drop(value);
     Ok(token?)
 }

@@ -2,4 +2,4 @@ pub mod Elements
 pub mod Parts
 pub mod Written
 pub mod Fitting
-pub mod Hearing
+pub mod Reading

@@ -5,7 +5,7 @@ ghost use Rattle.aper_values.specs.Views.{view, ies_view};
 ghost use Rattle.message_defs.specs.profile_defs.Elements as ies;
 ghost use Rattle.message_defs.specs.Fields.{to_number, to_ue, to_index, to_flag, to_octets, to_text, to_sn, to_peer, to_tunnels, to_statuses};
 ghost use Rattle.message_defs.specs.Places.{element_of, elements_in, the, any};
-ghost use Rattle.message_defs.specs.Heard.{first_rejected, is_used};
+ghost use Rattle.message_defs.specs.FromValue.{first_rejected, is_used};
 ghost use Rattle.message_values.specs.Elements.{element_named, use_of};
 ghost use Rattle.message_values.specs.Fitting.{IsFitting, AreFitting, limit_of};
 

@@ -22,7 +22,7 @@ use Rattle.packet_pool.specs.declared.contents.Content.{Content}
 use Rattle.packet_pool.specs.inside.Regions.{RegionState, octets_at, numbers_from}
 use Rattle.packet_pool.specs.inside.Accounts.{AccountsState, total}
 use Rattle.packet_pool.specs.inside.Contents.{joined, content_at, stored_from, stored_in, place_from, place_in, marked}
-use Rattle.packet_pool.specs.inside.Pools.{entry_before, entries, refs_of, places_of, state, named, IsTied}
+use Rattle.packet_pool.specs.inside.Pools.{entry_before, entries, refs_of, places_of, state, named, IsConsistent}
 use Rattle.packet_pool.proofs.RegionLemmas.{get_set, get_set_other}
 use Rattle.packet_pool.proofs.EntryLemmas.{entries_same, entries_put, entries_without}
 use Rattle.packet_pool.proofs.PoolLemmas.{content_set, content_set_other, content_within, find_refs, place_parked, place_unparked, stored_is, packet_found, held_block, pool_sound}
@@ -125,7 +125,7 @@ module _ (contents : List (Option Content)) (b : ℕ) (within : b < length conte
 entities_ordered : IsKeyOrder entity_cmp
 entities_ordered = record { total = entity_total; exact = entity_exact }
 
-same_table : (region : RegionState) (contents new : List (Option Content)) (accounts : AccountsState) → IsTied region contents accounts
+same_table : (region : RegionState) (contents new : List (Option Content)) (accounts : AccountsState) → IsConsistent region contents accounts
     → refs_of region.blocks new ≡ refs_of region.blocks contents → (key : EntityKey)
     → at entity_cmp 0 accounts.used key ≡ count_by (is_of key) (values_of (refs_of region.blocks new))
 same_table region contents new accounts tied same key =
@@ -141,8 +141,8 @@ slot_is contents b c has = by (slice_get contents b) has
 
 -- a mark changes nothing of this
 pub tied_marked : (region : RegionState) (contents : List (Option Content)) (accounts : AccountsState) (b : ℕ) (c : Content) (mark : Bool)
-    → IsTied region contents accounts → content_at contents b ≡ Some c
-    → IsTied region (set contents b (marked mark (content_at contents b))) accounts
+    → IsConsistent region contents accounts → content_at contents b ≡ Some c
+    → IsConsistent region (set contents b (marked mark (content_at contents b))) accounts
 tied_marked region contents accounts b c mark tied has =
     let size : length (set contents b (marked mark (content_at contents b))) ≡ length contents = length-set contents b (marked mark (content_at contents b)) in
     record {
@@ -333,11 +333,11 @@ within_put old quotas k v within here key =
 
 -- a packet is put into the first free block
 pub tied_put : (r0 r2 : RegionState) (contents : List (Option Content)) (a0 a1 : AccountsState) (b : ℕ) (c : Content)
-    → IsTied r0 contents a0 → r0.free ≡ b ∷ r2.free → length r2.blocks ≡ length r0.blocks
+    → IsConsistent r0 contents a0 → r0.free ≡ b ∷ r2.free → length r2.blocks ≡ length r0.blocks
     → ((n : ℕ) → n ≢ b → octets_at r2.blocks n ≡ octets_at r0.blocks n) → b < length contents → c.len ≤ 2048
     → a1.quotas ≡ a0.quotas → a1.used ≡ put entity_cmp a0.used c.key (at entity_cmp 0 a0.used c.key + 1)
     → total a1.used ≡ total a0.used + 1 → at entity_cmp 0 a0.used c.key < at entity_cmp 0 a0.quotas c.key
-    → IsTied r2 (set contents b (Some c)) a1
+    → IsConsistent r2 (set contents b (Some c)) a1
 unfolding used
 tied_put r0 r2 contents a0 a1 b c tied free blocks others within short quotas account whole room =
     let size : length (set contents b (Some c)) ≡ length contents = length-set contents b (Some c) in
@@ -382,7 +382,7 @@ pub content_got : (contents : List (Option Content)) (b : ℕ) (slot : Option Co
 content_got contents b slot within is = ap joined (slice_get-get_or contents b slot within ∙ ap Some (sym is))
 
 module _ (region : RegionState) (contents : List (Option Content)) (accounts : AccountsState) (b : ℕ) (c : Content)
-    (tied : IsTied region contents accounts) (held : IsSome (packet_of (state region contents accounts) b)) (has : content_at contents b ≡ Some c) where
+    (tied : IsConsistent region contents accounts) (held : IsSome (packet_of (state region contents accounts) b)) (has : content_at contents b ≡ Some c) where
   held_is : packet_of (state region contents accounts) b ≡ Some (record { key = c.key; bytes = take c.len (octets_at region.blocks b) })
   held_is =
       packet_found region contents accounts b (held_apart (state region contents accounts) b held) ∙ stored_is contents region.blocks b c has
@@ -403,7 +403,7 @@ module _ (region : RegionState) (contents : List (Option Content)) (accounts : A
   pub tied_take : (r1 : RegionState) (a1 : AccountsState) → r1.free ≡ b ∷ region.free → length r1.blocks ≡ length region.blocks
       → ((n : ℕ) → n ≢ b → octets_at r1.blocks n ≡ octets_at region.blocks n)
       → a1.quotas ≡ accounts.quotas → a1.used ≡ put entity_cmp accounts.used c.key (at entity_cmp 0 accounts.used c.key - 1)
-      → total a1.used + 1 ≡ total accounts.used → IsTied r1 (set contents b None) a1
+      → total a1.used + 1 ≡ total accounts.used → IsConsistent r1 (set contents b None) a1
   unfolding used
   tied_take r1 a1 free blocks others quotas account whole =
       let size : length (set contents b None) ≡ length contents = length-set contents b None in
@@ -501,7 +501,7 @@ places_none n =
 
 pub tied_new : (region : RegionState) (contents : List (Option Content)) (accounts : AccountsState) (n : ℕ)
     → length region.blocks ≡ n → region.free ≡ numbers_from 0 n → contents ≡ replicate n None → accounts.quotas ≡ [] → accounts.used ≡ []
-    → n ≤ 65536 → IsTied region contents accounts
+    → n ≤ 65536 → IsConsistent region contents accounts
 unfolding at find IsStrictlySortedBy
 tied_new region contents accounts n blocks free none quotas used_none limit =
     let size : length contents ≡ n = ap length none ∙ length-replicate n None in
@@ -535,9 +535,9 @@ new_state region contents accounts n none quotas =
 -- ---- a quota is set, or given up
 
 pub tied_reserved : (region : RegionState) (contents : List (Option Content)) (a0 a1 : AccountsState) (key : EntityKey) (n : ℕ)
-    → IsTied region contents a0 → find entity_cmp a0.quotas key ≡ None
+    → IsConsistent region contents a0 → find entity_cmp a0.quotas key ≡ None
     → a1.quotas ≡ put entity_cmp a0.quotas key n → a1.used ≡ put entity_cmp a0.used key 0 → IsSorted entity_cmp a1.quotas
-    → total a1.quotas ≤ length contents → total a1.used ≡ total a0.used → IsTied region contents a1
+    → total a1.quotas ≤ length contents → total a1.used ≡ total a0.used → IsConsistent region contents a1
 unfolding at
 tied_reserved region contents a0 a1 key n tied absent quotas account sorted fits whole =
     record {
@@ -572,9 +572,9 @@ tied_reserved region contents a0 a1 key n tied absent quotas account sorted fits
     within k false u q = omega (arith, tied.within k)
 
 pub tied_released : (region : RegionState) (contents : List (Option Content)) (a0 a1 : AccountsState) (key : EntityKey)
-    → IsTied region contents a0 → at entity_cmp 0 a0.used key ≡ 0
+    → IsConsistent region contents a0 → at entity_cmp 0 a0.used key ≡ 0
     → a1.quotas ≡ without entity_cmp a0.quotas key → a1.used ≡ without entity_cmp a0.used key → IsSorted entity_cmp a1.quotas
-    → total a1.quotas ≤ total a0.quotas → total a1.used ≡ total a0.used → IsTied region contents a1
+    → total a1.quotas ≤ total a0.quotas → total a1.used ≡ total a0.used → IsConsistent region contents a1
 tied_released region contents a0 a1 key tied nothing quotas account sorted fits whole =
     record {
       free_once = tied.free_once;
@@ -609,15 +609,15 @@ on_err (Ok x) P h = tt
 on_err (Err e) P h = h
 
 module _ {T E : Type 0} (region : RegionState) (contents : List (Option Content)) (a0 a1 : AccountsState) (key : EntityKey) (n : ℕ) where
-  pub tied_after : (r : Result T E) → IsTied region contents a0 → find entity_cmp a0.quotas key ≡ None
+  pub tied_after : (r : Result T E) → IsConsistent region contents a0 → find entity_cmp a0.quotas key ≡ None
       → OnOk r (a1.quotas ≡ put entity_cmp a0.quotas key n) → OnOk r (a1.used ≡ put entity_cmp a0.used key 0)
       → OnOk r (IsSorted entity_cmp a1.quotas) → OnOk r (total a0.quotas + n ≤ length contents)
       → OnOk r (total a1.quotas ≡ total a0.quotas + n) → OnOk r (total a1.used ≡ total a0.used) → OnErr r (a1 ≡ a0)
-      → IsTied region contents a1
+      → IsConsistent region contents a1
   tied_after (Ok x) tied absent quotas account sorted room whole same err =
       tied_reserved region contents a0 a1 key n tied absent quotas account sorted (omega (arith, room, whole)) same
   tied_after (Err e) tied absent quotas account sorted room whole same err =
-      subst (λ (a : AccountsState). IsTied region contents a) (sym err) tied
+      subst (λ (a : AccountsState). IsConsistent region contents a) (sym err) tied
 
 pub on_ok : {T E : Type 0} (r : Result T E) (P Q : Type 0) → OnOk r P → (P → Q) → OnOk r Q
 on_ok (Ok x) P Q h f = f h

@@ -15,7 +15,7 @@ use Rattle.packet_pool.specs.declared.contents.Content.{Content}
 use Rattle.packet_pool.specs.inside.Regions.{RegionState, octets_at}
 use Rattle.packet_pool.specs.inside.Accounts.{AccountsState}
 use Rattle.packet_pool.specs.inside.Contents.{joined, content_at, stored_from, stored_in, place_from, place_in}
-use Rattle.packet_pool.specs.inside.Pools.{entry_before, entries, refs_of, places_of, state, IsTied}
+use Rattle.packet_pool.specs.inside.Pools.{entry_before, entries, refs_of, places_of, state, IsConsistent}
 use Rattle.packet_pool.proofs.RegionLemmas.{get_set, get_set_other}
 use Rattle.packet_pool.proofs.EntryLemmas.{find_entries, entries_sorted, entries_all}
 
@@ -170,7 +170,7 @@ apart_entries f first (suc n) own = by (f first) refl (apart_entries f (suc firs
       rest,
     )
 
-pub pool_sound : (region : RegionState) (contents : List (Option Content)) (accounts : AccountsState) → IsTied region contents accounts
+pub pool_sound : (region : RegionState) (contents : List (Option Content)) (accounts : AccountsState) → IsConsistent region contents accounts
     → IsPool 2048 (state region contents accounts)
 unfolding used quota reserved
 pool_sound region contents accounts tied =

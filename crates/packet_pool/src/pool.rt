@@ -42,13 +42,13 @@ pub struct Pool {
 
 impl Model for Pool {
     ghost use Rattle.pdcp_defs.specs.pool_defs.Pools.{PoolState};
-    ghost use Rattle.packet_pool.specs.inside.Pools.{state, IsTied};
+    ghost use Rattle.packet_pool.specs.inside.Pools.{state, IsConsistent};
 
     ghost Value = { PoolState };
 
     ghost view = { λ p. state p.region p.contents.items p.accounts };
 
-    ghost invariant = { λ p. IsTied p.region p.contents.items p.accounts };
+    ghost invariant = { λ p. IsConsistent p.region p.contents.items p.accounts };
 }
 
 impl Pool {

@@ -1,3 +1,3 @@
-pub mod Downlinks
-pub mod Uplinks
+pub mod Receivers
+pub mod Senders
 pub mod inside

@@ -2,8 +2,8 @@
 //! delivered for it.
 
 mod blocks;
-pub mod downlink;
-pub mod uplink;
+pub mod receiver;
+pub mod sender;
 
-pub use downlink::{Delivered, Downlink, Reception};
-pub use uplink::{Counted, Numbered, Uplink};
+pub use receiver::{Delivered, Receiver, Reception};
+pub use sender::{Counted, Numbered, Sender};

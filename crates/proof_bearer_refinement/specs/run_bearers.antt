@@ -1,3 +1,3 @@
 pub mod Things
 pub mod Bearers
-pub use Rattle.proof_bearer_refinement.specs.law_run_units as law_run_units
+pub use Rattle.proof_bearer_refinement.specs.run_unit_inputs as run_unit_inputs

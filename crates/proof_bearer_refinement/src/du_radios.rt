@@ -1,18 +1,18 @@
 //! Laws of what a DU puts on the radio down of a bearer, in a run. Each function does nothing: its contract is the law.
 
-ghost use Rattle.bearer_defs.specs.chain_defs.Parts.{Part};
+ghost use Rattle.bearer_defs.specs.chain_defs.Models.{Model};
 ghost use Rattle.gnb_types.specs.declared.names.BearerId.{BearerId};
 ghost use Rattle.gnb_types.specs.declared.names.Gnb.{Gnb};
 ghost use Rattle.gnb_types.specs.declared.names.UeId.{UeId};
 ghost use Rattle.law_downlink_order.specs.path.Paths.{Frame, taken_by};
-ghost use Rattle.proof_node_orders.specs.du_inputs.Changes.{change_by, DuPart, part_of, takes};
+ghost use Rattle.proof_node_orders.specs.du_inputs.Changes.{change_by, DuModel, model_of, takes};
 ghost use Rattle.proof_node_orders.specs.du_puts.Inputs.{IsInOrder};
 ghost use Rattle.proof_bearer_refinement.specs.du_radios.Puts.{AreDown, packets_by};
-ghost use Rattle.proof_bearer_refinement.specs.put_ties.Puts.{IsDuStep};
-ghost use Rattle.proof_bearer_refinement.specs.radio_downs.Down.{down_key, packets_down};
+ghost use Rattle.proof_bearer_refinement.specs.du_puts.Puts.{IsDuStep};
+ghost use Rattle.proof_bearer_refinement.specs.downlink_radio.Down.{down_key, packets_down};
 ghost use Rattle.proof_run_steps.specs.radio_steps.Radios.{on_air};
-ghost use Rattle.proof_bearer_refinement.specs.radio_ties.Radio.{IsBeside, RunCause, RunState};
-ghost use Rattle.proof_bearer_refinement.specs.law_run_units.Happenings.{DuRecord};
+ghost use Rattle.proof_bearer_refinement.specs.uplink_radio.Radio.{IsFrameStep, RunCause, RunState};
+ghost use Rattle.proof_bearer_refinement.specs.run_unit_inputs.Happenings.{DuRecord};
 ghost use Rattle.proof_run_steps.specs.steps.Causes.{Stands};
 ghost use Rattle.message_types.specs.declared.rrc.Token.{Token};
 ghost use Rattle.run_defs.specs.Runs.{plain_way, Reading, taken_of};
@@ -33,7 +33,7 @@ pub fn a_du_puts_frames_on_the_radio()
         (outputs : List (Output (Message Token) Pdu)) (lengths : Lengths) (at : Option ℕ)
         → IsInOrder r ue → du_acts plain_way r input ≡ gives outputs left
         → packets_down (down_key ue bearer) at (map (written_put lengths) outputs)
-        ≡ packets_by at (change_by plain_way ue bearer r input) (part_of r ue bearer) }
+        ≡ packets_by at (change_by plain_way ue bearer r input) (model_of r ue bearer) }
     ensures frame { (ue : UeId) (bearer : BearerId) (r : DuRecord) (teid : ℕ) (poll restart : Bool)
         (number : ℕ) (pdu : Option Pdu)
         → find nat_cmp r.tunnels teid ≡ Some (record { ue = ue; bearer = bearer })
@@ -44,32 +44,32 @@ pub fn a_du_puts_frames_on_the_radio()
 
 /// Where what waits on a terminal's radio down is so, in the epoch of a DU's context, and so are the frames on the DU's tunnel, a step by
 /// which the DU takes the first of them leaves the radio and the other frames so, whatever the frame carries; and so does every step of a
-/// DU that puts nothing there. So nothing is owed of what a DU puts on that radio.
+/// DU that puts nothing there. So nothing is assumed of what a DU puts on that radio.
 pub fn a_du_keeps_the_radio_down()
     ensures takes { (reading : Reading) (event : Event) (s t : RunState) (ue : UeId)
-        (bearer : BearerId) (d : Part) (gnb : Gnb) (number : ℕ) (cause : RunCause)
+        (bearer : BearerId) (d : Model) (gnb : Gnb) (number : ℕ) (cause : RunCause)
         (input : Input Token Pdu) (outputs : List (Output (Message Token) Pdu)) (left : DuRecord)
-        (part : DuPart) (f : Frame) (rest : List Frame) (next needed : ℕ)
+        (part : DuModel) (f : Frame) (rest : List Frame) (next needed : ℕ)
         → IsInOrder (du_of s.units gnb number) ue → Stands event s cause
         → IsDuStep reading s t gnb number cause input outputs left
-        → IsBeside reading s t ue bearer cause (map (written_put (sn_of s)) outputs)
+        → IsFrameStep reading s t ue bearer cause (map (written_put (sn_of s)) outputs)
         (with_du s.units gnb number left)
-        → part_of (du_of s.units gnb number) ue bearer ≡ Some part
+        → model_of (du_of s.units gnb number) ue bearer ≡ Some part
         → change_by plain_way ue bearer (du_of s.units gnb number) input ≡ takes f
         → (on_air s (down_key ue bearer)).epoch ≡ Some part.epoch
         → AreDown (on_air s (down_key ue bearer)) d part.bearer (f ∷ rest) next needed
         → AreDown (on_air t (down_key ue bearer)) d (taken_by part.bearer f) rest next needed }
     ensures quiet { (reading : Reading) (event : Event) (s t : RunState) (ue : UeId)
-        (bearer : BearerId) (d : Part) (gnb : Gnb) (number : ℕ) (cause : RunCause)
+        (bearer : BearerId) (d : Model) (gnb : Gnb) (number : ℕ) (cause : RunCause)
         (input : Input Token Pdu) (outputs : List (Output (Message Token) Pdu)) (left : DuRecord)
         (b : DuBearer) (frames : List Frame) (next needed : ℕ)
         → IsInOrder (du_of s.units gnb number) ue → Stands event s cause
         → IsDuStep reading s t gnb number cause input outputs left
-        → IsBeside reading s t ue bearer cause (map (written_put (sn_of s)) outputs)
+        → IsFrameStep reading s t ue bearer cause (map (written_put (sn_of s)) outputs)
         (with_du s.units gnb number left)
         → packets_by (on_air s (down_key ue bearer)).epoch
         (change_by plain_way ue bearer (du_of s.units gnb number) input)
-        (part_of (du_of s.units gnb number) ue bearer) ≡ []
+        (model_of (du_of s.units gnb number) ue bearer) ≡ []
         → AreDown (on_air s (down_key ue bearer)) d b frames next needed
         → AreDown (on_air t (down_key ue bearer)) d b frames next needed }
 {}

@@ -16,9 +16,9 @@ ghost use Rattle.run_defs.specs.Written.{Written};
 ghost use Rattle.run_defs.specs.States.{State};
 ghost use Rattle.run_defs.specs.Runs.{plain_world, Reading};
 ghost use Rattle.proof_run_steps.specs.steps.Reached.{reached};
-ghost use Rattle.bearer_defs.specs.chain_defs.Parts.{start as down_start};
-ghost use Rattle.bearer_defs.specs.uplink_defs.Parts.{start};
-ghost use Rattle.proof_node_orders.specs.terminal_inputs.Inputs.{Parts, carried_out, IsShown};
+ghost use Rattle.bearer_defs.specs.chain_defs.Models.{initial as down_start};
+ghost use Rattle.bearer_defs.specs.uplink_defs.Models.{initial};
+ghost use Rattle.proof_node_orders.specs.terminal_inputs.Inputs.{Models, carried_out, IsShown};
 ghost use Rattle.proof_bearer_refinement.specs.run_terminals.Over.{Happening, after_all, Led, after_inputs, orders_over};
 
 /// In every run, from any state, the record of a terminal is what its table makes of the inputs that it was given, one after
@@ -30,16 +30,16 @@ pub fn terminals_take_inputs()
         → (hs : List Happening) × (ue_of t.units ue ≡ after_all (ue_of s.units ue) hs) }
 {}
 
-/// A list of inputs is, for each bearer of the terminal, one list of orders of its part up and one of its part down.
+/// A list of inputs is, for each bearer of the terminal, one list of orders of its model up and one of its model down.
 pub fn inputs_are_lists_of_orders()
-    ensures { (u : UeNode) (bearer : BearerId) (b : Parts) → IsShown u bearer b → (ls : List Led)
+    ensures { (u : UeNode) (bearer : BearerId) (b : Models) → IsShown u bearer b → (ls : List Led)
         → IsShown (after_inputs u ls) bearer (carried_out b (orders_over u bearer b ls)) }
 {}
 
-/// A terminal that is set up without messages shows, for each bearer that it has, the first part up and the first part down.
-pub fn set_up_terminals_show_first_parts()
+/// A terminal that is set up without messages shows, for each bearer that it has, the first model up and the first model down.
+pub fn set_up_terminals_show_first_models()
     ensures { (plan : Plan) (bearer : BearerId) (b : UeBearer) (first teid : ℕ)
         → find bearer_cmp (placed (new_ue plan)).bearers bearer ≡ Some b
         → IsShown (placed (new_ue plan)) bearer
-        (record { up = start first teid; down = down_start first teid }) }
+        (record { up = initial first teid; down = down_start first teid }) }
 {}

@@ -1,4 +1,4 @@
-pub mod Parts
+pub mod Models
 pub mod Items
 pub mod Control
 pub mod Beside

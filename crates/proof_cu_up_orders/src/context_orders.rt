@@ -16,35 +16,35 @@ ghost use Rattle.transaction_defs.specs.Callees.{again, stale, verdict};
 ghost use Rattle.unit_defs.specs.Messages.{channel};
 ghost use Rattle.unit_defs.specs.Transactions.{request, kind_of};
 ghost use Rattle.unit_defs.specs.CuUp.{context_of};
-ghost use Rattle.unit_defs.specs.UpBearers.{with_uplink, switched, frozen_to, with_status, resumed, framed};
-ghost use Rattle.unit_defs.specs.UpItems.{held_reason, took};
-ghost use Rattle.unit_defs.specs.UpRecords.{CuUp, UpAt, UpBearer, UpContext, UpTunnel, TunnelKind, up_at};
+ghost use Rattle.unit_defs.specs.CuUpBearers.{with_uplink, switched, frozen_to, with_status, resumed, framed};
+ghost use Rattle.unit_defs.specs.CuUpItems.{held_reason, took};
+ghost use Rattle.unit_defs.specs.CuUpRecords.{CuUp, CuUpScope, CuUpBearer, CuUpContext, CuUpTunnel, TunnelKind, cu_up_scope};
 ghost use Rattle.unit_defs.specs.Ways.{Message, Taken, control_input, packet_input, tick_input, order_input, Way};
 ghost use Rattle.proof_cu_up_orders.specs.context_orders.Inputs.{closes_after, orders_of};
 ghost use Rattle.proof_cu_up_orders.specs.context_orders.Shown.{is_bearer, IsOff};
 
 /// What a row of a bearer puts and hands up is on this bearer alone.
 pub fn rows_are_on_their_bearer<M, C, P>()
-    ensures uplinks { (way : Way M C P) (ue : UeId) (bearer : BearerId) (teid : ℕ) (b : UpBearer)
+    ensures uplinks { (way : Way M C P) (ue : UeId) (bearer : BearerId) (teid : ℕ) (b : CuUpBearer)
         → IsOff ue bearer (with_uplink way teid b) }
-    ensures switches { (way : Way M C P) (ue : UeId) (bearer : BearerId) (at : UpAt)
-        → is_bearer ue bearer at.ue at.bearer ≡ false → (du : NodeId) (teid : ℕ) (b : UpBearer)
+    ensures switches { (way : Way M C P) (ue : UeId) (bearer : BearerId) (at : CuUpScope)
+        → is_bearer ue bearer at.ue at.bearer ≡ false → (du : NodeId) (teid : ℕ) (b : CuUpBearer)
         → IsOff ue bearer (switched way at du teid b) }
-    ensures freezes { (way : Way M C P) (ue : UeId) (bearer : BearerId) (at : UpAt)
-        → is_bearer ue bearer at.ue at.bearer ≡ false → (peer : NodeId) (down up : ℕ) (b : UpBearer)
+    ensures freezes { (way : Way M C P) (ue : UeId) (bearer : BearerId) (at : CuUpScope)
+        → is_bearer ue bearer at.ue at.bearer ≡ false → (peer : NodeId) (down up : ℕ) (b : CuUpBearer)
         → IsOff ue bearer (frozen_to way at peer down up b) }
-    ensures statuses { (way : Way M C P) (ue : UeId) (bearer : BearerId) (at : UpAt)
-        → is_bearer ue bearer at.ue at.bearer ≡ false → (s : SnStatus) (b : UpBearer)
+    ensures statuses { (way : Way M C P) (ue : UeId) (bearer : BearerId) (at : CuUpScope)
+        → is_bearer ue bearer at.ue at.bearer ≡ false → (s : SnStatus) (b : CuUpBearer)
         → IsOff ue bearer (with_status way at s b) }
-    ensures resumes { (way : Way M C P) (ue : UeId) (bearer : BearerId) (at : UpAt)
-        → is_bearer ue bearer at.ue at.bearer ≡ false → (b : UpBearer)
+    ensures resumes { (way : Way M C P) (ue : UeId) (bearer : BearerId) (at : CuUpScope)
+        → is_bearer ue bearer at.ue at.bearer ≡ false → (b : CuUpBearer)
         → IsOff ue bearer (resumed way at b) }
-    ensures items { (way : Way M C P) (ue : UeId) (bearer : BearerId) (at : UpAt)
+    ensures items { (way : Way M C P) (ue : UeId) (bearer : BearerId) (at : CuUpScope)
         → is_bearer ue bearer at.ue at.bearer ≡ false → (kind : TunnelKind) (teid : ℕ) (item : Taken P)
-        (b : UpBearer) → IsOff ue bearer (took way at kind teid item b) }
-    ensures frames { (way : Way M C P) (ue : UeId) (bearer : BearerId) (at : UpAt)
+        (b : CuUpBearer) → IsOff ue bearer (took way at kind teid item b) }
+    ensures frames { (way : Way M C P) (ue : UeId) (bearer : BearerId) (at : CuUpScope)
         → is_bearer ue bearer at.ue at.bearer ≡ false → (poll restart : Bool) (pdu : Option P)
-        (tag : Tag) (b : UpBearer) → IsOff ue bearer (framed way at poll restart pdu tag b) }
+        (tag : Tag) (b : CuUpBearer) → IsOff ue bearer (framed way at poll restart pdu tag b) }
 {}
 
 /// Nothing is asked of a bearer by ticks and the start of the unit; by items of no tunnel, of another terminal's, and of one
@@ -58,21 +58,21 @@ pub fn other_inputs_ask_nothing<M, C, P>()
         (item : Taken P) → find nat_cmp r.tunnels teid ≡ None
         → orders_of way r ue bearer (packet_input teid item) ≡ [] }
     ensures other_terminals { (way : Way M C P) (r : CuUp M C) (ue : UeId) (bearer : BearerId)
-        (teid : ℕ) (item : Taken P) (t : UpTunnel) → find nat_cmp r.tunnels teid ≡ Some t
+        (teid : ℕ) (item : Taken P) (t : CuUpTunnel) → find nat_cmp r.tunnels teid ≡ Some t
         → eq_by_cmp ue_cmp ue t.ue ≡ false → orders_of way r ue bearer (packet_input teid item) ≡ [] }
     ensures held_items { (way : Way M C P) (r : CuUp M C) (ue : UeId) (bearer : BearerId) (teid : ℕ)
-        (item : Taken P) (t : UpTunnel) → find nat_cmp r.tunnels teid ≡ Some t → (c : UpContext)
-        → context_of r t.ue ≡ Some c → (b : UpBearer) → find bearer_cmp c.bearers t.bearer ≡ Some b
-        → (reason : HeldReason) → held_reason (up_at t.ue c t.bearer) b t.kind item ≡ Some reason
+        (item : Taken P) (t : CuUpTunnel) → find nat_cmp r.tunnels teid ≡ Some t → (c : CuUpContext)
+        → context_of r t.ue ≡ Some c → (b : CuUpBearer) → find bearer_cmp c.bearers t.bearer ≡ Some b
+        → (reason : HeldReason) → held_reason (cu_up_scope t.ue c t.bearer) b t.kind item ≡ Some reason
         → orders_of way r ue bearer (packet_input teid item) ≡ [] }
     ensures other_bearers { (way : Way M C P) (r : CuUp M C) (ue : UeId) (bearer : BearerId) (teid : ℕ)
-        (item : Taken P) (t : UpTunnel) → find nat_cmp r.tunnels teid ≡ Some t
-        → eq_by_cmp ue_cmp ue t.ue ≡ true → (c : UpContext) → context_of r t.ue ≡ Some c
-        → (b : UpBearer) → find bearer_cmp c.bearers t.bearer ≡ Some b
-        → held_reason (up_at t.ue c t.bearer) b t.kind item ≡ None
+        (item : Taken P) (t : CuUpTunnel) → find nat_cmp r.tunnels teid ≡ Some t
+        → eq_by_cmp ue_cmp ue t.ue ≡ true → (c : CuUpContext) → context_of r t.ue ≡ Some c
+        → (b : CuUpBearer) → find bearer_cmp c.bearers t.bearer ≡ Some b
+        → held_reason (cu_up_scope t.ue c t.bearer) b t.kind item ≡ None
         → eq_by_cmp bearer_cmp bearer t.bearer ≡ false
         → orders_of way r ue bearer (packet_input teid item)
-        ≡ closes_after way c t.bearer (took way (up_at t.ue c t.bearer) t.kind teid item b) }
+        ≡ closes_after way c t.bearer (took way (cu_up_scope t.ue c t.bearer) t.kind teid item b) }
     ensures repeated { (way : Way M C P) (r : CuUp M C) (ue : UeId) (bearer : BearerId) (from : NodeId)
         (m : Message C) (u instance : ℕ) → kind_of m ≡ request u instance
         → verdict r.transactions.callee (channel u from) instance ≡ again

@@ -6,15 +6,15 @@ ghost use Rattle.gnb_types.specs.declared.names.BearerId.{BearerId};
 ghost use Rattle.gnb_types.specs.declared.names.NodeId.{NodeId};
 ghost use Rattle.gnb_types.specs.declared.names.SnBits.{SnBits};
 ghost use Rattle.gnb_types.specs.declared.names.UeId.{UeId};
-ghost use Rattle.bearer_defs.specs.chain_defs.Guards.{AreKept};
-ghost use Rattle.bearer_defs.specs.chain_defs.Orders.{Order, run};
-ghost use Rattle.bearer_defs.specs.chain_defs.Parts.{Part, start};
+ghost use Rattle.bearer_defs.specs.chain_defs.Assumptions.{AreKept};
+ghost use Rattle.bearer_defs.specs.chain_defs.Orders.{ModelStep, run};
+ghost use Rattle.bearer_defs.specs.chain_defs.Models.{Model, initial};
 ghost use Rattle.unit_defs.specs.Du.{DuBearer};
 ghost use Rattle.unit_defs.specs.Ways.{gives, Output, Way};
 ghost use Rattle.proof_cu_up_orders.specs.bearer_orders.Down.{IsIn, orders_of};
 ghost use Rattle.proof_cu_up_orders.specs.bearer_orders.Happenings.{Beside};
-ghost use Rattle.proof_cu_up_orders.specs.context_orders.Orders.{done, switches, UpOrder, UpPart};
-ghost use Rattle.proof_cu_up_orders.specs.down_orders.Down.{new_part};
+ghost use Rattle.proof_cu_up_orders.specs.context_orders.Orders.{done, switches, ContextStep, CuUpModel};
+ghost use Rattle.proof_cu_up_orders.specs.down_orders.Down.{new_model};
 ghost use Rattle.proof_cu_up_orders.specs.frame_rows.Sent.{sent_by};
 ghost use Rattle.proof_cu_up_orders.specs.frame_rows.Shown.{end_of, frames_of, put_at};
 ghost use Rattle.proof_cu_up_orders.specs.frames_kept.Asked.{alone, GoesOn};
@@ -25,20 +25,20 @@ ghost use Rattle.proof_cu_up_orders.specs.sending_contexts.Sending.{IsSending, T
 /// its downlink. A switch for the present radio begins this, on a fresh tunnel, whatever waits on the radio after it. That the orders are
 /// kept is shown by `happenings_are_orders` of `bearer_orders`, of what is asked of a bearer from its first context on.
 pub fn rows_keep_what_is_sent<M, C, P>()
-    ensures goes_on { (way : Way M C P) (sn : SnBits) (quota first teid : ℕ) (orders : List Order)
-        (x : ℕ) (p q : UpPart) (b : Beside) (order : UpOrder P) (outputs : List (Output M P))
-        (w : Tunnel) → let d = run (start first teid) orders in
-        AreKept sn quota (start first teid) (orders ++ orders_of x b p order)
+    ensures goes_on { (way : Way M C P) (sn : SnBits) (quota first teid : ℕ) (orders : List ModelStep)
+        (x : ℕ) (p q : CuUpModel) (b : Beside) (order : ContextStep P) (outputs : List (Output M P))
+        (w : Tunnel) → let d = run (initial first teid) orders in
+        AreKept sn quota (initial first teid) (orders ++ orders_of x b p order)
         → IsIn sn quota (d.members x) (Some p) → GoesOn order
         → done way order p ≡ gives outputs (Some q) → IsSending d x p.bearer w
         → (frames_of outputs ≡ put_at way p.at.sn (end_of q.bearer.downlink) (sent_by p order).frames)
         × IsSending (run d (orders_of x b p order)) x q.bearer
         (with_frames w (sent_by p order).frames) }
-    ensures begins { (way : Way M C P) (sn : SnBits) (quota first teid : ℕ) (orders : List Order)
-        (x : ℕ) (p q : UpPart) (b : Beside) (to : NodeId) (end : ℕ) (outputs : List (Output M P))
-        (du : DuBearer) (waits : List (ℕ × List ℕ)) → let d = run (start first teid) orders in
-        let order : UpOrder P = switches to end in
-        AreKept sn quota (start first teid) (orders ++ orders_of x b p order)
+    ensures begins { (way : Way M C P) (sn : SnBits) (quota first teid : ℕ) (orders : List ModelStep)
+        (x : ℕ) (p q : CuUpModel) (b : Beside) (to : NodeId) (end : ℕ) (outputs : List (Output M P))
+        (du : DuBearer) (waits : List (ℕ × List ℕ)) → let d = run (initial first teid) orders in
+        let order : ContextStep P = switches to end in
+        AreKept sn quota (initial first teid) (orders ++ orders_of x b p order)
         → IsIn sn quota (d.members x) (Some p) → b.epoch ≡ d.epoch
         → done way order p ≡ gives outputs (Some q)
         → (frames_of outputs ≡ put_at way p.at.sn (end_of q.bearer.downlink) (sent_by p order).frames)
@@ -54,10 +54,10 @@ pub fn rows_keep_what_is_sent<M, C, P>()
 pub fn a_first_context_begins<M, C, P>()
     ensures { (way : Way M C P) (ue : UeId) (bearer : BearerId) (sn : SnBits)
         (quota instance teid : ℕ) (to : NodeId) (end : ℕ) (du : DuBearer) (waits : List (ℕ × List ℕ))
-        → let p = new_part ue bearer instance sn quota false teid in
-        let order : UpOrder P = switches to end in
-        (outputs : List (Output M P)) × (q : UpPart) × (done way order p ≡ gives outputs (Some q))
-        × IsSending (run (start 1 teid) (orders_of 1 alone p order)) 1 q.bearer
+        → let p = new_model ue bearer instance sn quota false teid in
+        let order : ContextStep P = switches to end in
+        (outputs : List (Output M P)) × (q : CuUpModel) × (done way order p ≡ gives outputs (Some q))
+        × IsSending (run (initial 1 teid) (orders_of 1 alone p order)) 1 q.bearer
         (record {
           du = record du { downlink = end; awaited = 0; gap = false };
           frames = (sent_by p order).frames;

@@ -11,7 +11,7 @@
 //! - `sending_contexts`: A context that sends to a DU goes on to do so, whatever happens beside it, unless the radio begins anew.
 //! - `orders`: Each order to a bearer is orders of the bearer's uplink in the run.
 //! - `context_stands`: A bearer has a hop exactly while it is frozen, whatever the CU-UP is given.
-//! - `kept`: What the CU-UP tests itself holds, and control owes the rest; a released bearer delivers nothing more.
+//! - `kept`: What the CU-UP tests itself holds, and the rest is assumed of control; a released bearer delivers nothing more.
 //! - `bearer_orders`: What happens to one bearer in a run is orders of its contexts, the terminal, the core, the radio and the DU, one
 //!   after another.
 //! - `frames_kept`: Whatever is asked of a context, what it sends to a DU may be sent.

@@ -1,6 +1,6 @@
 pub mod Fields
 pub mod Elements
-pub mod Heard
+pub mod FromValue
 pub mod Ranges
 pub mod Kept
 pub mod Lawful

@@ -14,15 +14,15 @@ ghost use Rattle.message_types.specs.declared.rrc.Token.{Token};
 ghost use Rattle.unit_defs.specs.Ways.{Message, Pdu, uplink, Taken, Input, Way};
 ghost use Rattle.unit_defs.specs.Du.{Du, start, set_up, take, pass_up, confirm, setup, du_acts};
 ghost use Rattle.proof_node_orders.specs.du_rows.Shown.{Keeps};
-ghost use Rattle.proof_node_orders.specs.du_inputs.Changes.{part_of, changed, of_tunnel, change_by, Has, stays};
-ghost use Rattle.proof_node_orders.specs.du_inputs.Puts.{on_uplink, is_of, of_number, of_change, carried_of, of_part, Puts, IsQuiet};
+ghost use Rattle.proof_node_orders.specs.du_inputs.Changes.{model_of, changed, of_tunnel, change_by, Has, stays};
+ghost use Rattle.proof_node_orders.specs.du_inputs.Puts.{on_uplink, is_of, of_number, of_change, carried_of, of_model, Puts, IsQuiet};
 
 /// Whatever a DU is given, what it has of a bearer is afterwards what the change that `change_by` computes makes of it: a frame of
 /// its tunnel, a new radio, a context that is set up or ends, each of this terminal; all else changes nothing of it.
 pub fn inputs_are_changes()
     ensures { (way : Way (Message Token) Token Pdu) (ue : UeId) (bearer : BearerId)
         (r : Du (Message Token) Token) (input : Input Token Pdu)
-        → Has ue bearer (changed (change_by way ue bearer r input) (part_of r ue bearer))
+        → Has ue bearer (changed (change_by way ue bearer r input) (model_of r ue bearer))
         (du_acts way r input) }
 {}
 
@@ -33,19 +33,19 @@ pub fn packets_are_put()
     ensures frames { (way : Way (Message Token) Token Pdu) (r : Du (Message Token) Token) (ue : UeId)
         (bearer : BearerId) (teid : ℕ) (item : Taken Pdu)
         → let change = of_tunnel ue bearer item (find nat_cmp r.tunnels teid) in
-        Puts ue bearer (of_part (of_change way change) (part_of r ue bearer))
-        (of_part (carried_of change) (part_of r ue bearer)) (take way teid item r) }
+        Puts ue bearer (of_model (of_change way change) (model_of r ue bearer))
+        (of_model (carried_of change) (model_of r ue bearer)) (take way teid item r) }
     ensures up { (way : Way (Message Token) Token Pdu) (r : Du (Message Token) Token) (ue : UeId)
         (bearer : BearerId) (other : UeId) (q : BearerId) (pdu : Pdu)
         → Puts ue bearer
-        (of_part (λ d. if is_of ue bearer other q then on_uplink d (uplink pdu) else []) (part_of r ue bearer))
-        (of_part (carried_of stays) (part_of r ue bearer)) (pass_up way other q pdu r) }
+        (of_model (λ d. if is_of ue bearer other q then on_uplink d (uplink pdu) else []) (model_of r ue bearer))
+        (of_model (carried_of stays) (model_of r ue bearer)) (pass_up way other q pdu r) }
     ensures confirmed { (way : Way (Message Token) Token Pdu) (r : Du (Message Token) Token) (ue : UeId)
         (bearer : BearerId) (other : UeId) (q : BearerId) (pdu : Pdu)
         → Puts ue bearer
-        (of_part (λ d. if is_of ue bearer other q then of_number (way.number d.sn pdu) d else [])
-        (part_of r ue bearer))
-        (of_part (carried_of stays) (part_of r ue bearer)) (confirm way other q pdu r) }
+        (of_model (λ d. if is_of ue bearer other q then of_number (way.number d.sn pdu) d else [])
+        (model_of r ue bearer))
+        (of_model (carried_of stays) (model_of r ue bearer)) (confirm way other q pdu r) }
 {}
 
 /// A context that is set up in place of another one puts no End Marker on the uplinks of that: no order of the uplink says that

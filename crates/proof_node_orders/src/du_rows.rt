@@ -18,17 +18,17 @@ ghost use Rattle.message_types.specs.declared.f1.F1.TheVariants as f1s;
 ghost use Rattle.message_types.specs.declared.rrc.Token.{Token};
 ghost use Rattle.unit_defs.specs.Ways.{Message, f1, Pdu, Way, uplink, status, packet, control, gives, nothing, puts};
 ghost use Rattle.unit_defs.specs.Messages.{bearers_of, are_first_bearers};
-ghost use Rattle.unit_defs.specs.UpRecords.{Downlink};
+ghost use Rattle.unit_defs.specs.CuUpRecords.{DownlinkTunnel};
 ghost use Rattle.unit_defs.specs.Du.{Du, DuBearer, DuContext, DuTunnel, context_of, with_bearer, told, bearers_made, context_anew, context_with, end_markers, closings, take, pass_up, confirm, release, modify, setup, relay_down, relay_up, tick};
 ghost use Rattle.law_downlink_order.specs.path.Paths.{Frame, Path, gap_after, carried_by};
 ghost use Rattle.law_downlink_order.specs.path.Steps.{takes, begins_anew, run, AreKept};
-ghost use Rattle.bearer_defs.specs.uplink_defs.Parts.{Part, numbered, end_marker, uplink_tunnel};
+ghost use Rattle.bearer_defs.specs.uplink_defs.Models.{Model, numbered, end_marker, uplink_tunnel};
 ghost use Rattle.bearer_defs.specs.uplink_defs.Orders as up;
-ghost use Rattle.bearer_defs.specs.uplink_defs.Guards as up_guards;
+ghost use Rattle.bearer_defs.specs.uplink_defs.Assumptions as up_assumptions;
 ghost use Rattle.proof_node_orders.specs.du_rows.Shown.{IsHeld, Ends, Has, Keeps, item, frame_outputs, renewed};
 
 /// A frame is taken from its downlink tunnel, which it stands first on: the bearer is that of the way down after the step, and
-/// the frame's PDU goes to the radio unless it is in a gap. Nothing else is owed, and other bearers stay.
+/// the frame's PDU goes to the radio unless it is in a gap. Nothing else is assumed, and other bearers stay.
 pub fn frames_are_taken()
     ensures asked { (s : Path) (f : Frame) (rest : List Frame) → s.tunnel ≡ f ∷ rest
         → AreKept s (takes f rest ∷ []) }
@@ -73,11 +73,11 @@ pub fn losses_are_told()
 /// A PDU from the radio goes up as it came, on the bearer's uplink tunnel, and nothing is kept of it. Owed is that this tunnel
 /// is open where the terminal is, and that no End Marker stands on it.
 pub fn packets_go_up()
-    ensures asked { (s : Part) (count : ℕ) (p : List ℕ) (rest : List (ℕ × List ℕ)) (teid : ℕ)
-        → s.air ≡ (count, p) ∷ rest → up_guards.IsOpen (s.members s.station) (uplink_tunnel teid)
-        → up_guards.NoEnd ((s.members s.station).uplink teid)
-        → up_guards.AreKept s (up.carries teid count p rest ∷ []) }
-    ensures became { (s : Part) (count : ℕ) (p : List ℕ) (rest : List (ℕ × List ℕ)) (teid : ℕ)
+    ensures asked { (s : Model) (count : ℕ) (p : List ℕ) (rest : List (ℕ × List ℕ)) (teid : ℕ)
+        → s.air ≡ (count, p) ∷ rest → up_assumptions.IsOpen (s.members s.station) (uplink_tunnel teid)
+        → up_assumptions.NoEnd ((s.members s.station).uplink teid)
+        → up_assumptions.AreKept s (up.carries teid count p rest ∷ []) }
+    ensures became { (s : Model) (count : ℕ) (p : List ℕ) (rest : List (ℕ × List ℕ)) (teid : ℕ)
         → ((up.run s (up.carries teid count p rest ∷ [])).members s.station).uplink teid
         ≡ (s.members s.station).uplink teid ++ numbered count p ∷ [] }
     ensures does { (way : Way (Message Token) Token Pdu) (r : Du (Message Token) Token) (ue : UeId)
@@ -86,7 +86,7 @@ pub fn packets_go_up()
         ≡ puts (packet b.up b.uplink ue bearer Ul Same (uplink pdu)) r }
 {}
 
-/// What was confirmed on the radio is told with its number, on the uplink tunnel, and no part changes. A PDU without a number
+/// What was confirmed on the radio is told with its number, on the uplink tunnel, and no model changes. A PDU without a number
 /// is not told of.
 pub fn confirmations_are_told()
     ensures numbers { (way : Way (Message Token) Token Pdu) (r : Du (Message Token) Token) (ue : UeId)
@@ -100,15 +100,15 @@ pub fn confirmations_are_told()
 {}
 
 /// A release puts an End Marker on each bearer's uplink tunnel, after all that was put there, and ends the context. Nothing is
-/// owed for this.
+/// assumed for this.
 pub fn releases_end_uplinks()
-    ensures asked { (s : Part) (x teid : ℕ) → up_guards.AreKept s (up.marks x teid ∷ []) }
-    ensures became { (s : Part) (x teid : ℕ)
+    ensures asked { (s : Model) (x teid : ℕ) → up_assumptions.AreKept s (up.marks x teid ∷ []) }
+    ensures became { (s : Model) (x teid : ℕ)
         → ((up.run s (up.marks x teid ∷ [])).members x).uplink teid
         ≡ (s.members x).uplink teid ++ end_marker ∷ [] }
     ensures does { (way : Way (Message Token) Token Pdu) (ch : Channel) (ue : UeId) (instance : ℕ)
         (c : DuContext) (r : Du (Message Token) Token) → context_of r ue ≡ Some c
-        → Ends ue (control ch.peer ch.ue (way.spell (f1 (f1s.UeContextReleaseComplete ue instance)))
+        → Ends ue (control ch.peer ch.ue (way.encode (f1 (f1s.UeContextReleaseComplete ue instance)))
         ∷ end_markers way ue c ++ closings way c)
         (release way ch ue instance r) }
 {}
@@ -124,7 +124,7 @@ pub fn new_radios_have_no_gap()
         (c : DuContext) (k : BearerId) (b : DuBearer) → find bearer_cmp c.bearers k ≡ Some b
         → (teid : ℕ)
         × (find bearer_cmp (context_anew way r epoch c).bearers k ≡ Some (renewed b teid)) }
-    ensures begins { (s : Path) (downlink : Downlink) (fmc : ℕ) (bits : List Bool)
+    ensures begins { (s : Path) (downlink : DownlinkTunnel) (fmc : ℕ) (bits : List Bool)
         → (run s (begins_anew downlink fmc bits ∷ [])).du ≡ renewed s.du downlink.teid }
     ensures setups { (way : Way (Message Token) Token Pdu) (ch : Channel) (ue : UeId)
         (instance epoch : ℕ) (uplinks : List Tunnel) (sn : SnBits) (peer : Peer)

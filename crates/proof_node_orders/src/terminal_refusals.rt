@@ -1,5 +1,5 @@
 //! Laws of a terminal: rows that refuse or drop change nothing, what is of another bearer is no order of this one, and
-//! both parts of the downlink receive alike.
+//! both models of the downlink receive alike.
 //! Each function does nothing: its contract is the law.
 
 ghost use Rattle.std.specs.Prelude.{◌≡◌, ◌==◌, ℕ, ◌+◌, true, false, ◌&&◌, nat_lt, nat_le, length, List, Option, Some, None};
@@ -16,24 +16,24 @@ ghost use Rattle.tables.specs.Tables.{find};
 ghost use Rattle.message_types.specs.declared.rrc.Token.{Token};
 ghost use Rattle.unit_defs.specs.Ways.{Message, Pdu, Content, Taken, Way, no, puts, drops, packet_input, radio_input, confirm_input, offer_input};
 ghost use Rattle.unit_defs.specs.Ue.{UeBearer, UeNode, largest_packet, used_uplink, is_connected, is_accessing, may_obey, may_return, ue_acts, obey, arrive, come_back, accept, fail, offer, take, confirm};
-ghost use Rattle.bearer_defs.specs.chain_defs.Parts.{Part as DownPart};
+ghost use Rattle.bearer_defs.specs.chain_defs.Models.{Model as DownModel};
 ghost use Rattle.bearer_defs.specs.chain_defs.Orders as down;
 ghost use Rattle.law_downlink_order.specs.path.Paths.{Path};
 ghost use Rattle.law_downlink_order.specs.path.Steps as path;
-ghost use Rattle.proof_node_orders.specs.terminal_inputs.Inputs.{Parts, none, orders_by};
+ghost use Rattle.proof_node_orders.specs.terminal_inputs.Inputs.{Models, none, orders_by};
 ghost use Rattle.proof_node_orders.specs.terminal_refusals.Ways.{IsAlike, steps_for};
 
 /// What is of another bearer is no order of this one.
 pub fn other_bearers_stay()
-    ensures radio { (way : Way (Message Token) Token Pdu) (u : UeNode) (b : Parts)
+    ensures radio { (way : Way (Message Token) Token Pdu) (u : UeNode) (b : Models)
         (bearer other : BearerId) → eq_by_cmp bearer_cmp bearer other ≡ false
         → (to : Option ℕ) (ue : UeId) (dir : Dir) (pdu : Pdu) (content : Content)
         → orders_by way u b bearer to (radio_input ue other dir pdu content) ≡ none }
-    ensures confirmed { (way : Way (Message Token) Token Pdu) (u : UeNode) (b : Parts)
+    ensures confirmed { (way : Way (Message Token) Token Pdu) (u : UeNode) (b : Models)
         (bearer other : BearerId) → eq_by_cmp bearer_cmp bearer other ≡ false
         → (to : Option ℕ) (ue : UeId) (dir : Dir) (pdu : Pdu) (content : Content)
         → orders_by way u b bearer to (confirm_input ue other dir pdu content) ≡ none }
-    ensures offered { (way : Way (Message Token) Token Pdu) (u : UeNode) (b : Parts)
+    ensures offered { (way : Way (Message Token) Token Pdu) (u : UeNode) (b : Models)
         (bearer other : BearerId) → eq_by_cmp bearer_cmp bearer other ≡ false
         → (to : Option ℕ) (ue : UeId) (packet : List ℕ)
         → orders_by way u b bearer to (offer_input ue other packet) ≡ none }
@@ -84,7 +84,7 @@ pub fn refusals_change_nothing()
 
 /// The terminal takes packets alike on the way over one DU and in the chain of contexts: whatever orders the chain has, its way
 /// has, with those by which the terminal takes a packet or loses its radio, the same receiver and the same packets delivered.
-pub fn both_parts_receive_alike()
-    ensures alike { (d : DownPart) (p : Path) → IsAlike d p → (os : List down.Order)
+pub fn both_models_receive_alike()
+    ensures alike { (d : DownModel) (p : Path) → IsAlike d p → (os : List down.ModelStep)
         → IsAlike (down.run d os) (path.run p (steps_for p os)) }
 {}

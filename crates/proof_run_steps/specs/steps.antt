@@ -1,3 +1,3 @@
 pub mod Causes
-pub mod Made
+pub mod IsOutcome
 pub mod Reached

@@ -14,5 +14,5 @@ ghost use Rattle.unit_defs.specs.Ways.{Load, Message, Pdu};
 /// Modification Response was put by a DU, and each Bearer Context Setup Response by a CU-UP.
 pub fn only_dus_tell_of_downlinks()
     ensures { (reading : Reading) (events : List Event) (t : State (Message Token) Token (Written (Load Pdu)) (Written Pdu))
-        → reached (plain_world reading) events new_state ≡ Some t → AllAnswerOwn t.bag.letters }
+        → reached (plain_world reading) events new_state ≡ Some t → AllAnswerOwn t.bag.control_messages }
 {}

@@ -8,7 +8,7 @@ ghost use Rattle.run_defs.specs.States.{new_state, State, World};
 ghost use Rattle.run_defs.specs.Written.{Written};
 ghost use Rattle.scenario_text.specs.declared.event.Event.{Event};
 ghost use Rattle.std.specs.Prelude.{length, List, Some, ◌≡◌, ◌≤◌};
-ghost use Rattle.transport_defs.specs.Links.{most_letters};
+ghost use Rattle.transport_defs.specs.Links.{most_control_messages};
 ghost use Rattle.unit_defs.specs.Ways.{Load, Message, Pdu};
 
 /// Whatever units and the core answer: in every run each item of a radio is of the radio's terminal, bearer and direction; and
@@ -26,9 +26,9 @@ pub fn control_messages_are_few()
     ensures run { (reading : Reading) (events : List Event)
         (t : State (Message Token) Token (Written (Load Pdu)) (Written Pdu))
         → reached (plain_world reading) events new_state ≡ Some t
-        → length t.bag.letters ≤ most_letters }
+        → length t.bag.control_messages ≤ most_control_messages }
     ensures on { (reading : Reading) (events : List Event)
         (s t : State (Message Token) Token (Written (Load Pdu)) (Written Pdu))
-        → length s.bag.letters ≤ most_letters → reached (plain_world reading) events s ≡ Some t
-        → length t.bag.letters ≤ most_letters }
+        → length s.bag.control_messages ≤ most_control_messages → reached (plain_world reading) events s ≡ Some t
+        → length t.bag.control_messages ≤ most_control_messages }
 {}

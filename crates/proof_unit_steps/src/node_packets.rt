@@ -4,7 +4,7 @@ ghost use Rattle.gnb_types.specs.declared.names.NodeId.{NodeId};
 ghost use Rattle.gnb_types.specs.declared.names.UeId.{UeId};
 ghost use Rattle.proof_unit_steps.specs.packets.Packets.{AnswerHas, DuInputHas, OutputsHave, passes, Test, UeHas, UeInputHas};
 ghost use Rattle.unit_defs.specs.Core.{core_acts, CoreRecord};
-ghost use Rattle.unit_defs.specs.CpRecords.{CuCpRecord};
+ghost use Rattle.unit_defs.specs.CuCpRecords.{CuCpRecord};
 ghost use Rattle.unit_defs.specs.CuCp.{cu_cp_acts};
 ghost use Rattle.unit_defs.specs.Du.{du_acts, Du};
 ghost use Rattle.unit_defs.specs.Ue.{ue_acts, UeNode};

@@ -3,10 +3,10 @@
 ghost use Rattle.gnb_types.specs.declared.names.Gnb.{Gnb};
 ghost use Rattle.gnb_types.specs.declared.names.NodeId.{NodeId};
 ghost use Rattle.gnb_types.specs.declared.names.NodeId.TheVariants.{Core, CuCp};
-ghost use Rattle.proof_unit_steps.specs.tunnel_names.CuCps.{CoreNames, CpNames};
+ghost use Rattle.proof_unit_steps.specs.tunnel_names.CuCps.{CoreNames, CuCpNames};
 ghost use Rattle.proof_unit_steps.specs.tunnel_names.Names.{AnswerNames, by_test, InputNames, Names, Test};
 ghost use Rattle.unit_defs.specs.Core.{core_acts, CoreRecord};
-ghost use Rattle.unit_defs.specs.CpRecords.{CuCpRecord};
+ghost use Rattle.unit_defs.specs.CuCpRecords.{CuCpRecord};
 ghost use Rattle.unit_defs.specs.CuCp.{cu_cp_acts};
 ghost use Rattle.unit_defs.specs.Ways.{Input, Message, Way};
 
@@ -17,8 +17,8 @@ ghost use Rattle.unit_defs.specs.Ways.{Input, Message, Way};
 /// and its contexts do.
 pub fn a_cu_cp_names_what_it_was_told<M, C, P>()
     ensures { (way : Way M C P) (test : Test way) (gnb : Gnb) (r : CuCpRecord M C) (input : Input C P)
-        → CpNames (by_test test) gnb r → InputNames (by_test test) input
-        → AnswerNames (by_test test) (CpNames (by_test test) gnb) (CuCp gnb) (cu_cp_acts way r input) }
+        → CuCpNames (by_test test) gnb r → InputNames (by_test test) input
+        → AnswerNames (by_test test) (CuCpNames (by_test test) gnb) (CuCp gnb) (cu_cp_acts way r input) }
 {}
 
 /// The same of the core on control messages: and its End Markers are on tunnels that the book has for the terminal, the bearer

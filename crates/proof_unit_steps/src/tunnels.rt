@@ -4,12 +4,12 @@ ghost use Rattle.gnb_types.specs.declared.names.Gnb.{Gnb};
 ghost use Rattle.gnb_types.specs.declared.names.NodeId.TheVariants.{CuUp as up_id, Du as du_id, Ue};
 ghost use Rattle.gnb_types.specs.declared.names.UeId.{UeId};
 ghost use Rattle.proof_unit_steps.specs.tunnel_names.Names.{AnswerNames, by_test, InputNames, Test};
-ghost use Rattle.proof_unit_steps.specs.tunnels.Units.{AnswerIf, DuHolds, DuNames, IsLong, NoneIsFree, UpHolds, UpNames};
+ghost use Rattle.proof_unit_steps.specs.tunnels.Units.{AnswerIf, DuHolds, DuNames, IsLong, NoneIsFree, CuUpHolds, CuUpNames};
 ghost use Rattle.std.specs.Prelude.{ℕ};
 ghost use Rattle.unit_defs.specs.CuUp.{cu_up_acts};
 ghost use Rattle.unit_defs.specs.Du.{Du, du_acts};
 ghost use Rattle.unit_defs.specs.Ue.{ue_acts, UeNode};
-ghost use Rattle.unit_defs.specs.UpRecords.{CuUp};
+ghost use Rattle.unit_defs.specs.CuUpRecords.{CuUp};
 ghost use Rattle.unit_defs.specs.Ways.{Input, Way};
 
 /// Whatever book says for which terminal, bearer and kind a TEID may be named: where a message that comes, and all that a DU
@@ -29,8 +29,8 @@ pub fn a_du_puts_on_what_it_was_told<M, C, P>()
 /// may let it be named for any. And the numbers of what it forwards are as long as the book has it for the terminal.
 pub fn a_cu_up_puts_on_what_it_was_told<M, C, P>()
     ensures { (way : Way M C P) (test : Test way) (gnb : Gnb) (number : ℕ) (r : CuUp M C) (input : Input C P)
-        → NoneIsFree (by_test test).owners → UpNames (by_test test) gnb number r → InputNames (by_test test) input
-        → AnswerIf (by_test test) (UpHolds (by_test test).owners gnb number) (UpNames (by_test test) gnb number)
+        → NoneIsFree (by_test test).owners → CuUpNames (by_test test) gnb number r → InputNames (by_test test) input
+        → AnswerIf (by_test test) (CuUpHolds (by_test test).owners gnb number) (CuUpNames (by_test test) gnb number)
         (up_id gnb number) (cu_up_acts way r input) }
 {}
 

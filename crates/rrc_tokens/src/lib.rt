@@ -2,5 +2,5 @@
 #![tactic(auto)]
 
 mod alternatives;
-pub mod hearing;
+pub mod reading;
 pub mod writing;

@@ -20,7 +20,7 @@ use std::alloc::Global;
 ///
 /// # Errors
 /// Out of memory.
-pub fn written(alloc: Global, token: Token) -> Result<Value, Memory>
+pub fn to_value(alloc: Global, token: Token) -> Result<Value, Memory>
     ensures { IfOk result (λ v. view v ≡ written_token token) }
 {
     match token {

@@ -19,10 +19,10 @@ use Rattle.tables.specs.Tables.{find, put}
 use Rattle.unit_defs.specs.declared.UeState.{UeState}
 use Rattle.unit_defs.specs.Messages.{is_same_gnb, shares_interface}
 use Rattle.unit_defs.specs.Ue.{UeNode, new_ue, placed, is_connected}
-use Rattle.unit_defs.specs.Accessors.{state_of, taken_epoch, place_of, is_set_up, up_has_context, du_epoch, ue_state, ue_home, ue_rests}
-use Rattle.unit_defs.specs.Static.{up_placed, du_placed, cp_placed, cp_set_up, up_set_up, du_set_up}
+use Rattle.unit_defs.specs.Accessors.{state_of, taken_epoch, place_of, is_set_up, cu_up_has_context, du_epoch, ue_state, ue_home, ue_rests}
+use Rattle.unit_defs.specs.Static.{cu_up_placed, du_placed, cu_cp_placed, cu_cp_set_up, cu_up_set_up, du_set_up}
 use Rattle.run_defs.specs.Lines.{RunLine, is_quiet, is_busy}
-use Rattle.run_defs.specs.Units.{Units, gnb_nodes, cp_of, with_cp, up_of, with_up, du_of, with_du, ue_of, with_ue, is_serving, has_attempt, requests_rest, ups_rest, epoch_at}
+use Rattle.run_defs.specs.Units.{Units, gnb_nodes, cu_cp_of, with_cu_cp, cu_up_of, with_cu_up, du_of, with_du, ue_of, with_ue, is_serving, has_attempt, requests_rest, ups_rest, epoch_at}
 use Rattle.transport_defs.specs.declared.Item.{Item}
 use Rattle.transport_defs.specs.Links.{in_flight_of, is_of_bearer}
 use Rattle.run_defs.specs.States.{State, entity, is_attached, is_gone, book_of}
@@ -36,7 +36,7 @@ later (Some a) None = false
 later (Some a) (Some b) = nat_lt a b
 
 abbrev pub taken_by : {M C L P : Type 0} → State M C L P → Gnb → UeId → Option ℕ
-taken_by s gnb ue = taken_epoch (cp_of s.units gnb) ue
+taken_by s gnb ue = taken_epoch (cu_cp_of s.units gnb) ue
 
 abbrev pub home_of : Option Plan → Gnb
 home_of None = A
@@ -49,25 +49,25 @@ serving_gnb s ue =
 
 -- the numbers of its CU-UP and its DU
 abbrev pub serving_place : {M C L P : Type 0} → State M C L P → UeId → Option (ℕ × ℕ)
-serving_place s ue = place_of (cp_of s.units (serving_gnb s ue)) ue
+serving_place s ue = place_of (cu_cp_of s.units (serving_gnb s ue)) ue
 
 -- ---- static: what the units and the run keep of a terminal that is set up without messages
 
 abbrev pub all_set_up : {M C : Type 0} → Units M C → Units M C
 all_set_up units = record units {
-  cp_a = cp_set_up units.cp_a;
-  cp_b = cp_set_up units.cp_b;
-  ups = map (λ e. (e.0, up_set_up e.1)) units.ups;
+  cu_cp_a = cu_cp_set_up units.cu_cp_a;
+  cu_cp_b = cu_cp_set_up units.cu_cp_b;
+  ups = map (λ e. (e.0, cu_up_set_up e.1)) units.ups;
   dus = map (λ e. (e.0, du_set_up e.1)) units.dus;
 }
 
 abbrev pub units_placed : {M C : Type 0} → Plan → Units M C → Units M C
 units_placed plan units =
-    let up = up_of units plan.gnb plan.up in
+    let up = cu_up_of units plan.gnb plan.up in
     let du = du_of units plan.gnb plan.du in
-    with_cp (with_du (with_up (with_ue units plan.ue (placed (new_ue plan))) plan.gnb plan.up (up_placed up plan du.next_teid))
+    with_cu_cp (with_du (with_cu_up (with_ue units plan.ue (placed (new_ue plan))) plan.gnb plan.up (cu_up_placed up plan du.next_teid))
     plan.gnb plan.du (du_placed du plan (up.next_teid + 1)))
-    plan.gnb (cp_placed (cp_of units plan.gnb) plan)
+    plan.gnb (cu_cp_placed (cu_cp_of units plan.gnb) plan)
 
 abbrev pub n3_from : ℕ → ℕ → ℕ → List Tunnel
 n3_from bearer teid zero = []
@@ -83,7 +83,7 @@ seated plan s = record s { plans = put ue_cmp s.plans plan.ue plan }
 
 abbrev pub statically : {M C L P : Type 0} → Plan → State M C L P → State M C L P
 statically plan s =
-    let up = (up_of s.units plan.gnb plan.up).next_teid in
+    let up = (cu_up_of s.units plan.gnb plan.up).next_teid in
     let du = (du_of s.units plan.gnb plan.du).next_teid in
     record (seated plan s) {
       units = all_set_up (units_placed plan s.units);
@@ -95,15 +95,15 @@ statically plan s =
 -- a unit that the plan names has a context of the terminal
 abbrev pub is_held_by_units : {M C : Type 0} → Plan → Units M C → Bool
 is_held_by_units plan units =
-    is_some (place_of (cp_of units plan.gnb) plan.ue)
-    || up_has_context (up_of units plan.gnb plan.up) plan.ue
+    is_some (place_of (cu_cp_of units plan.gnb) plan.ue)
+    || cu_up_has_context (cu_up_of units plan.gnb plan.up) plan.ue
     || is_some (du_epoch (du_of units plan.gnb plan.du) plan.ue)
 
 -- ---- attach: the units of the plan are set up
 
 abbrev pub has_started : {M C L P : Type 0} → Plan → State M C L P → Bool
 has_started plan s =
-    is_set_up (cp_of s.units plan.gnb) (CuUp plan.gnb plan.up) && is_set_up (cp_of s.units plan.gnb) (Du plan.gnb plan.du)
+    is_set_up (cu_cp_of s.units plan.gnb) (CuUp plan.gnb plan.up) && is_set_up (cu_cp_of s.units plan.gnb) (Du plan.gnb plan.du)
 
 -- ---- radios: which are ready, who receives and who sends there, and in which epoch
 
@@ -149,9 +149,9 @@ epoch_of s ue = epoch_in (find ue_cmp s.connected ue)
 -- ---- control messages
 
 -- a terminal that was never there, or is gone, is given nothing
-abbrev pub takes_letters : {M C L P : Type 0} → State M C L P → NodeId → Bool
-takes_letters s (Ue ue) = is_some (ue_of s.units (record { 0 = ue })) && not (is_gone s (record { 0 = ue }))
-takes_letters s node = true
+abbrev pub takes_control_messages : {M C L P : Type 0} → State M C L P → NodeId → Bool
+takes_control_messages s (Ue ue) = is_some (ue_of s.units (record { 0 = ue })) && not (is_gone s (record { 0 = ue }))
+takes_control_messages s node = true
 
 -- ---- terminals: the state of one, and all that have a tick
 
@@ -180,7 +180,7 @@ is_other_up gnb up serving None = false
 is_other_up gnb up serving (Some place) = is_same_gnb gnb serving && not (place.0 == up)
 
 abbrev pub is_busy_with : {M C L P : Type 0} → State M C L P → UeId → Bool
-is_busy_with s ue = has_attempt s.units ue || not (is_serving (state_of (cp_of s.units (serving_gnb s ue)) ue))
+is_busy_with s ue = has_attempt s.units ue || not (is_serving (state_of (cu_cp_of s.units (serving_gnb s ue)) ue))
 
 -- ---- quiet: all is at rest, and nothing of the bearer stands anywhere
 

@@ -21,14 +21,14 @@ use Rattle.unit_defs.specs.Messages.{teid_of}
 use Rattle.unit_defs.specs.Core.{CorePath}
 use Rattle.unit_defs.specs.Ue.{new_ue, is_connected, is_accessing, may_return, largest_packet}
 use Rattle.unit_defs.specs.Accessors.{is_unconfirmed}
-use Rattle.unit_defs.specs.Static.{up_has_room, up_has_teids, du_has_teids}
-use Rattle.run_defs.specs.Lines.{Letter, got_item, got_message, lost_items, lost_message, held_at, tunnel_link, radio_link, shown}
-use Rattle.run_defs.specs.Units.{starting_nodes, up_of, du_of, with_ue, is_source}
+use Rattle.unit_defs.specs.Static.{cu_up_has_room, cu_up_has_teids, du_has_teids}
+use Rattle.run_defs.specs.Lines.{ControlMessage, got_item, got_message, lost_items, lost_message, held_at, tunnel_link, radio_link, shown}
+use Rattle.run_defs.specs.Units.{starting_nodes, cu_up_of, du_of, with_ue, is_source}
 use Rattle.transport_defs.specs.declared.Item.{Item}
-use Rattle.transport_defs.specs.Links.{letter, landed, is_in, nth}
-use Rattle.run_defs.specs.States.{State, letter_for, item_for, carried_for, confirmed_for, offer_for, tick_for, order_for, octets_from, octets_on, CoreStepped, core_stepped, World, spent_counter, goes, stops, ◌next◌, goes_on, Within, Outcome, as_step, prints, refused, entity, was_attached, is_attached, has_bearer, sn_of, book_of, with_book, radio_of, with_radio}
-use Rattle.run_defs.specs.Steps.{check_spans, put_on_tunnel, put_out_all, lose_radios, connect_in, letters_spent, too_many_letters, Done, is_done, is_held, is_refused, does, ordered_by, step}
-use Rattle.run_defs.specs.Conditions.{serving_gnb, serving_place, seated, statically, is_held_by_units, has_started, ready_home, receiver_of, sender_of, epoch_of, takes_letters, state_at, has_home, ticking, goal_of, is_same_place, is_other_up, is_busy_with, ask_line, is_interface}
+use Rattle.transport_defs.specs.Links.{control_message, landed, is_in, nth}
+use Rattle.run_defs.specs.States.{State, control_message_for, item_for, carried_for, confirmed_for, offer_for, tick_for, order_for, octets_from, octets_on, CoreStepped, core_stepped, World, spent_counter, goes, stops, ◌next◌, goes_on, Within, Outcome, as_step, prints, refused, entity, was_attached, is_attached, has_bearer, sn_of, book_of, with_book, radio_of, with_radio}
+use Rattle.run_defs.specs.Steps.{check_spans, put_on_tunnel, put_out_all, lose_radios, connect_in, control_messages_spent, too_many_control_messages, Done, is_done, is_held, is_refused, does, ordered_by, step}
+use Rattle.run_defs.specs.Conditions.{serving_gnb, serving_place, seated, statically, is_held_by_units, has_started, ready_home, receiver_of, sender_of, epoch_of, takes_control_messages, state_at, has_home, ticking, goal_of, is_same_place, is_other_up, is_busy_with, ask_line, is_interface}
 
 module _ {M C L P : Type 0} (world : World M C L P) where
   -- ---- static
@@ -36,8 +36,8 @@ module _ {M C L P : Type 0} (world : World M C L P) where
   unfoldable pub static : Plan → State M C L P → Outcome M C L P
   static plan s =
       if was_attached s plan.ue || is_held_by_units plan s.units then refused Attached s else
-      (if not (up_has_room (up_of s.units plan.gnb plan.up) plan) then refused Quota s else
-      (if up_has_teids (up_of s.units plan.gnb plan.up) plan && du_has_teids (du_of s.units plan.gnb plan.du) plan
+      (if not (cu_up_has_room (cu_up_of s.units plan.gnb plan.up) plan) then refused Quota s else
+      (if cu_up_has_teids (cu_up_of s.units plan.gnb plan.up) plan && du_has_teids (du_of s.units plan.gnb plan.du) plan
       then goes_on (statically plan s) else stops [] (spent_counter teids_spent)))
 
   -- ---- start and attach
@@ -157,35 +157,35 @@ module _ {M C L P : Type 0} (world : World M C L P) where
 
   -- ---- give, lose and pump
 
-  abbrev pub landed_as : ℕ → Letter M → State M C L P → Within M C L P
+  abbrev pub landed_as : ℕ → ControlMessage M → State M C L P → Within M C L P
   landed_as number l s = goes (got_message number l ∷ []) (record s { bag = landed s.bag number })
 
-  abbrev pub core_put : ℕ → Letter M → State M C L P → CoreStepped M C L P → Outcome M C L P
+  abbrev pub core_put : ℕ → ControlMessage M → State M C L P → CoreStepped M C L P → Outcome M C L P
   core_put number l s (core_stepped outputs core) =
-      if too_many_letters world outputs s then stops [] (spent_counter letters_spent) else
+      if too_many_control_messages world outputs s then stops [] (spent_counter control_messages_spent) else
       as_step (Some Core) (landed_as number l (record s { core = core }) next put_out_all world Core None outputs next check_spans)
 
-  abbrev pub give_to : ℕ → Letter M → NodeId → State M C L P → Outcome M C L P
-  give_to number l Core s = core_put number l s (world.core_answer (sn_of s) s.core (letter_for l.from l.message))
+  abbrev pub give_to : ℕ → ControlMessage M → NodeId → State M C L P → Outcome M C L P
+  give_to number l Core s = core_put number l s (world.core_answer (sn_of s) s.core (control_message_for l.from l.message))
   give_to number l node s =
-      if takes_letters s node
-      then ordered_by world s (does world node (letter_for l.from l.message) None (landed_as number l) s)
+      if takes_control_messages s node
+      then ordered_by world s (does world node (control_message_for l.from l.message) None (landed_as number l) s)
       else as_step (Some node) (landed_as number l s)
 
-  abbrev pub give_on : ℕ → State M C L P → Option (Letter M) → Outcome M C L P
+  abbrev pub give_on : ℕ → State M C L P → Option (ControlMessage M) → Outcome M C L P
   give_on number s None = refused NoSuch s
   give_on number s (Some l) = give_to number l l.to s
 
   unfoldable pub give : ℕ → State M C L P → Outcome M C L P
-  give number s = give_on number s (letter s.bag number)
+  give number s = give_on number s (control_message s.bag number)
 
-  abbrev pub lose_message_on : ℕ → State M C L P → Option (Letter M) → Outcome M C L P
+  abbrev pub lose_message_on : ℕ → State M C L P → Option (ControlMessage M) → Outcome M C L P
   lose_message_on number s None = refused NoSuch s
   lose_message_on number s (Some l) =
       if is_in number s.bag.flight then prints (lost_message number ∷ []) (record s { bag = landed s.bag number }) else refused Empty s
 
   unfoldable pub lose_message : ℕ → State M C L P → Outcome M C L P
-  lose_message number s = lose_message_on number s (letter s.bag number)
+  lose_message number s = lose_message_on number s (control_message s.bag number)
 
   -- only an F1-U downlink tunnel may lose an item
   abbrev pub is_lossy : NodeId → Bool
@@ -229,7 +229,7 @@ module _ {M C L P : Type 0} (world : World M C L P) where
   abbrev pub poll_at : UeId → BearerId → Gnb → State M C L P → Option (ℕ × ℕ) → Outcome M C L P
   poll_at ue bearer gnb s None = refused Empty s
   poll_at ue bearer gnb s (Some place) =
-      if is_unconfirmed (up_of s.units gnb place.0) ue bearer
+      if is_unconfirmed (cu_up_of s.units gnb place.0) ue bearer
       then step world (CuUp gnb place.0) (order_for (orders.Poll ue bearer)) s else refused Empty s
 
   unfoldable pub poll : UeId → BearerId → State M C L P → Outcome M C L P
@@ -275,8 +275,8 @@ module _ {M C L P : Type 0} (world : World M C L P) where
   unfoldable pub cancel : UeId → State M C L P → Outcome M C L P
   cancel ue s =
       if not (is_attached s ue) then refused NoUe s else
-      (if is_source s.units.cp_a ue then step world (CuCp A) (order_for (orders.Cancel ue)) s else
-      (if is_source s.units.cp_b ue then step world (CuCp B) (order_for (orders.Cancel ue)) s else refused Empty s))
+      (if is_source s.units.cu_cp_a ue then step world (CuCp A) (order_for (orders.Cancel ue)) s else
+      (if is_source s.units.cu_cp_b ue then step world (CuCp B) (order_for (orders.Cancel ue)) s else refused Empty s))
 
   abbrev pub leaves : UeId → State M C L P → Within M C L P
   leaves ue s = lose_radios world ue s next (λ t. goes_on (record (connect_in world ue None t) { gone = t.gone ++ ue ∷ [] }))

@@ -17,13 +17,13 @@ use Rattle.unit_defs.specs.declared.AttemptKind.{AttemptKind}
 use Rattle.unit_defs.specs.declared.AttemptKind.TheVariants as kinds
 use Rattle.unit_defs.specs.Messages.{channel}
 use Rattle.unit_defs.specs.Transactions.{waits_at}
-use Rattle.unit_defs.specs.UpRecords.{UpBearer, UpContext}
-use Rattle.unit_defs.specs.UpBearers.{hop_is_done}
+use Rattle.unit_defs.specs.CuUpRecords.{CuUpBearer, CuUpContext}
+use Rattle.unit_defs.specs.CuUpBearers.{hop_is_done}
 use Rattle.unit_defs.specs.Ue.{UeBearer, UeNode}
-use Rattle.unit_defs.specs.CpRecords.{Attempt, CpContext, CuCpRecord, terminal_of}
-use Rattle.run_defs.specs.Lines.{Letter}
+use Rattle.unit_defs.specs.CuCpRecords.{Attempt, CuCpContext, CuCpRecord, terminal_of}
+use Rattle.run_defs.specs.Lines.{ControlMessage}
 use Rattle.run_defs.specs.Units.{ue_of}
-use Rattle.transport_defs.specs.Links.{Bag, letter, tunnel_counts, radio_counts, least}
+use Rattle.transport_defs.specs.Links.{Bag, control_message, tunnel_counts, radio_counts, least}
 use Rattle.run_defs.specs.States.{State, sn_of, book_of}
 use Rattle.run_defs.specs.Settling.{attached_plans, attached_entities}
 
@@ -32,15 +32,15 @@ use Rattle.run_defs.specs.Settling.{attached_plans, attached_entities}
 abbrev pub counts_in : List (ℕ × List ℕ) → List ℕ
 counts_in packets = map (λ e. e.0) packets
 
-abbrev pub kept_up : Dir → UpBearer → List ℕ
+abbrev pub kept_up : Dir → CuUpBearer → List ℕ
 kept_up Dl b = counts_in b.sender.unconfirmed
 kept_up Ul b = counts_in b.receiver.stored
 
-abbrev pub kept_up_in : Dir → Option UpBearer → List ℕ
+abbrev pub kept_up_in : Dir → Option CuUpBearer → List ℕ
 kept_up_in dir None = []
 kept_up_in dir (Some b) = kept_up dir b
 
-abbrev pub kept_up_of : EntityKey → Option UpContext → List ℕ
+abbrev pub kept_up_of : EntityKey → Option CuUpContext → List ℕ
 kept_up_of key None = []
 kept_up_of key (Some c) = kept_up_in key.dir (find bearer_cmp c.bearers key.bearer)
 
@@ -93,7 +93,7 @@ abbrev pub is_xn_attempt : Option Attempt → Bool
 is_xn_attempt None = false
 is_xn_attempt (Some a) = is_over_xn a.kind
 
-abbrev pub is_xn_context : Option CpContext → Bool
+abbrev pub is_xn_context : Option CuCpContext → Bool
 is_xn_context None = false
 is_xn_context (Some c) = is_xn_attempt c.attempt
 
@@ -102,12 +102,12 @@ abbrev pub is_cu_cp : NodeId → Bool
 is_cu_cp (CuCp gnb) = true
 is_cu_cp node = false
 
-abbrev pub is_xn_letter : {M : Type 0} → UeId → Option (Letter M) → Bool
-is_xn_letter ue None = false
-is_xn_letter ue (Some l) = l.ue == ue.0 && is_cu_cp l.from && is_cu_cp l.to
+abbrev pub is_xn_control_message : {M : Type 0} → UeId → Option (ControlMessage M) → Bool
+is_xn_control_message ue None = false
+is_xn_control_message ue (Some l) = l.ue == ue.0 && is_cu_cp l.from && is_cu_cp l.to
 
 abbrev pub flies_over_xn : {M : Type 0} → Bag M → UeId → Bool
-flies_over_xn bag ue = list_any (λ number. is_xn_letter ue (letter bag number)) bag.flight
+flies_over_xn bag ue = list_any (λ number. is_xn_control_message ue (control_message bag number)) bag.flight
 
 -- no request to the other CU-CP that is open or waits
 abbrev pub asks_over_xn : {M C : Type 0} → CuCpRecord M C → NodeId → UeId → Bool
@@ -115,18 +115,18 @@ asks_over_xn r peer ue =
     is_open r.transactions.caller (channel ue.0 peer) || not (length (waits_at r.transactions (channel ue.0 peer)) == 0)
 
 -- no hop of its bearers that isn't done, and no released context
-abbrev pub is_left_over : UpContext → Bool
+abbrev pub is_left_over : CuUpContext → Bool
 is_left_over c = c.flags.released || not (list_all (λ e. hop_is_done c.flags e.1) c.bearers)
 
-abbrev pub is_left_over_in : Option UpContext → Bool
+abbrev pub is_left_over_in : Option CuUpContext → Bool
 is_left_over_in None = false
 is_left_over_in (Some c) = is_left_over c
 
 unfoldable pub is_at_home : {M C L P : Type 0} → State M C L P → UeId → Bool
 is_at_home s ue =
-    not (is_xn_context (terminal_of s.units.cp_a ue).context || is_xn_context (terminal_of s.units.cp_b ue).context)
+    not (is_xn_context (terminal_of s.units.cu_cp_a ue).context || is_xn_context (terminal_of s.units.cu_cp_b ue).context)
     && not (flies_over_xn s.bag ue)
-    && not (asks_over_xn s.units.cp_a (CuCp B) ue || asks_over_xn s.units.cp_b (CuCp A) ue)
+    && not (asks_over_xn s.units.cu_cp_a (CuCp B) ue || asks_over_xn s.units.cu_cp_b (CuCp A) ue)
     && not (list_any (λ e. is_left_over_in (find ue_cmp e.1.contexts ue)) s.units.ups)
 
 abbrev pub AtHome : {M C L P : Type 0} → State M C L P → UeId → Type 0

@@ -99,7 +99,7 @@ legs_given key node (e1 (e1s.BearerContextSetupResponse ue instance uplinks n3 d
 legs_given key node message = []
 
 abbrev pub legs_in : EntityKey → NodeId → PlainLine → List Leg
-legs_in key node (put_message number letter) = if eq_by_cmp node_cmp letter.from node then legs_given key node letter.message else []
+legs_in key node (put_message number control_message) = if eq_by_cmp node_cmp control_message.from node then legs_given key node control_message.message else []
 legs_in key node line = []
 
 -- in the order in which they were made; a response that is repeated names its context again
@@ -138,11 +138,11 @@ has_statuses (e1 (e1s.BearerContextModificationResponse ue instance uplinks stat
 has_statuses message = false
 
 abbrev pub takes_freeze : EntityKey → NodeId → ℕ → PlainLine → Bool
-takes_freeze key node teid (got_message number letter) = asks_freeze key node teid letter.message
+takes_freeze key node teid (got_message number control_message) = asks_freeze key node teid control_message.message
 takes_freeze key node teid line = false
 
 abbrev pub puts_statuses : PlainLine → Bool
-puts_statuses (put_message number letter) = has_statuses letter.message
+puts_statuses (put_message number control_message) = has_statuses control_message.message
 puts_statuses line = false
 
 -- an act by which a node takes the request to freeze for another one's tunnel, and answers with its SN status; a request that is given

@@ -9,7 +9,7 @@ use Rattle.gnb_types.specs.declared.reasons.DropReason.{DropReason}
 use Rattle.gnb_types.specs.declared.reasons.HeldReason.{HeldReason}
 use Rattle.gnb_types.specs.declared.reasons.CauseName.{CauseName}
 use Rattle.gnb_types.specs.declared.reasons.RefuseReason.{RefuseReason}
-pub use Rattle.transport_defs.specs.declared.Letter.{Letter}
+pub use Rattle.transport_defs.specs.declared.ControlMessage.{ControlMessage}
 use Rattle.scenario_text.specs.declared.line.Link.{Link}
 use Rattle.scenario_text.specs.declared.line.Link.TheVariants as links
 use Rattle.scenario_text.specs.declared.line.Item.{Item as ShownItem}
@@ -17,8 +17,8 @@ use Rattle.scenario_text.specs.declared.line.Item.{Item as ShownItem}
 pub data RunLine (M : Type 0) : Type 0 where
   put_item : (link : Link) (item : ShownItem) → RunLine M
   got_item : (link : Link) (item : ShownItem) → RunLine M
-  put_message : (number : ℕ) (letter : Letter M) → RunLine M
-  got_message : (number : ℕ) (letter : Letter M) → RunLine M
+  put_message : (number : ℕ) (control_message : ControlMessage M) → RunLine M
+  got_message : (number : ℕ) (control_message : ControlMessage M) → RunLine M
   delivers : (key : EntityKey) (count : ℕ) (packet : List ℕ) → RunLine M
   lost_items : (link : Link) (items : ℕ) → RunLine M
   lost_message : (number : ℕ) → RunLine M

@@ -49,13 +49,13 @@ IsLocalLine sn IsSpelled acts actor (put_item link item) =
     IsLaidOut (sn item.ue) actor link item
     × ((packet : List ℕ) → Carries (sn item.ue) link item packet → WasAt sn acts actor (item_key item) packet)
 IsLocalLine sn IsSpelled acts actor (delivers key count packet) = WasAt sn acts actor key packet
-IsLocalLine sn IsSpelled acts actor (put_message number letter) = (letter.from ≡ actor) × IsSpelled actor letter.to letter.message
+IsLocalLine sn IsSpelled acts actor (put_message number control_message) = (control_message.from ≡ actor) × IsSpelled actor control_message.to control_message.message
 IsLocalLine sn IsSpelled acts actor line = Unit {0}
 
 -- an event without an acting unit puts and delivers nothing
 abbrev pub puts_something : {M : Type 0} → RunLine M → Bool
 puts_something (put_item link item) = true
-puts_something (put_message number letter) = true
+puts_something (put_message number control_message) = true
 puts_something (delivers key count packet) = true
 puts_something line = false
 

@@ -21,8 +21,8 @@ use Rattle.unit_defs.specs.Core.{CoreRecord, core_acts}
 use Rattle.scenario_text.specs.declared.event.Event.{Event}
 use Rattle.scenario_text.specs.declared.event.Event.TheVariants as events
 use Rattle.run_defs.specs.Lines.{RunLine}
-use Rattle.run_defs.specs.Units.{Units, cp_of, with_cp, up_of, with_up, du_of, with_du, ue_of, with_ue}
-use Rattle.run_defs.specs.States.{State, new_state, Lengths, Given, letter_for, item_for, carried_for, confirmed_for, offer_for, tick_for, order_for, octets_from, octets_on, stepped, step_spent, core_stepped, World, Stop, goes, stops, Outcome, RunStep, entity}
+use Rattle.run_defs.specs.Units.{Units, cu_cp_of, with_cu_cp, cu_up_of, with_cu_up, du_of, with_du, ue_of, with_ue}
+use Rattle.run_defs.specs.States.{State, new_state, Lengths, Given, control_message_for, item_for, carried_for, confirmed_for, offer_for, tick_for, order_for, octets_from, octets_on, stepped, step_spent, core_stepped, World, Stop, goes, stops, Outcome, RunStep, entity}
 use Rattle.run_defs.specs.Written.{Written, written_put, PlainStepped, WrittenStepped, WrittenCoreStepped, written_step}
 use Rattle.run_defs.specs.Events.{static, start, attach, offer, get, air, ack, give, lose_message, lose_item, pump, tick, poll, fail, arrive, come_back, handover, cancel, release, ask, inject_message, inject_item}
 use Rattle.run_defs.specs.Settling.{settle}
@@ -91,7 +91,7 @@ module _ {M C L P : Type 0} (world : World M C L P) where
 -- ---- the link of a tunnel, as its end's record has it
 
 abbrev pub link_of_teid : {M C : Type 0} → Units M C → NodeId → ℕ → Option (Link × SnBits)
-link_of_teid units (CuUp gnb number) teid = up_link (up_of units gnb number) teid
+link_of_teid units (CuUp gnb number) teid = up_link (cu_up_of units gnb number) teid
 link_of_teid units (Du gnb number) teid = du_link (du_of units gnb number) teid
 link_of_teid units node teid = None
 
@@ -110,7 +110,7 @@ number_in sn (report_pdu fmc bits) = None
 
 abbrev pub plain_way : Way (Message Token) Token Pdu
 plain_way = record {
-  spell = λ m. m;
+  encode = λ m. m;
   wrap = λ token. token;
   unwrap = λ token. Some token;
   pass = λ token. rrc token;
@@ -144,7 +144,7 @@ pub record Reading : Type 0 where
 
 module _ (reading : Reading) where
   abbrev pub input_of : PlainGiven → Option (Input Token Pdu)
-  input_of (letter_for from message) = Some (control_input from message)
+  input_of (control_message_for from message) = Some (control_input from message)
   input_of (item_for teid item) = Some (packet_input teid (taken_of item.content.says))
   input_of (carried_for item) = Some (radio_input item.key.ue item.key.bearer item.key.dir item.content.says (content_of item.content.says))
   input_of (confirmed_for item) = Some (confirm_input item.key.ue item.key.bearer item.key.dir item.content.says (content_of item.content.says))
@@ -171,8 +171,8 @@ module _ (reading : Reading) where
   ue_stepped units ue input (Some u) = stepped_with (with_ue units (record { 0 = ue })) (ue_acts plain_way u input)
 
   abbrev pub acts_on : Units (Message Token) Token → NodeId → Input Token Pdu → PlainStepped
-  acts_on units (CuCp gnb) input = stepped_with (with_cp units gnb) (cu_cp_acts plain_way (cp_of units gnb) input)
-  acts_on units (CuUp gnb number) input = stepped_with (with_up units gnb number) (cu_up_acts plain_way (up_of units gnb number) input)
+  acts_on units (CuCp gnb) input = stepped_with (with_cu_cp units gnb) (cu_cp_acts plain_way (cu_cp_of units gnb) input)
+  acts_on units (CuUp gnb number) input = stepped_with (with_cu_up units gnb number) (cu_up_acts plain_way (cu_up_of units gnb number) input)
   acts_on units (Du gnb number) input = stepped_with (with_du units gnb number) (du_acts plain_way (du_of units gnb number) input)
   acts_on units (Ue ue) input = ue_stepped units ue input (ue_of units (record { 0 = ue }))
   acts_on units Core input = stepped [] units
@@ -189,7 +189,7 @@ module _ (reading : Reading) where
   core_done sn r (spent counter) = core_stepped [] r
 
   abbrev pub plain_core : Lengths → CoreRecord (Message Token) Token → PlainGiven → WrittenCoreStepped
-  plain_core sn r (letter_for from message) = core_done sn r (core_acts plain_way r from message)
+  plain_core sn r (control_message_for from message) = core_done sn r (core_acts plain_way r from message)
   plain_core sn r given = core_stepped (dropped (fault_of Core given) ∷ []) r
 
   abbrev pub is_none_fault : Option DropReason → Bool

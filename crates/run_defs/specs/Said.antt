@@ -9,7 +9,7 @@ use Rattle.scenario_text.specs.declared.event.Event.TheVariants as events
 use Rattle.scenario_text.specs.declared.line.Link.{Link}
 use Rattle.scenario_text.specs.declared.line.Link.TheVariants.{Tunnel, Radio}
 use Rattle.scenario_text.specs.declared.line.Item.{Item}
-use Rattle.run_defs.specs.Lines.{Letter, RunLine, put_item, got_item, put_message, got_message, delivers, lost_items, was_refused}
+use Rattle.run_defs.specs.Lines.{ControlMessage, RunLine, put_item, got_item, put_message, got_message, delivers, lost_items, was_refused}
 use Rattle.run_defs.specs.States.{RunStep}
 use Rattle.run_defs.specs.Runs.{Happened}
 
@@ -62,10 +62,10 @@ same_link a b = false
 -- what stands on each link, and the control messages that were put
 pub record OnLinks (M : Type 0) : Type 0 where
   pub items : Link → List Item
-  pub letters : List (Letter M)
+  pub control_messages : List (ControlMessage M)
 
 abbrev pub no_items : {M : Type 0} → OnLinks M
-no_items = record { items = λ link. []; letters = [] }
+no_items = record { items = λ link. []; control_messages = [] }
 
 abbrev pub with_items : {M : Type 0} → OnLinks M → Link → List Item → OnLinks M
 with_items on link items = record on { items = λ other. if same_link link other then items else on.items other }
@@ -79,14 +79,14 @@ abbrev pub after_line : {M : Type 0} → OnLinks M → RunLine M → OnLinks M
 after_line on (put_item link item) = with_items on link (on.items link ++ item ∷ [])
 after_line on (got_item link item) = with_items on link (drop 1 (on.items link))
 after_line on (lost_items link count) = with_items on link (after_loss link count (on.items link))
-after_line on (put_message number letter) = record on { letters = on.letters ++ letter ∷ [] }
+after_line on (put_message number control_message) = record on { control_messages = on.control_messages ++ control_message ∷ [] }
 after_line on line = on
 
 -- a line that takes something repeats what was put: the oldest item of its link, and the message of its number
 abbrev pub IsOnWire : {M : Type 0} → OnLinks M → RunLine M → Type 0
 IsOnWire on (got_item link item) = slice_get (on.items link) 0 ≡ Some item
-IsOnWire on (put_message number letter) = number ≡ length on.letters + 1
-IsOnWire on (got_message number letter) = (0 ≡ number → ⊥) × (slice_get on.letters (number - 1) ≡ Some letter)
+IsOnWire on (put_message number control_message) = number ≡ length on.control_messages + 1
+IsOnWire on (got_message number control_message) = (0 ≡ number → ⊥) × (slice_get on.control_messages (number - 1) ≡ Some control_message)
 IsOnWire on line = Unit {0}
 
 abbrev pub WiresFrom : {M : Type 0} → OnLinks M → List (RunLine M) → Type 0

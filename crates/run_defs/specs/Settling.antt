@@ -17,7 +17,7 @@ use Rattle.unit_defs.specs.declared.UeState.{UeState}
 use Rattle.unit_defs.specs.declared.UeState.TheVariants as ue_states
 use Rattle.unit_defs.specs.Accessors.{is_unconfirmed}
 use Rattle.run_defs.specs.Lines.{RunLine, held_at, has_settled, has_not_settled, tunnel_link, radio_link}
-use Rattle.run_defs.specs.Units.{up_of}
+use Rattle.run_defs.specs.Units.{cu_up_of}
 use Rattle.transport_defs.specs.declared.Item.{Item}
 use Rattle.transport_defs.specs.Links.{nth}
 use Rattle.run_defs.specs.States.{State, order_for, World, goes, ◌next◌, goes_on, Outcome, as_step, prints, is_gone, book_of, radio_of}
@@ -177,7 +177,7 @@ module _ {M C L P : Type 0} (world : World M C L P) where
   poll_at e s None = goes_on s
   poll_at e s (Some place) =
       let gnb = serving_gnb s e.0 in
-      if is_unconfirmed (up_of s.units gnb place.0) e.0 e.1 then quiet_order (CuUp gnb place.0) (orders.Poll e.0 e.1) s else goes_on s
+      if is_unconfirmed (cu_up_of s.units gnb place.0) e.0 e.1 then quiet_order (CuUp gnb place.0) (orders.Poll e.0 e.1) s else goes_on s
 
   abbrev pub poll_each : List (UeId × BearerId) → State M C L P → Outcome M C L P
   poll_each [] s = goes_on s

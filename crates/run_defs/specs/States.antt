@@ -19,7 +19,7 @@ use Rattle.unit_defs.specs.Core.{CoreRecord, new_core}
 use Rattle.run_defs.specs.Lines.{RunLine, was_refused}
 use Rattle.run_defs.specs.Units.{Units, new_units}
 use Rattle.transport_defs.specs.declared.Item.{Item}
-use Rattle.transport_defs.specs.Links.{Bag, no_letters, Radio}
+use Rattle.transport_defs.specs.Links.{Bag, no_control_messages, Radio}
 
 -- how many packets of a bearer and direction were offered, numbered and delivered
 pub record Book : Type 0 where
@@ -48,7 +48,7 @@ abbrev pub new_state : {M C L P : Type 0} → State M C L P
 new_state = record {
   units = new_units;
   core = new_core;
-  bag = no_letters;
+  bag = no_control_messages;
   tunnels = [];
   radios = [];
   connected = [];
@@ -62,7 +62,7 @@ new_state = record {
 
 pub data Given (M L P : Type 0) : Type 0 where
   -- a control message, an item of a tunnel with the COUNT beside it, a PDU that a radio carried, or that was confirmed
-  letter_for : (from : NodeId) (message : M) → Given M L P
+  control_message_for : (from : NodeId) (message : M) → Given M L P
   item_for : (teid : ℕ) (item : Item L) → Given M L P
   carried_for : (item : Item P) → Given M L P
   confirmed_for : (item : Item P) → Given M L P

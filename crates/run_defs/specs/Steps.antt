@@ -22,10 +22,10 @@ use Rattle.unit_defs.specs.declared.UeState.{UeState}
 use Rattle.unit_defs.specs.declared.UeState.TheVariants as ue_states
 use Rattle.unit_defs.specs.Ways.{Put, control, packet, radio, deliver, dropped, held, opened, closed, failed, no}
 use Rattle.unit_defs.specs.Ue.{UeNode}
-use Rattle.run_defs.specs.Lines.{Letter, RunLine, put_item, put_message, delivers, lost_items, drops_input, procedure_failed, tunnel_link, radio_link, shown}
+use Rattle.run_defs.specs.Lines.{ControlMessage, RunLine, put_item, put_message, delivers, lost_items, drops_input, procedure_failed, tunnel_link, radio_link, shown}
 use Rattle.run_defs.specs.Units.{Units, ue_of}
 use Rattle.transport_defs.specs.declared.Item.{Item}
-use Rattle.transport_defs.specs.Links.{most_letters, put_letter, emptied, is_epoch, connect, tunnel_counts, radio_counts, least, Radio}
+use Rattle.transport_defs.specs.Links.{most_control_messages, put_control_message, emptied, is_epoch, connect, tunnel_counts, radio_counts, least, Radio}
 use Rattle.run_defs.specs.States.{State, was_attached, Given, Stepped, stepped, step_spent, World, Stop, outstanding, spent_counter, goes, stops, ◌next◌, goes_on, Within, Outcome, as_step, refused, entity, sn_of, book_of, with_book, radio_of, with_radio}
 
 -- ---- span: how far the COUNTs reach that were given and aren't all delivered, or still stand on a link
@@ -76,8 +76,8 @@ pub data Done (M C L P : Type 0) : Type 0 where
   is_refused : (reason : RefuseReason) → Done M C L P
 
 -- the first counter: control messages of the whole run
-abbrev pub letters_spent : ℕ
-letters_spent = 1
+abbrev pub control_messages_spent : ℕ
+control_messages_spent = 1
 
 -- an open tunnel; one that is open stays as it is
 abbrev pub with_tunnel : {L : Type 0} → TunnelEnd → List (TunnelEnd × List (Item L)) → List (TunnelEnd × List (Item L))
@@ -108,11 +108,11 @@ module _ {M C L P : Type 0} (world : World M C L P) where
 
   -- ---- control messages
 
-  abbrev pub letter_of : NodeId → NodeId → ℕ → M → Letter M
-  letter_of from to ue message = record { from = from; to = to; ue = ue; message = message }
+  abbrev pub control_message_of : NodeId → NodeId → ℕ → M → ControlMessage M
+  control_message_of from to ue message = record { from = from; to = to; ue = ue; message = message }
 
-  unfoldable pub put_control : Letter M → State M C L P → Within M C L P
-  put_control l s = goes (put_message (length s.bag.letters + 1) l ∷ []) (record s { bag = put_letter s.bag l })
+  unfoldable pub put_control : ControlMessage M → State M C L P → Within M C L P
+  put_control l s = goes (put_message (length s.bag.control_messages + 1) l ∷ []) (record s { bag = put_control_message s.bag l })
 
   -- ---- tunnels are opened, where they aren't open, and closed; what stands on a closed one is lost
 
@@ -190,7 +190,7 @@ module _ {M C L P : Type 0} (world : World M C L P) where
   delivered key s = with_book key (record (book_of s key) { delivered = (book_of s key).delivered + 1 }) s
 
   abbrev pub put_out : NodeId → Option ℕ → Put M L P → State M C L P → Within M C L P
-  put_out node taken (control to ue message) s = put_control (letter_of node to ue message) s
+  put_out node taken (control to ue message) s = put_control (control_message_of node to ue message) s
   put_out node taken (packet to teid ue bearer dir tag load) s =
       put_on_tunnel (record { node = to; teid = teid }) (item_of ue bearer dir (count_beside tag taken) load) (noted (entity ue bearer dir) tag s)
   put_out node taken (radio ue bearer dir epoch tag pdu) s =
@@ -209,13 +209,13 @@ module _ {M C L P : Type 0} (world : World M C L P) where
 
   -- ---- a step: held, refused, spent, or done
 
-  abbrev pub count_letters : List (Put M L P) → ℕ
-  count_letters [] = 0
-  count_letters (control to ue message ∷ outputs) = count_letters outputs + 1
-  count_letters (output ∷ outputs) = count_letters outputs
+  abbrev pub count_control_messages : List (Put M L P) → ℕ
+  count_control_messages [] = 0
+  count_control_messages (control to ue message ∷ outputs) = count_control_messages outputs + 1
+  count_control_messages (output ∷ outputs) = count_control_messages outputs
 
-  abbrev pub too_many_letters : List (Put M L P) → State M C L P → Bool
-  too_many_letters outputs s = nat_lt most_letters (length s.bag.letters + count_letters outputs)
+  abbrev pub too_many_control_messages : List (Put M L P) → State M C L P → Bool
+  too_many_control_messages outputs s = nat_lt most_control_messages (length s.bag.control_messages + count_control_messages outputs)
 
   -- what the step takes is taken (first), the radios follow the terminal, and the outputs are put
   abbrev pub carried_out : NodeId → Option ℕ → (State M C L P → Within M C L P) → List (Put M L P) → Units M C → State M C L P → Within M C L P
@@ -226,7 +226,7 @@ module _ {M C L P : Type 0} (world : World M C L P) where
   done_with node taken first s (stepped (held reason ∷ []) units) = is_held reason
   done_with node taken first s (stepped (no reason ∷ []) units) = is_refused reason
   done_with node taken first s (stepped outputs units) =
-      if too_many_letters outputs s then is_done (stops [] (spent_counter letters_spent))
+      if too_many_control_messages outputs s then is_done (stops [] (spent_counter control_messages_spent))
       else is_done (as_step (Some node) (carried_out node taken first outputs units s))
   done_with node taken first s (step_spent counter) = is_done (stops [] (spent_counter counter))
 

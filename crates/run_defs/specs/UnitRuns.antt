@@ -17,8 +17,8 @@ use Rattle.unit_defs.specs.octet_defs.Codec.{Codec}
 use Rattle.unit_defs.specs.octet_defs.Writing.{outputs_of}
 use Rattle.unit_defs.specs.octet_defs.Units.{OctetAnswer, cu_cp_steps, cu_up_steps, du_steps, ue_steps, core_steps}
 use Rattle.scenario_text.specs.declared.event.Event.{Event}
-use Rattle.run_defs.specs.Units.{Units, cp_of, with_cp, up_of, with_up, du_of, with_du, ue_of, with_ue}
-use Rattle.run_defs.specs.States.{Given, letter_for, item_for, carried_for, confirmed_for, offer_for, tick_for, order_for, octets_from, octets_on, Stepped, stepped, step_spent, CoreStepped, core_stepped, World}
+use Rattle.run_defs.specs.Units.{Units, cu_cp_of, with_cu_cp, cu_up_of, with_cu_up, du_of, with_du, ue_of, with_ue}
+use Rattle.run_defs.specs.States.{Given, control_message_for, item_for, carried_for, confirmed_for, offer_for, tick_for, order_for, octets_from, octets_on, Stepped, stepped, step_spent, CoreStepped, core_stepped, World}
 use Rattle.run_defs.specs.Runs.{Reading, Transcript, run, link_at, is_item_on}
 
 -- ---- what units are: records, which hold octets, and what a unit of them answers
@@ -50,7 +50,7 @@ abbrev pub OctetCoreStepped : Type 0
 OctetCoreStepped = CoreStepped (List ℕ) (List ℕ) (List ℕ) (List ℕ)
 
 abbrev pub input_of : OctetGiven → Input
-input_of (letter_for from octets) = ins.Control from octets
+input_of (control_message_for from octets) = ins.Control from octets
 input_of (item_for teid item) = ins.Packet teid item.content
 input_of (carried_for item) = ins.Radio item.key.ue item.key.bearer item.key.dir item.content
 input_of (confirmed_for item) = ins.Confirm item.key.ue item.key.bearer item.key.dir item.content
@@ -84,7 +84,7 @@ module _ (codec : Codec) where
   core_done r (spent counter) = core_stepped [] r
 
   abbrev pub core_answer : CoreRecord (List ℕ) (List ℕ) → OctetGiven → OctetCoreStepped
-  core_answer r (letter_for from octets) = core_done r (core_steps codec r from octets)
+  core_answer r (control_message_for from octets) = core_done r (core_steps codec r from octets)
   core_answer r (octets_from from octets) = core_done r (core_steps codec r from octets)
   core_answer r given = core_stepped (dropped Unexpected ∷ []) r
 
@@ -131,8 +131,8 @@ module _ (codec : Codec) where
   ue_answers records ue input (Some u) = answered_with (with_ue records (record { 0 = ue })) (ue_steps codec u input)
 
   unfoldable pub tables : Meaning
-  tables records (CuCp gnb) input = answered_with (with_cp records gnb) (cu_cp_steps codec (cp_of records gnb) input)
-  tables records (CuUp gnb number) input = answered_with (with_up records gnb number) (cu_up_steps codec (up_of records gnb number) input)
+  tables records (CuCp gnb) input = answered_with (with_cu_cp records gnb) (cu_cp_steps codec (cu_cp_of records gnb) input)
+  tables records (CuUp gnb number) input = answered_with (with_cu_up records gnb number) (cu_up_steps codec (cu_up_of records gnb number) input)
   tables records (Du gnb number) input = answered_with (with_du records gnb number) (du_steps codec (du_of records gnb number) input)
   tables records (Ue ue) input = ue_answers records ue input (ue_of records (record { 0 = ue }))
   tables records Core input = unit_gives [] records

@@ -15,8 +15,8 @@ use Rattle.links.specs.Radios.{RadioLinks, radio_of, with_radio, uncarried, head
 use Rattle.run_defs.specs.Lines.{radio_link, shown}
 use Rattle.run_defs.specs.Events.{carried_off, confirmed_off}
 use Rattle.run_defs.specs.Conditions.{epoch_in}
-use Rattle.run_links.specs.declared.ground.Ground.{Ground}
-use Rattle.run_links.specs.Grounds.{Octets, state_of}
+use Rattle.run_links.specs.declared.network.Network.{Network}
+use Rattle.run_links.specs.Networks.{Octets, state_of}
 use Rattle.run_links.specs.Told.{Makes}
 
 pub head_shows : (r : RadioLinks Octets) (key : EntityKey) (item : Item Octets) → head r key ≡ gives item r → Some item ≡ uncarried (radio_of r key)
@@ -52,7 +52,7 @@ carries_none old key item e h is =
     let k : gives item (with_radio key (record (radio_of old key) { carried = (radio_of old key).carried + 1 }) old) ≡ refuses e = rw is at h in
     absurd cc
 
-pub carry_makes : (key : EntityKey) (old new : Ground) (item value : Item Octets) (epoch : ℕ) (before lines : List OutLine)
+pub carry_makes : (key : EntityKey) (old new : Network) (item value : Item Octets) (epoch : ℕ) (before lines : List OutLine)
     → carry old.radios key ≡ gives value new.radios → new ≡ record old { radios = new.radios } → uncarried (radio_of old.radios key) ≡ Some item
     → epoch ≡ epoch_in (find ue_cmp old.radios.connected key.ue)
     → lines ≡ before ++ outs.Got (radio_link key epoch) (shown value.key value.count value.content) ∷ []
@@ -62,7 +62,7 @@ carry_makes key old new item value epoch before lines h same is at_epoch printed
       printed_so ∙ ap (λ (n : ℕ). before ++ outs.Got (radio_link key n) (shown value.key value.count value.content) ∷ []) at_epoch
           ∙ ap (λ (i : Item Octets). before ++ outs.Got (radio_link key (epoch_in (find ue_cmp old.radios.connected key.ue)))
           (shown i.key i.count i.content) ∷ []) k.0,
-      ap (λ (r : RadioLinks Octets). state_of units core (record old { radios = r })) (sym k.1) ∙ ap (λ (g : Ground). state_of units core g) (sym same),
+      ap (λ (r : RadioLinks Octets). state_of units core (record old { radios = r })) (sym k.1) ∙ ap (λ (g : Network). state_of units core g) (sym same),
     )
 
 -- ---- the oldest carried item is out
@@ -91,12 +91,12 @@ confirms old new key item rest (Ok value) h e f = confirms_in old new key item v
 confirms old new key item rest (Err error) h e f =
     confirms_none old key item rest (radio_of old key).items (radio_of old key).carried error h.0 e f
 
-pub confirm_makes : (key : EntityKey) (old new : Ground) (item : Item Octets) (rest : List (Item Octets)) (lines : List OutLine)
+pub confirm_makes : (key : EntityKey) (old new : Network) (item : Item Octets) (rest : List (Item Octets)) (lines : List OutLine)
     (result : Result (Item Octets) LinkError) → AnswersSurely (confirm old.radios key) old.radios new.radios result
     → new ≡ record old { radios = new.radios } → (radio_of old.radios key).items ≡ item ∷ rest → ((radio_of old.radios key).carried == 0) ≡ false
     → Makes (λ world. confirmed_off world key rest) old new lines lines
 confirm_makes key old new item rest lines result h same is some codec answer units core = (
   sym (append-nil lines),
   ap (λ (r : RadioLinks Octets). state_of units core (record old { radios = r })) (sym (confirms old.radios new.radios key item rest result h is some))
-      ∙ ap (λ (g : Ground). state_of units core g) (sym same),
+      ∙ ap (λ (g : Network). state_of units core g) (sym same),
 )

@@ -17,7 +17,7 @@ use Rattle.gnb_types.proofs.Choices.{by_test}
 use Rattle.tables.specs.Tables.{without, IsSorted}
 use Rattle.transport_defs.specs.Links.{Radio, emptied}
 use Rattle.links.specs.Radios.{first_of}
-use Rattle.run_links.specs.Grounds.{Octets}
+use Rattle.run_links.specs.Networks.{Octets}
 
 abbrev Radios : Type 0
 Radios = List (EntityKey × Radio Octets)

@@ -5,7 +5,7 @@ use Rattle.scenario_text.specs.declared.line.OutLine.{OutLine}
 use Rattle.run_defs.specs.Lines.{RunLine}
 use Rattle.run_defs.specs.Printing.{out_line}
 use Rattle.run_defs.specs.States.{goes, stops, told_before, ◌next◌, goes_on}
-use Rattle.run_links.specs.Grounds.{Octets, OctetState, OctetWithin}
+use Rattle.run_links.specs.Networks.{Octets, OctetState, OctetWithin}
 use Rattle.run_links.specs.Told.{printed, GoesTo}
 
 pub printed-append : (told more : List (RunLine Octets)) → printed (told ++ more) ≡ printed told ++ printed more

@@ -4,7 +4,7 @@ pub mod FirstRadios
 pub mod Goes
 pub mod Least
 pub mod Losses
-pub mod OnLetters
+pub mod OnControlMessages
 pub mod OnRadios
 pub mod OnTunnels
 pub mod Outstanding

@@ -9,13 +9,13 @@ use Rattle.transport_defs.specs.Links.{Radio, emptied}
 use Rattle.links.specs.Radios.{first_of}
 use Rattle.run_defs.specs.Steps.{radios_of, lose_each}
 use Rattle.run_defs.specs.UnitRuns.{unit_world}
-use Rattle.run_links.specs.declared.ground.Ground.{Ground}
-use Rattle.run_links.specs.Grounds.{Octets, OctetWorld, state_of}
+use Rattle.run_links.specs.declared.network.Network.{Network}
+use Rattle.run_links.specs.Networks.{Octets, OctetWorld, state_of}
 use Rattle.run_links.specs.Told.{GoesTo, Makes, lose_one}
 use Rattle.run_links.proofs.FirstRadios.{Splits}
 use Rattle.run_links.proofs.Goes.{then_goes}
 
-pub lose_then : (ue : UeId) (epoch : ℕ) (key : EntityKey) (old middle new : Ground) (before between lines : List OutLine)
+pub lose_then : (ue : UeId) (epoch : ℕ) (key : EntityKey) (old middle new : Network) (before between lines : List OutLine)
     → Splits ue key old.radios.radios → Makes (lose_one epoch key) old middle before between
     → middle.radios.radios ≡ emptied old.radios.radios key
     → Makes (λ world. lose_each world epoch (radios_of world ue middle.radios.radios)) middle new between lines
@@ -39,7 +39,7 @@ none_left world ue (e ∷ es) h =
     (λ t. let there : Some e.0 ≡ None = rw t at h in absurd cc)
     (λ f. let there : first_of ue es ≡ None = rw f at h in rw f (none_left world ue es there))
 
-pub lose_none : (ue : UeId) (epoch : ℕ) (g : Ground) (lines : List OutLine) → first_of ue g.radios.radios ≡ None
+pub lose_none : (ue : UeId) (epoch : ℕ) (g : Network) (lines : List OutLine) → first_of ue g.radios.radios ≡ None
     → Makes (λ world. lose_each world epoch (radios_of world ue g.radios.radios)) g g lines lines
 lose_none ue epoch g lines h codec answer units core =
     let world = unit_world codec answer in

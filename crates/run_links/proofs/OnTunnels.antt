@@ -18,13 +18,13 @@ use Rattle.run_defs.specs.States.{told_before, refused}
 use Rattle.run_defs.specs.Steps.{on_tunnel, put_on_tunnel, lost_if, closes}
 use Rattle.run_defs.specs.Events.{taken_off, is_lossy, lose_items, lose_item, lose_item_on}
 use Rattle.run_defs.specs.UnitRuns.{Records, unit_world}
-use Rattle.run_links.specs.declared.ground.Ground.{Ground}
-use Rattle.run_links.specs.Grounds.{Octets, OctetWorld, OctetState, OctetCore, state_of}
+use Rattle.run_links.specs.declared.network.Network.{Network}
+use Rattle.run_links.specs.Networks.{Octets, OctetWorld, OctetState, OctetCore, state_of}
 use Rattle.run_links.specs.Told.{GoesTo, EndsAt, Makes, Ends, printed, lost_from, loses}
 
 -- ---- an item is put
 
-pub puts_open : (end : TunnelEnd) (item : Item Octets) (old new : Ground) (before lines : List OutLine)
+pub puts_open : (end : TunnelEnd) (item : Item Octets) (old new : Network) (before lines : List OutLine)
     → true ≡ is_some (find tunnel_cmp old.tunnels.tunnels end) → new.tunnels ≡ put_item old.tunnels end item
     → new ≡ record old { tunnels = new.tunnels } → lines ≡ before ++ outs.Put (tunnel_link end) (shown item.key item.count item.content) ∷ []
     → Makes (λ world. put_on_tunnel world end item) old new before lines
@@ -44,10 +44,10 @@ puts_open end item old new before lines there is same told codec answer units co
           told,
           ap (λ (t : OpenTunnels Octets). state_of units core (record old { tunnels = t }))
               (sym (is ∙ ap (λ (o : Option (List (Item Octets))). record old.tunnels { tunnels = put_on old.tunnels.tunnels end item o }) e))
-              ∙ ap (λ (g : Ground). state_of units core g) (sym same),
+              ∙ ap (λ (g : Network). state_of units core g) (sym same),
         )
 
-pub puts_closed : (end : TunnelEnd) (item : Item Octets) (old new : Ground) (before middle lines : List OutLine)
+pub puts_closed : (end : TunnelEnd) (item : Item Octets) (old new : Network) (before middle lines : List OutLine)
     → false ≡ is_some (find tunnel_cmp old.tunnels.tunnels end) → new.tunnels ≡ put_item old.tunnels end item
     → new ≡ record old { tunnels = new.tunnels } → middle ≡ before ++ outs.Put (tunnel_link end) (shown item.key item.count item.content) ∷ []
     → lines ≡ middle ++ outs.Lost (tunnel_link end) 1 ∷ []
@@ -69,7 +69,7 @@ puts_closed end item old new before middle lines there is same first second code
               ∙ append_assoc before (outs.Put (tunnel_link end) (shown item.key item.count item.content) ∷ []) (outs.Lost (tunnel_link end) 1 ∷ []),
           ap (λ (t : OpenTunnels Octets). state_of units core (record old { tunnels = t }))
               (sym (is ∙ ap (λ (o : Option (List (Item Octets))). record old.tunnels { tunnels = put_on old.tunnels.tunnels end item o }) e))
-              ∙ ap (λ (g : Ground). state_of units core g) (sym same),
+              ∙ ap (λ (g : Network). state_of units core g) (sym same),
         )
 
 -- ---- a tunnel is closed
@@ -84,7 +84,7 @@ lost_some : (world : OctetWorld) (end : TunnelEnd) (items : List (Item Octets)) 
 lost_some world end [] h = absurd (omega arith)
 lost_some world end (i ∷ is) h = refl
 
-pub closes_empty : (end : TunnelEnd) (old new : Ground) (items : ℕ) (lines : List OutLine)
+pub closes_empty : (end : TunnelEnd) (old new : Network) (items : ℕ) (lines : List OutLine)
     → items ≡ length (at tunnel_cmp [] old.tunnels.tunnels end) → items ≤ 0 → new ≡ record old { tunnels = closed old.tunnels end }
     → Makes (λ world. closes world end) old new lines lines
 unfolding closes
@@ -92,10 +92,10 @@ closes_empty end old new items lines is none same codec answer units core = (
   sym (append-nil lines)
       ∙ ap (λ l. lines ++ printed l) (sym (lost_none (unit_world codec answer) end (at tunnel_cmp [] old.tunnels.tunnels end)
       (subst (λ (n : ℕ). n ≤ 0) is none))),
-  ap (λ (g : Ground). state_of units core g) (sym same),
+  ap (λ (g : Network). state_of units core g) (sym same),
 )
 
-pub closes_full : (end : TunnelEnd) (old new : Ground) (items : ℕ) (before lines : List OutLine)
+pub closes_full : (end : TunnelEnd) (old new : Network) (items : ℕ) (before lines : List OutLine)
     → items ≡ length (at tunnel_cmp [] old.tunnels.tunnels end) → 0 < items → new ≡ record old { tunnels = closed old.tunnels end }
     → lines ≡ before ++ outs.Lost (tunnel_link end) items ∷ [] → Makes (λ world. closes world end) old new before lines
 unfolding closes
@@ -103,7 +103,7 @@ closes_full end old new items before lines is some same told codec answer units 
   told ∙ ap (λ (n : ℕ). before ++ outs.Lost (tunnel_link end) n ∷ []) is
       ∙ ap (λ l. before ++ printed l) (sym (lost_some (unit_world codec answer) end (at tunnel_cmp [] old.tunnels.tunnels end)
       (subst (λ (n : ℕ). 0 < n) is some))),
-  ap (λ (g : Ground). state_of units core g) (sym same),
+  ap (λ (g : Network). state_of units core g) (sym same),
 )
 
 -- ---- the oldest item is taken
@@ -120,7 +120,7 @@ unfolding get
 takes_none old end item rest error h e =
     let k : gives item (record old { tunnels = put tunnel_cmp old.tunnels end rest }) ≡ refuses error = rw e at h in absurd cc
 
-pub take_makes : (end : TunnelEnd) (old new : Ground) (item value : Item Octets) (rest : List (Item Octets)) (before lines : List OutLine)
+pub take_makes : (end : TunnelEnd) (old new : Network) (item value : Item Octets) (rest : List (Item Octets)) (before lines : List OutLine)
     → get old.tunnels end ≡ gives value new.tunnels → new ≡ record old { tunnels = new.tunnels }
     → find tunnel_cmp old.tunnels.tunnels end ≡ Some (item ∷ rest)
     → lines ≡ before ++ outs.Got (tunnel_link end) (shown value.key value.count value.content) ∷ []
@@ -128,7 +128,7 @@ pub take_makes : (end : TunnelEnd) (old new : Ground) (item value : Item Octets)
 take_makes end old new item value rest before lines h same there told codec answer units core =
     let k = takes old.tunnels new.tunnels end item value rest h there in (
       told ∙ ap (λ (i : Item Octets). before ++ outs.Got (tunnel_link end) (shown i.key i.count i.content) ∷ []) k.0,
-      ap (λ (t : OpenTunnels Octets). state_of units core (record old { tunnels = t })) (sym k.1) ∙ ap (λ (g : Ground). state_of units core g) (sym same),
+      ap (λ (t : OpenTunnels Octets). state_of units core (record old { tunnels = t })) (sym k.1) ∙ ap (λ (g : Network). state_of units core g) (sym same),
     )
 
 -- ---- the oldest item is lost
@@ -148,7 +148,7 @@ lose_on_refuses world end s reason before lines (Some items) h told = by (is_los
     by false items k =
         let same : reason ≡ reasons.NotAllowed = cc in (told ∙ ap (λ (r : RefuseReason). before ++ outs.Refused r ∷ []) same, refl)
 
-pub lose_refuses : (end : TunnelEnd) (old : Ground) (reason : RefuseReason) (before lines : List OutLine)
+pub lose_refuses : (end : TunnelEnd) (old : Network) (reason : RefuseReason) (before lines : List OutLine)
     → ((world : OctetWorld) → Err reason ≡ loses world end (find tunnel_cmp old.tunnels.tunnels end))
     → lines ≡ before ++ outs.Refused reason ∷ [] → Ends (λ world. lose_item world end) old old before lines
 unfolding lose_item
@@ -156,7 +156,7 @@ lose_refuses end old reason before lines h told codec answer units core =
     lose_on_refuses (unit_world codec answer) end (state_of units core old) reason before lines (find tunnel_cmp old.tunnels.tunnels end)
     (h (unit_world codec answer)) told
 
-lose_on_loses : (world : OctetWorld) (end : TunnelEnd) (old new : Ground) (units : Records) (core : OctetCore) (before lines : List OutLine)
+lose_on_loses : (world : OctetWorld) (end : TunnelEnd) (old new : Network) (units : Records) (core : OctetCore) (before lines : List OutLine)
     (result : Result (Item Octets) LinkError) (there : Option (List (Item Octets))) → find tunnel_cmp old.tunnels.tunnels end ≡ there
     → Ok tt ≡ loses world end there → AnswersSurely (get old.tunnels end) old.tunnels new.tunnels result → new ≡ record old { tunnels = new.tunnels }
     → lines ≡ before ++ outs.Lost (tunnel_link end) 1 ∷ []
@@ -175,10 +175,10 @@ lose_on_loses world end old new units core before lines result (Some items) e h 
     by true (i ∷ is) there k (Ok value) took =
         let left = takes old.tunnels new.tunnels end i value is took there in (
           told,
-          ap (λ (t : OpenTunnels Octets). state_of units core (record old { tunnels = t })) (sym left.1) ∙ ap (λ (g : Ground). state_of units core g) (sym same),
+          ap (λ (t : OpenTunnels Octets). state_of units core (record old { tunnels = t })) (sym left.1) ∙ ap (λ (g : Network). state_of units core g) (sym same),
         )
 
-pub lose_loses : (end : TunnelEnd) (old new : Ground) (before lines : List OutLine) (result : Result (Item Octets) LinkError)
+pub lose_loses : (end : TunnelEnd) (old new : Network) (before lines : List OutLine) (result : Result (Item Octets) LinkError)
     → ((world : OctetWorld) → Ok tt ≡ loses world end (find tunnel_cmp old.tunnels.tunnels end))
     → AnswersSurely (get old.tunnels end) old.tunnels new.tunnels result → new ≡ record old { tunnels = new.tunnels }
     → lines ≡ before ++ outs.Lost (tunnel_link end) 1 ∷ [] → Ends (λ world. lose_item world end) old new before lines

@@ -7,7 +7,7 @@ use Rattle.gnb_types.specs.declared.keys.EntityKey.{EntityKey}
 use Rattle.pdcp.specs.Numbers.{half}
 use Rattle.run_defs.specs.States.{Stop, outstanding, sn_of}
 use Rattle.run_defs.specs.Steps.{span, first_outstanding, bearer_numbers, entities_of}
-use Rattle.run_links.specs.Grounds.{OctetState}
+use Rattle.run_links.specs.Networks.{OctetState}
 use Rattle.run_links.specs.Spans.{both_of, or_else}
 
 pub or_else-after : (b : Bool) (x : Stop) (first second : Option Stop)

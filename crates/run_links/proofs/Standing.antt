@@ -12,7 +12,7 @@ use Rattle.gnb_types.specs.declared.reasons.RefuseReason.{RefuseReason}
 use Rattle.gnb_types.specs.declared.reasons.RefuseReason.TheVariants as reasons
 use Rattle.transport_defs.specs.declared.Item.{Item}
 use Rattle.run_defs.specs.Events.{is_lossy}
-use Rattle.run_links.specs.Grounds.{Octets, OctetWorld}
+use Rattle.run_links.specs.Networks.{Octets, OctetWorld}
 use Rattle.run_links.specs.Told.{oldest_in, stands_on, lost_by, loses}
 
 pub stands_oldest : (there : Option (List (Item Octets))) (item : Item Octets) → oldest_in there ≡ Ok item → Ok tt ≡ stands_on there

@@ -1,3 +1,3 @@
-pub mod Grounds
+pub mod Networks
 pub mod Spans
 pub mod Told

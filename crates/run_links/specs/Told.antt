@@ -19,9 +19,9 @@ use Rattle.run_defs.specs.States.{goes, stops, radio_of}
 use Rattle.run_defs.specs.Steps.{radio_lost}
 use Rattle.run_defs.specs.Events.{is_lossy}
 use Rattle.run_defs.specs.UnitRuns.{Records, Meaning, unit_world}
-use Rattle.run_links.specs.declared.ground.Ground.{Ground}
+use Rattle.run_links.specs.declared.network.Network.{Network}
 use Rattle.run_links.specs.declared.spans.Outstanding.{Outstanding}
-use Rattle.run_links.specs.Grounds.{Octets, OctetState, OctetWorld, OctetWithin, OctetOutcome, OctetCore, state_of}
+use Rattle.run_links.specs.Networks.{Octets, OctetState, OctetWorld, OctetWithin, OctetOutcome, OctetCore, state_of}
 
 abbrev pub printed : List (RunLine Octets) → List OutLine
 printed lines = out_lines (λ octets. octets) lines
@@ -40,7 +40,7 @@ abbrev pub Act : Type 0
 Act = OctetWorld → OctetState → OctetWithin
 
 -- whatever the units and the core are, it makes of the ground `old` the ground `new`, and prints what `lines` have more than `before`
-abbrev pub Makes : Act → Ground → Ground → List OutLine → List OutLine → Type 0
+abbrev pub Makes : Act → Network → Network → List OutLine → List OutLine → Type 0
 Makes act old new before lines = (codec : Codec) (answer : Meaning) (units : Records) (core : OctetCore) →
     GoesTo before (act (unit_world codec answer) (state_of units core old)) lines (state_of units core new)
 
@@ -49,7 +49,7 @@ abbrev pub EndsAt : List OutLine → OctetOutcome → List OutLine → OctetStat
 EndsAt before (goes steps after) lines s = (lines ≡ before ++ printed (flat_map (λ step. step.lines) steps)) × (after ≡ s)
 EndsAt before (stops steps why) lines s = ⊥
 
-abbrev pub Ends : (OctetWorld → OctetState → OctetOutcome) → Ground → Ground → List OutLine → List OutLine → Type 0
+abbrev pub Ends : (OctetWorld → OctetState → OctetOutcome) → Network → Network → List OutLine → List OutLine → Type 0
 Ends event old new before lines = (codec : Codec) (answer : Meaning) (units : Records) (core : OctetCore) →
     EndsAt before (event (unit_world codec answer) (state_of units core old)) lines (state_of units core new)
 

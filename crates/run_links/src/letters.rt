@@ -1,8 +1,8 @@
 //! Control messages: they are put, given and lost, with the lines of it.
 
 ghost use Rattle.std.specs.Prelude.{◌≡◌, ◌<◌, List, ℕ, IfOk, OnOk, Some, option_copied, length, not, nat_lt, ◌+◌};
-ghost use Rattle.transport_defs.specs.declared.Letter.{Letter};
-ghost use Rattle.transport_defs.specs.Links.{letter, most_letters};
+ghost use Rattle.transport_defs.specs.declared.ControlMessage.{ControlMessage};
+ghost use Rattle.transport_defs.specs.Links.{control_message, most_control_messages};
 ghost use Rattle.links.specs.links_bag.Bags.{message};
 ghost use Rattle.tables.specs.Queues.{first_item};
 ghost use Rattle.run_defs.specs.Printing.{shown_message};
@@ -10,8 +10,8 @@ ghost use Rattle.run_defs.specs.Steps.{put_control};
 ghost use Rattle.run_defs.specs.Events.{landed_as, lose_message};
 ghost use Rattle.run_links.specs.Told.{Makes, Ends, lost_line};
 
-use crate::ground::Ground;
 use crate::lines::Lines;
+use crate::network::Network;
 use gnb_types::items::Memory;
 use gnb_types::names::NodeId;
 use gnb_types::octets::Octets;
@@ -19,7 +19,7 @@ use gnb_types::reasons::RefuseReason;
 use links::bag::Message;
 use links::error::LinkError;
 use scenario_text::line::{Message as ShownMessage, OutLine};
-use transport_defs::Letter;
+use transport_defs::ControlMessage;
 
 fn shown_message(number: u32, from: NodeId, to: NodeId, ue: u8, bytes: Octets) -> ShownMessage
     ensures { result ≡ shown_message (λ octets. octets) number (message from to ue bytes) }
@@ -33,15 +33,15 @@ fn shown_message(number: u32, from: NodeId, to: NodeId, ue: u8, bytes: Octets) -
     }
 }
 
-fn shown_letter(number: u32, letter: Message) -> ShownMessage
-    ensures { result ≡ shown_message (λ octets. octets) number letter }
+fn shown_control_message(number: u32, control_message: Message) -> ShownMessage
+    ensures { result ≡ shown_message (λ octets. octets) number control_message }
 {
-    let Letter {
+    let ControlMessage {
         from,
         to,
         ue,
         message,
-    } = letter;
+    } = control_message;
     shown_message(number, from, to, ue, message)
 }
 
@@ -67,27 +67,27 @@ fn lost_line(number: u32, lost: Result<(), LinkError>) -> OutLine
     }
 }
 
-impl Ground {
+impl Network {
     /// Whether so many more control messages may be put.
     pub fn has_room(&self, more: usize) -> bool
-        ensures { result ≡ not (nat_lt most_letters (length self.now.bag.letters + more)) }
+        ensures { result ≡ not (nat_lt most_control_messages (length self.now.bag.control_messages + more)) }
     {
         self.bag.has_room(more)
     }
 
     /// Puts a control message. There is room for it.
-    pub fn put_control(&mut self, letter: Message, lines: &mut Lines) -> Result<(), Memory>
-        requires { length self.old.bag.letters < most_letters }
-        ensures told { OnOk result (Makes (λ world. put_control world letter) self.old self.new lines.old lines.new) }
-        ensures letters { OnOk result (length self.new.bag.letters ≡ length self.old.bag.letters + 1) }
+    pub fn put_control(&mut self, control_message: Message, lines: &mut Lines) -> Result<(), Memory>
+        requires { length self.old.bag.control_messages < most_control_messages }
+        ensures told { OnOk result (Makes (λ world. put_control world control_message) self.old self.new lines.old lines.new) }
+        ensures control_messages { OnOk result (length self.new.bag.control_messages ≡ length self.old.bag.control_messages + 1) }
     {
-        let bytes = copy_of(&letter.message)?;
-        let Letter {
+        let bytes = copy_of(&control_message.message)?;
+        let ControlMessage {
             from,
             to,
             ue,
             message,
-        } = letter;
+        } = control_message;
         match self.bag.put(from, to, ue, message) {
             Ok(number) => lines.push(OutLine::PutMessage {
                 message: shown_message(number, from, to, ue, bytes),
@@ -98,10 +98,10 @@ impl Ground {
     }
 
     /// The control message of this number.
-    pub fn letter(&self, number: u32) -> Option<&Message>
-        ensures { option_copied result ≡ letter self.now.bag number }
+    pub fn control_message(&self, number: u32) -> Option<&Message>
+        ensures { option_copied result ≡ control_message self.now.bag number }
     {
-        self.bag.letter(number)
+        self.bag.control_message(number)
     }
 
     /// The control message in flight that has the least number.
@@ -113,12 +113,12 @@ impl Ground {
 
     /// A control message lands at its receiver.
     pub fn land(&mut self, number: u32, lines: &mut Lines) -> Result<(), Memory>
-        ensures { OnOk result ((l : Letter (List ℕ)) → letter self.old.bag number ≡ Some l
+        ensures { OnOk result ((l : ControlMessage (List ℕ)) → control_message self.old.bag number ≡ Some l
             → Makes (λ world. landed_as world number l) self.old self.new lines.old lines.new) }
     {
         match self.bag.give(number) {
-            Ok(letter) => lines.push(OutLine::GotMessage {
-                message: shown_letter(number, letter),
+            Ok(control_message) => lines.push(OutLine::GotMessage {
+                message: shown_control_message(number, control_message),
             }),
             // The caller saw the message, so that only memory is left.
             Err(_) => Err(Memory::told()),

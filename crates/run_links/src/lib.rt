@@ -3,9 +3,9 @@
 #![tactic(auto)]
 
 pub mod book;
-pub mod ground;
-mod letters;
+mod control_messages;
 pub mod lines;
+pub mod network;
 mod outputs;
 mod plans;
 mod radios;

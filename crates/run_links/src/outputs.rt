@@ -1,16 +1,16 @@
 //! What a unit puts out in a step.
 
 ghost use Rattle.std.specs.Prelude.{◌≡◌, ◌+◌, ◌≤◌, ◌∷◌, [], map, OnOk, length};
-ghost use Rattle.transport_defs.specs.Links.{most_letters};
+ghost use Rattle.transport_defs.specs.Links.{most_control_messages};
 ghost use Rattle.run_defs.specs.Lines.{delivers};
 ghost use Rattle.run_defs.specs.States.{goes};
-ghost use Rattle.run_defs.specs.Steps.{count_beside, noted, delivered, put_on_tunnel, put_on_radio, put_out, put_out_all, too_many_letters};
+ghost use Rattle.run_defs.specs.Steps.{count_beside, noted, delivered, put_on_tunnel, put_on_radio, put_out, put_out_all, too_many_control_messages};
 ghost use Rattle.run_defs.specs.UnitRuns.{Records, put_of};
-ghost use Rattle.run_links.specs.Grounds.{OctetWorld, OctetCore, state_of, is_letter, letters_in};
+ghost use Rattle.run_links.specs.Networks.{OctetWorld, OctetCore, state_of, is_control_message, control_messages_in};
 ghost use Rattle.run_links.specs.Told.{Makes};
 
-use crate::ground::Ground;
 use crate::lines::Lines;
+use crate::network::Network;
 use gnb_types::items::Memory;
 use gnb_types::keys::{EntityKey, TunnelEnd};
 use gnb_types::names::NodeId;
@@ -32,14 +32,14 @@ fn count_beside(tag: Tag, taken: Option<u32>) -> Option<u32>
 }
 
 fn is_control(output: &Output) -> bool
-    ensures { result ≡ is_letter output.now }
+    ensures { result ≡ is_control_message output.now }
 {
     matches!(output, Output::Control { .. })
 }
 
 /// How many control messages there are among outputs.
-fn letters_in(outputs: &Outputs) -> usize
-    ensures { result ≡ letters_in outputs.now }
+fn control_messages_in(outputs: &Outputs) -> usize
+    ensures { result ≡ control_messages_in outputs.now }
 {
     outputs
         .as_slice()
@@ -48,13 +48,13 @@ fn letters_in(outputs: &Outputs) -> usize
         .count()
 }
 
-impl Ground {
+impl Network {
     /// Whether there isn't room for the control messages among these outputs.
-    pub fn too_many_letters(&self, outputs: &Outputs) -> bool
+    pub fn too_many_control_messages(&self, outputs: &Outputs) -> bool
         ensures { (world : OctetWorld) (units : Records) (core : OctetCore)
-            → result ≡ too_many_letters world (map put_of outputs.now) (state_of units core self.now) }
+            → result ≡ too_many_control_messages world (map put_of outputs.now) (state_of units core self.now) }
     {
-        !self.has_room(letters_in(outputs))
+        !self.has_room(control_messages_in(outputs))
     }
 
     /// One output of a unit.
@@ -65,9 +65,9 @@ impl Ground {
         output: Output,
         lines: &mut Lines,
     ) -> Result<(), Memory>
-        requires { length self.old.bag.letters + letters_in (output ∷ []) ≤ most_letters }
+        requires { length self.old.bag.control_messages + control_messages_in (output ∷ []) ≤ most_control_messages }
         ensures told { OnOk result (Makes (λ world. put_out world node taken (put_of output)) self.old self.new lines.old lines.new) }
-        ensures letters { OnOk result (length self.new.bag.letters ≡ length self.old.bag.letters + letters_in (output ∷ [])) }
+        ensures control_messages { OnOk result (length self.new.bag.control_messages ≡ length self.old.bag.control_messages + control_messages_in (output ∷ [])) }
     {
         match output {
             Output::Control { to, ue, bytes } => self.put_control(
@@ -179,7 +179,7 @@ impl Ground {
         outputs: Outputs,
         lines: &mut Lines,
     ) -> Result<(), Memory>
-        requires { length self.old.bag.letters + letters_in outputs ≤ most_letters }
+        requires { length self.old.bag.control_messages + control_messages_in outputs ≤ most_control_messages }
         ensures { OnOk result (Makes (λ world. put_out_all world node taken (map put_of outputs)) self.old self.new lines.old lines.new) }
     {
         for output in outputs {

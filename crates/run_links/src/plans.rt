@@ -6,7 +6,7 @@ ghost use Rattle.gnb_types.specs.Orders.{ue_cmp};
 ghost use Rattle.tables.specs.Tables.{find};
 ghost use Rattle.run_defs.specs.States.{bearers_in};
 
-use crate::ground::Ground;
+use crate::network::Network;
 use gnb_types::items::Items;
 use gnb_types::names::{BearerId, UeId};
 
@@ -17,7 +17,7 @@ fn holds(terminals: &Items<UeId>, ue: UeId) -> bool
     terminals.as_slice().iter().any(|other| other.0 == ue.0)
 }
 
-impl Ground {
+impl Network {
     /// Whether a terminal was released.
     pub fn is_gone(&self, ue: UeId) -> bool
         ensures { result ≡ list_any (λ u. u.0 == ue.0) self.now.gone }

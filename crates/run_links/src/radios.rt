@@ -11,12 +11,12 @@ ghost use Rattle.unit_defs.specs.octet_defs.Codec.{Codec};
 ghost use Rattle.run_defs.specs.Conditions.{epoch_in};
 ghost use Rattle.run_defs.specs.UnitRuns.{Meaning, Records, unit_world};
 ghost use Rattle.run_defs.specs.Steps.{put_on_radio, lose_radios, reconnect, epoch_now, same_epoch};
-ghost use Rattle.run_links.specs.Grounds.{OctetCore, OctetWorld, state_of};
+ghost use Rattle.run_links.specs.Networks.{OctetCore, OctetWorld, state_of};
 ghost use Rattle.run_defs.specs.Events.{carried_off, confirmed_off, leaves};
 ghost use Rattle.run_links.specs.Told.{Makes, GoesTo, lose_one};
 
-use crate::ground::Ground;
 use crate::lines::{Lines, radio_link, show, show_taken};
+use crate::network::Network;
 use gnb_types::items::Memory;
 use gnb_types::keys::EntityKey;
 use gnb_types::names::UeId;
@@ -34,7 +34,7 @@ fn same_epoch(a: Option<u32>, b: Option<u32>) -> bool
     }
 }
 
-impl Ground {
+impl Network {
     /// Puts an item on the radio of its bearer and direction. Where that isn't connected in this epoch the item is lost.
     pub fn put_on_radio(&mut self, epoch: u32, item: Item, lines: &mut Lines) -> Result<(), Memory>
         ensures told { OnOk result (Makes (λ world. put_on_radio world epoch item) self.old self.new lines.old lines.new) }

@@ -9,11 +9,11 @@ ghost use Rattle.pdcp.specs.Numbers.{half};
 ghost use Rattle.run_defs.specs.States.{sn_in};
 ghost use Rattle.run_defs.specs.Steps.{span, first_outstanding, bearer_numbers, checked_by, check_spans};
 ghost use Rattle.run_defs.specs.UnitRuns.{Records};
-ghost use Rattle.run_links.specs.Grounds.{OctetCore, state_of};
+ghost use Rattle.run_links.specs.Networks.{OctetCore, state_of};
 ghost use Rattle.run_links.specs.Spans.{lowered, stop_of, both_of};
 ghost use Rattle.run_links.specs.Told.{outstanding_line};
 
-use crate::ground::Ground;
+use crate::network::Network;
 use gnb_types::keys::EntityKey;
 use gnb_types::names::{BearerId, Dir, SnBits, UeId};
 use scenario_text::line::OutLine;
@@ -62,7 +62,7 @@ fn lowered(least: u64, count: Option<u32>) -> u64
     }
 }
 
-impl Ground {
+impl Network {
     /// How long the numbers of a terminal are.
     fn sn(&self, ue: UeId) -> SnBits
         ensures { result ≡ sn_in (find ue_cmp self.now.plans ue) }

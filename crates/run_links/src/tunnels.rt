@@ -7,11 +7,11 @@ ghost use Rattle.transport_defs.specs.declared.Item.{Item};
 ghost use Rattle.run_defs.specs.Steps.{put_on_tunnel, with_tunnel, opens, closes};
 ghost use Rattle.run_defs.specs.Events.{taken_off, is_lossy, lose_item};
 ghost use Rattle.scenario_text.specs.declared.line.OutLine.{OutLine as ShownLine};
-ghost use Rattle.run_links.specs.Grounds.{OctetWorld};
+ghost use Rattle.run_links.specs.Networks.{OctetWorld};
 ghost use Rattle.run_links.specs.Told.{Makes, Ends, ShowsOldest, loses, lost_by, stands_on};
 
-use crate::ground::Ground;
 use crate::lines::{Lines, show, show_taken, tunnel_link};
+use crate::network::Network;
 use gnb_types::items::Memory;
 use gnb_types::keys::TunnelEnd;
 use gnb_types::names::NodeId;
@@ -38,7 +38,7 @@ fn lost_by(lossy: bool, stands: Result<(), RefuseReason>) -> Result<(), RefuseRe
     }
 }
 
-impl Ground {
+impl Network {
     /// Puts an item on a tunnel. On one that isn't open it is lost.
     pub fn put_on_tunnel(
         &mut self,

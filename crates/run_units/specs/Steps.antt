@@ -15,10 +15,10 @@ use Rattle.gnb_types.specs.declared.reasons.HeldReason.{HeldReason}
 use Rattle.gnb_types.specs.declared.reasons.RefuseReason.{RefuseReason}
 use Rattle.tables.specs.Tables.{find}
 use Rattle.unit_defs.specs.Accessors.{is_set_up}
-use Rattle.unit_defs.specs.CpRecords.{CuCpRecord}
-use Rattle.unit_defs.specs.Static.{up_has_room, up_has_teids, du_has_teids}
+use Rattle.unit_defs.specs.CuCpRecords.{CuCpRecord}
+use Rattle.unit_defs.specs.Static.{cu_up_has_room, cu_up_has_teids, du_has_teids}
 use Rattle.unit_defs.specs.Ways.{teids_spent}
-use Rattle.run_defs.specs.Units.{cp_of, up_of, du_of}
+use Rattle.run_defs.specs.Units.{cu_cp_of, cu_up_of, du_of}
 use Rattle.run_defs.specs.Conditions.{units_placed, all_set_up}
 use Rattle.run_defs.specs.UnitRuns.{Records, Meaning, UnitAnswer, unit_gives, unit_spent}
 use Rattle.unit_messages.specs.declared.steps.StepError.{StepError}
@@ -42,7 +42,7 @@ abbrev pub has_units : Plan → CuCpRecord (List ℕ) (List ℕ) → Type 0
 has_units plan cp = (is_set_up cp (CuUp plan.gnb plan.up) && is_set_up cp (Du plan.gnb plan.du)) ≡ true
 
 abbrev pub at_cu_cp : (CuCpRecord (List ℕ) (List ℕ) → Type 0) → Records → NodeId → Type 0
-at_cu_cp P r (CuCp gnb) = P (cp_of r gnb)
+at_cu_cp P r (CuCp gnb) = P (cu_cp_of r gnb)
 at_cu_cp P r node = Unit {0}
 
 abbrev pub at_cu_up : Records → NodeId → Type 0
@@ -71,10 +71,10 @@ pub record LeavesAll (answer : Meaning) (r : Records) : Type 0 where
 -- a terminal is set up without messages: where there are blocks and TEIDs it is placed; without blocks nothing changes; else the counter
 -- of TEIDs is spent. Out of memory nothing is said.
 abbrev pub has_room : Plan → Records → Bool
-has_room plan r = up_has_room (up_of r plan.gnb plan.up) plan
+has_room plan r = cu_up_has_room (cu_up_of r plan.gnb plan.up) plan
 
 abbrev pub has_teids : Plan → Records → Bool
-has_teids plan r = up_has_teids (up_of r plan.gnb plan.up) plan && du_has_teids (du_of r plan.gnb plan.du) plan
+has_teids plan r = cu_up_has_teids (cu_up_of r plan.gnb plan.up) plan && du_has_teids (du_of r plan.gnb plan.du) plan
 
 abbrev pub PlacingGives : Plan → Records → Records → Result (Unit {0}) PlaceError → Type 0
 PlacingGives plan old new (Ok done) = (has_room plan old ≡ true) × (has_teids plan old ≡ true) × (new ≡ all_set_up (units_placed plan old))

@@ -6,7 +6,7 @@ ghost use Rattle.std.specs.Option.{option_map};
 ghost use Rattle.gnb_types.specs.Orders.{node_cmp, ue_cmp};
 ghost use Rattle.tables.specs.Tables.{find};
 ghost use Rattle.unit_defs.specs.Ue.{new_ue};
-ghost use Rattle.run_defs.specs.Units.{new_units, cp_of, ue_of, with_ue, ups_rest};
+ghost use Rattle.run_defs.specs.Units.{new_units, cu_cp_of, ue_of, with_ue, ups_rest};
 ghost use Rattle.run_defs.specs.UnitRuns.{Records, Meaning};
 ghost use Rattle.run_defs.specs.plain_defs.Plain.{IsPlanned, IsGiven, KeepRange, IsPlain};
 ghost use Rattle.run_defs.specs.Conditions.{is_held_by_units};
@@ -78,7 +78,7 @@ pub trait Units<C: MessageCodec> {
 
     fn cu_control(&self, gnb: Gnb) -> &CuControl
         requires { ready self.now }
-        ensures { result.now.kept ≡ cp_of (records self.now) gnb };
+        ensures { result.now.kept ≡ cu_cp_of (records self.now) gnb };
 
     /// The CU-UP of this name, if there is one.
     fn cu_user(&self, node: NodeId) -> Option<&CuUser>

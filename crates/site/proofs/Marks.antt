@@ -12,9 +12,9 @@ use Rattle.gnb_types.specs.declared.names.UeId.{UeId}
 use Rattle.gnb_types.specs.declared.names.BearerId.{BearerId}
 use Rattle.gnb_types.specs.Orders.{node_cmp, ue_cmp}
 use Rattle.tables.specs.Tables.{find, put, map_values}
-use Rattle.unit_defs.specs.Accessors.{up_rests}
-use Rattle.unit_defs.specs.CpRecords.{new_cu_cp}
-use Rattle.unit_defs.specs.Static.{up_set_up, du_set_up}
+use Rattle.unit_defs.specs.Accessors.{cu_up_rests}
+use Rattle.unit_defs.specs.CuCpRecords.{new_cu_cp}
+use Rattle.unit_defs.specs.Static.{cu_up_set_up, du_set_up}
 use Rattle.run_defs.specs.Units.{new_units, ups_rest}
 use Rattle.run_defs.specs.Conditions.{all_set_up}
 use Rattle.cu_control.specs.Units.{ControlUnit}
@@ -43,19 +43,19 @@ each_of_all R P (e ∷ es) all k x is = at_one R P e es k x all.0 (each_of_all R
     at_one R P e es k x here later true h = let same : e.1 ≡ x = cc in subst P same here
     at_one R P e es k x here later false h = later h
 
-module _ (s : UnitSet) (a_is : s.cp_a ≡ record { kept = new_cu_cp A; stopped = None }) (b_is : s.cp_b ≡ record { kept = new_cu_cp B; stopped = None })
+module _ (s : UnitSet) (a_is : s.cu_cp_a ≡ record { kept = new_cu_cp A; stopped = None }) (b_is : s.cu_cp_b ≡ record { kept = new_cu_cp B; stopped = None })
     (users_are : s.users ≡ first_users) (nodes_are : s.nodes ≡ first_nodes) (none : s.terminals ≡ []) where
   abbrev first_set : UnitSet
   first_set = record {
-    cp_a = record { kept = new_cu_cp A; stopped = None };
-    cp_b = record { kept = new_cu_cp B; stopped = None };
+    cu_cp_a = record { kept = new_cu_cp A; stopped = None };
+    cu_cp_b = record { kept = new_cu_cp B; stopped = None };
     users = first_users;
     nodes = first_nodes;
     terminals = [];
   }
 
   first_is : s ≡ first_set
-  first_is = λ i. record { cp_a = a_is i; cp_b = b_is i; users = users_are i; nodes = nodes_are i; terminals = none i }
+  first_is = λ i. record { cu_cp_a = a_is i; cu_cp_b = b_is i; users = users_are i; nodes = nodes_are i; terminals = none i }
 
   pub first_records : records_of s ≡ new_units
   unfolding map_values
@@ -65,8 +65,8 @@ module _ (s : UnitSet) (a_is : s.cp_a ≡ record { kept = new_cu_cp A; stopped =
   unfolding find
   first_work = subst (λ (t : UnitSet). AreWorking t) (sym first_is)
       (record {
-        cp_a = refl;
-        cp_b = refl;
+        cu_cp_a = refl;
+        cu_cp_b = refl;
         users = each_of_all node_cmp (λ (u : User). u.failure ≡ None) first_users (refl, (refl, (refl, (refl, tt))));
         nodes = each_of_all node_cmp (λ (n : Node). n.failure ≡ None) first_nodes (refl, (refl, (refl, (refl, tt))));
         terminals = λ k x is. absurd cc;
@@ -82,14 +82,14 @@ parts_marked part f g same (e ∷ es) = λ i. (e.0, same e.1 i) ∷ parts_marked
 
 pub marked_records : (s : UnitSet) → records_of (all_marked s) ≡ all_set_up (records_of s)
 marked_records s = λ i. record (all_set_up (records_of s)) {
-  ups = parts_marked (λ (u : User). u.up) user_set_up up_set_up (λ u. refl) s.users i;
+  ups = parts_marked (λ (u : User). u.up) user_set_up cu_up_set_up (λ u. refl) s.users i;
   dus = parts_marked (λ (n : Node). n.du) node_set_up du_set_up (λ n. refl) s.nodes i;
 }
 
 pub marked_work : (s : UnitSet) → AreWorking s → AreWorking (all_marked s)
 marked_work s w = record {
-  cp_a = w.cp_a;
-  cp_b = w.cp_b;
+  cu_cp_a = w.cu_cp_a;
+  cu_cp_b = w.cu_cp_b;
   users = mapped_each node_cmp (λ (u : User). u.failure ≡ None) user_set_up (λ u is. is) s.users w.users;
   nodes = mapped_each node_cmp (λ (n : Node). n.failure ≡ None) node_set_up (λ n is. is) s.nodes w.nodes;
   terminals = w.terminals;
@@ -98,12 +98,12 @@ marked_work s w = record {
 -- ---- at rest
 
 pub rest_is : (users : Users) (ue : UeId) (bearer : BearerId)
-    → list_all (λ e. up_rests e.1.up ue bearer) users ≡ list_all (λ e. up_rests e.1 ue bearer) (map_values (λ (u : User). u.up) users)
+    → list_all (λ e. cu_up_rests e.1.up ue bearer) users ≡ list_all (λ e. cu_up_rests e.1 ue bearer) (map_values (λ (u : User). u.up) users)
 unfolding map_values
 rest_is [] ue bearer = refl
-rest_is (e ∷ es) ue bearer = by (up_rests e.1.up ue bearer) (rest_is es ue bearer)
+rest_is (e ∷ es) ue bearer = by (cu_up_rests e.1.up ue bearer) (rest_is es ue bearer)
   where
-    by : (t : Bool) → list_all (λ e. up_rests e.1.up ue bearer) es ≡ list_all (λ e. up_rests e.1 ue bearer) (map_values (λ (u : User). u.up) es)
-        → t && list_all (λ e. up_rests e.1.up ue bearer) es ≡ t && list_all (λ e. up_rests e.1 ue bearer) (map_values (λ (u : User). u.up) es)
+    by : (t : Bool) → list_all (λ e. cu_up_rests e.1.up ue bearer) es ≡ list_all (λ e. cu_up_rests e.1 ue bearer) (map_values (λ (u : User). u.up) es)
+        → t && list_all (λ e. cu_up_rests e.1.up ue bearer) es ≡ t && list_all (λ e. cu_up_rests e.1 ue bearer) (map_values (λ (u : User). u.up) es)
     by true h = h
     by false h = refl

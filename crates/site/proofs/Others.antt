@@ -8,10 +8,10 @@ use Rattle.gnb_types.specs.declared.names.NodeId.TheVariants.{Du as du_id}
 use Rattle.gnb_types.specs.declared.plans.Plan.{Plan}
 use Rattle.gnb_types.specs.Orders.{ue_cmp, node_cmp}
 use Rattle.tables.specs.Tables.{put}
-use Rattle.unit_defs.specs.Static.{cp_placed, du_placed}
+use Rattle.unit_defs.specs.Static.{cu_cp_placed, du_placed}
 use Rattle.unit_defs.specs.Du.{Du}
 use Rattle.unit_defs.specs.Ue.{UeNode, new_ue, placed}
-use Rattle.run_defs.specs.Units.{cp_of, with_cp, du_of, with_du, with_ue}
+use Rattle.run_defs.specs.Units.{cu_cp_of, with_cu_cp, du_of, with_du, with_ue}
 use Rattle.run_defs.specs.Conditions.{all_set_up}
 use Rattle.run_defs.specs.UnitRuns.{Records}
 use Rattle.unit_messages.specs.declared.steps.StepError.{StepError}
@@ -45,7 +45,7 @@ module _ {E : Type 0} (s : UnitSet) (plan : Plan) (u : NodeState) (new : Termina
 
 module _ (plan : Plan) (before after : ControlUnit) where
   pub control_is : (o : Option StepError) (result : Result (Unit {0}) StepError) → o ≡ None → PlacesFrom before o plan after result
-      → OnOk result (after ≡ record before { kept = cp_placed before.kept plan })
+      → OnOk result (after ≡ record before { kept = cu_cp_placed before.kept plan })
   control_is (Some error) result works is = absurd cc
   control_is None (Ok done) works is = is
   control_is None (Err error) works is = tt
@@ -58,36 +58,36 @@ module _ (plan : Plan) (before after : ControlUnit) where
 
 -- as the units that it stands among
 module _ (plan : Plan) (s : UnitSet) (after : ControlUnit) (result : Result (Unit {0}) StepError) where
-  pub placed_at_a : plan.gnb ≡ A → AreWorking s → PlacesFrom s.cp_a s.cp_a.stopped plan after result
-      → OnOk result (record s { cp_a = after } ≡ control_placed plan plan.gnb s)
+  pub placed_at_a : plan.gnb ≡ A → AreWorking s → PlacesFrom s.cu_cp_a s.cu_cp_a.stopped plan after result
+      → OnOk result (record s { cu_cp_a = after } ≡ control_placed plan plan.gnb s)
   placed_at_a at_a w is =
-      subst (λ (g : Gnb). OnOk result (record s { cp_a = after } ≡ control_placed plan g s)) (sym at_a)
-      (by result (control_is plan s.cp_a after s.cp_a.stopped result w.cp_a is))
+      subst (λ (g : Gnb). OnOk result (record s { cu_cp_a = after } ≡ control_placed plan g s)) (sym at_a)
+      (by result (control_is plan s.cu_cp_a after s.cu_cp_a.stopped result w.cu_cp_a is))
     where
-      by : (r : Result (Unit {0}) StepError) → OnOk r (after ≡ record s.cp_a { kept = cp_placed s.cp_a.kept plan })
-          → OnOk r (record s { cp_a = after } ≡ control_placed plan A s)
-      by (Ok done) h = ap (λ (c : ControlUnit). record s { cp_a = c }) h
+      by : (r : Result (Unit {0}) StepError) → OnOk r (after ≡ record s.cu_cp_a { kept = cu_cp_placed s.cu_cp_a.kept plan })
+          → OnOk r (record s { cu_cp_a = after } ≡ control_placed plan A s)
+      by (Ok done) h = ap (λ (c : ControlUnit). record s { cu_cp_a = c }) h
       by (Err error) h = tt
 
-  pub placed_at_b : plan.gnb ≡ B → AreWorking s → PlacesFrom s.cp_b s.cp_b.stopped plan after result
-      → OnOk result (record s { cp_b = after } ≡ control_placed plan plan.gnb s)
+  pub placed_at_b : plan.gnb ≡ B → AreWorking s → PlacesFrom s.cu_cp_b s.cu_cp_b.stopped plan after result
+      → OnOk result (record s { cu_cp_b = after } ≡ control_placed plan plan.gnb s)
   placed_at_b at_b w is =
-      subst (λ (g : Gnb). OnOk result (record s { cp_b = after } ≡ control_placed plan g s)) (sym at_b)
-      (by result (control_is plan s.cp_b after s.cp_b.stopped result w.cp_b is))
+      subst (λ (g : Gnb). OnOk result (record s { cu_cp_b = after } ≡ control_placed plan g s)) (sym at_b)
+      (by result (control_is plan s.cu_cp_b after s.cu_cp_b.stopped result w.cu_cp_b is))
     where
-      by : (r : Result (Unit {0}) StepError) → OnOk r (after ≡ record s.cp_b { kept = cp_placed s.cp_b.kept plan })
-          → OnOk r (record s { cp_b = after } ≡ control_placed plan B s)
-      by (Ok done) h = ap (λ (c : ControlUnit). record s { cp_b = c }) h
+      by : (r : Result (Unit {0}) StepError) → OnOk r (after ≡ record s.cu_cp_b { kept = cu_cp_placed s.cu_cp_b.kept plan })
+          → OnOk r (record s { cu_cp_b = after } ≡ control_placed plan B s)
+      by (Ok done) h = ap (λ (c : ControlUnit). record s { cu_cp_b = c }) h
       by (Err error) h = tt
 
 control_records : (plan : Plan) (g : Gnb) (s : UnitSet)
-    → records_of (control_placed plan g s) ≡ with_cp (records_of s) g (cp_placed (cp_of (records_of s) g) plan)
+    → records_of (control_placed plan g s) ≡ with_cu_cp (records_of s) g (cu_cp_placed (cu_cp_of (records_of s) g) plan)
 control_records plan A s = refl
 control_records plan B s = refl
 
 control_works : (plan : Plan) (g : Gnb) (s : UnitSet) → AreWorking s → AreWorking (control_placed plan g s)
-control_works plan A s w = record { cp_a = w.cp_a; cp_b = w.cp_b; users = w.users; nodes = w.nodes; terminals = w.terminals }
-control_works plan B s w = record { cp_a = w.cp_a; cp_b = w.cp_b; users = w.users; nodes = w.nodes; terminals = w.terminals }
+control_works plan A s w = record { cu_cp_a = w.cu_cp_a; cu_cp_b = w.cu_cp_b; users = w.users; nodes = w.nodes; terminals = w.terminals }
+control_works plan B s w = record { cu_cp_a = w.cu_cp_a; cu_cp_b = w.cu_cp_b; users = w.users; nodes = w.nodes; terminals = w.terminals }
 
 -- ---- at all units beside its CU-UP
 
@@ -117,10 +117,10 @@ module _ (plan : Plan) (uplink : ℕ) (s : UnitSet) (nodes : Nodes) (n : Node) (
   du_then = du_placed (du_of r plan.gnb plan.du) plan uplink
 
   abbrev with_control : Gnb → Records → Records
-  with_control g q = with_cp q g (cp_placed (cp_of q g) plan)
+  with_control g q = with_cu_cp q g (cu_cp_placed (cu_cp_of q g) plan)
 
   in_order : (g : Gnb) → with_ue (with_control g (with_du r plan.gnb plan.du du_then)) plan.ue (placed (new_ue plan))
-      ≡ with_cp (with_du (with_ue r plan.ue (placed (new_ue plan))) plan.gnb plan.du du_then) g (cp_placed (cp_of r g) plan)
+      ≡ with_cu_cp (with_du (with_ue r plan.ue (placed (new_ue plan))) plan.gnb plan.du du_then) g (cu_cp_placed (cu_cp_of r g) plan)
   in_order A = refl
   in_order B = refl
 

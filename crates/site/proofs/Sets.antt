@@ -14,13 +14,13 @@ use Rattle.gnb_types.proofs.OrderLemmas.{node_total, ue_total}
 use Rattle.tables.specs.Tables.{find, put}
 use Rattle.tables.proofs.TableLaws.{find-mapped, put-mapped}
 use Rattle.unit_defs.specs.Ways.{gives, spent}
-use Rattle.unit_defs.specs.CpRecords.{CuCpRecord}
-use Rattle.unit_defs.specs.UpRecords.{CuUp}
+use Rattle.unit_defs.specs.CuCpRecords.{CuCpRecord}
+use Rattle.unit_defs.specs.CuUpRecords.{CuUp}
 use Rattle.unit_defs.specs.Du.{Du}
 use Rattle.unit_defs.specs.Ue.{UeNode}
 use Rattle.unit_defs.specs.octet_defs.Codec.{Codec}
 use Rattle.unit_defs.specs.octet_defs.Units.{OctetAnswer, cu_cp_steps, cu_up_steps, du_steps, ue_steps}
-use Rattle.run_defs.specs.Units.{up_of, with_up, du_of, with_du, with_cp, with_ue}
+use Rattle.run_defs.specs.Units.{cu_up_of, with_cu_up, du_of, with_du, with_cu_cp, with_ue}
 use Rattle.run_defs.specs.UnitRuns.{Records, UnitAnswer, unit_gives, unit_spent, answered_with, ue_answers, tables}
 use Rattle.run_units.specs.Steps.{StepGives}
 use Rattle.unit_messages.specs.declared.steps.StepError.{StepError}
@@ -85,18 +85,18 @@ user_works s gnb number w = at_each node_cmp (λ (u : User). u.failure ≡ None)
 
 pub with_user : (s : UnitSet) (name : NodeId) (u : User) → AreWorking s → u.failure ≡ None → AreWorking (record s { users = put node_cmp s.users name u })
 with_user s name u w works = record {
-  cp_a = w.cp_a;
-  cp_b = w.cp_b;
+  cu_cp_a = w.cu_cp_a;
+  cu_cp_b = w.cu_cp_b;
   users = put_each node_cmp (λ (x : User). x.failure ≡ None) node_total s.users name u w.users works;
   nodes = w.nodes;
   terminals = w.terminals;
 }
 
-pub up_is : (s : UnitSet) (gnb : Gnb) (number : ℕ) → up_of (records_of s) gnb number ≡ (user_at s.users gnb number).up
+pub up_is : (s : UnitSet) (gnb : Gnb) (number : ℕ) → cu_up_of (records_of s) gnb number ≡ (user_at s.users gnb number).up
 up_is s gnb number = at_mapped node_cmp (λ (u : User). u.up) s.users (new_user gnb number) (up_id gnb number)
 
 pub ups_put : (s : UnitSet) (gnb : Gnb) (number : ℕ) (u : User)
-    → with_up (records_of s) gnb number u.up ≡ records_of (record s { users = put node_cmp s.users (up_id gnb number) u })
+    → with_cu_up (records_of s) gnb number u.up ≡ records_of (record s { users = put node_cmp s.users (up_id gnb number) u })
 ups_put s gnb number u =
     ap (λ (ups : List (NodeId × CuUp (List ℕ) (List ℕ))). record (records_of s) { ups = ups })
     (put-mapped node_cmp (λ (x : User). x.up) s.users (up_id gnb number) u)
@@ -110,10 +110,10 @@ module _ (codec : Codec) (s : UnitSet) (w : AreWorking s) (input : Input) (gnb :
       → StepGives (tables codec (records_of s) (up_id gnb number) input) (records_of (record s { users = new })) result
   unfolding tables
   user_gives new result is =
-      subst (λ (x : CuUp (List ℕ) (List ℕ)). StepGives (answered_with codec (with_up (records_of s) gnb number) (cu_up_steps codec x input))
+      subst (λ (x : CuUp (List ℕ) (List ℕ)). StepGives (answered_with codec (with_cu_up (records_of s) gnb number) (cu_up_steps codec x input))
       (records_of (record s { users = new })) result) (sym (up_is s gnb number))
       (table_gives user_kind (cu_up_steps codec (user_at s.users gnb number).up input) (put node_cmp s.users (up_id gnb number))
-      codec (with_up (records_of s) gnb number) (λ (m : Users). records_of (record s { users = m })) (ups_put s gnb number) new result is)
+      codec (with_cu_up (records_of s) gnb number) (λ (m : Users). records_of (record s { users = m })) (ups_put s gnb number) new result is)
 
   pub user_goes_on : (new : Users) (result : Answer) → UserSteps new result → OnOk result (AreWorking (record s { users = new }))
   user_goes_on new result is =
@@ -127,8 +127,8 @@ node_works s gnb number w = at_each node_cmp (λ (n : Node). n.failure ≡ None)
 
 pub with_node : (s : UnitSet) (name : NodeId) (n : Node) → AreWorking s → n.failure ≡ None → AreWorking (record s { nodes = put node_cmp s.nodes name n })
 with_node s name n w works = record {
-  cp_a = w.cp_a;
-  cp_b = w.cp_b;
+  cu_cp_a = w.cu_cp_a;
+  cu_cp_b = w.cu_cp_b;
   users = w.users;
   nodes = put_each node_cmp (λ (x : Node). x.failure ≡ None) node_total s.nodes name n w.nodes works;
   terminals = w.terminals;
@@ -174,8 +174,8 @@ terminal_works s ue w = by (find ue_cmp s.terminals ue) refl
 pub with_terminal : (s : UnitSet) (ue : UeId) (u : NodeState) → AreWorking s → u.failure ≡ None
     → AreWorking (record s { terminals = put ue_cmp s.terminals ue u })
 with_terminal s ue u w works = record {
-  cp_a = w.cp_a;
-  cp_b = w.cp_b;
+  cu_cp_a = w.cu_cp_a;
+  cu_cp_b = w.cu_cp_b;
   users = w.users;
   nodes = w.nodes;
   terminals = put_each ue_cmp (λ (x : NodeState). x.failure ≡ None) ue_total s.terminals ue u w.terminals works;
@@ -242,40 +242,40 @@ module _ (codec : Codec) (input : Input) (before after : ControlUnit) (back : Cp
   control_goes_on None outputs works is = is.1
 
 module _ (codec : Codec) (s : UnitSet) (w : AreWorking s) (input : Input) (c : ControlUnit) where
-  pub a_gives : (result : Answer) → StepsTo codec s.cp_a input c result
-      → StepGives (tables codec (records_of s) (CuCp A) input) (records_of (record s { cp_a = c })) result
+  pub a_gives : (result : Answer) → StepsTo codec s.cu_cp_a input c result
+      → StepGives (tables codec (records_of s) (CuCp A) input) (records_of (record s { cu_cp_a = c })) result
   unfolding tables
-  a_gives result is = control_gives codec input s.cp_a c (with_cp (records_of s) A) s.cp_a.stopped result w.cp_a is
+  a_gives result is = control_gives codec input s.cu_cp_a c (with_cu_cp (records_of s) A) s.cu_cp_a.stopped result w.cu_cp_a is
 
-  pub b_gives : (result : Answer) → StepsTo codec s.cp_b input c result
-      → StepGives (tables codec (records_of s) (CuCp B) input) (records_of (record s { cp_b = c })) result
+  pub b_gives : (result : Answer) → StepsTo codec s.cu_cp_b input c result
+      → StepGives (tables codec (records_of s) (CuCp B) input) (records_of (record s { cu_cp_b = c })) result
   unfolding tables
-  b_gives result is = control_gives codec input s.cp_b c (with_cp (records_of s) B) s.cp_b.stopped result w.cp_b is
+  b_gives result is = control_gives codec input s.cu_cp_b c (with_cu_cp (records_of s) B) s.cu_cp_b.stopped result w.cu_cp_b is
 
-  pub a_gives_at : (gnb : Gnb) → gnb ≡ A → (result : Answer) → StepsTo codec s.cp_a input c result
-      → StepGives (tables codec (records_of s) (CuCp gnb) input) (records_of (record s { cp_a = c })) result
+  pub a_gives_at : (gnb : Gnb) → gnb ≡ A → (result : Answer) → StepsTo codec s.cu_cp_a input c result
+      → StepGives (tables codec (records_of s) (CuCp gnb) input) (records_of (record s { cu_cp_a = c })) result
   a_gives_at gnb at_a result is =
-      subst (λ (g : Gnb). StepGives (tables codec (records_of s) (CuCp g) input) (records_of (record s { cp_a = c })) result) (sym at_a) (a_gives result is)
+      subst (λ (g : Gnb). StepGives (tables codec (records_of s) (CuCp g) input) (records_of (record s { cu_cp_a = c })) result) (sym at_a) (a_gives result is)
 
-  pub b_gives_at : (gnb : Gnb) → gnb ≡ B → (result : Answer) → StepsTo codec s.cp_b input c result
-      → StepGives (tables codec (records_of s) (CuCp gnb) input) (records_of (record s { cp_b = c })) result
+  pub b_gives_at : (gnb : Gnb) → gnb ≡ B → (result : Answer) → StepsTo codec s.cu_cp_b input c result
+      → StepGives (tables codec (records_of s) (CuCp gnb) input) (records_of (record s { cu_cp_b = c })) result
   b_gives_at gnb at_b result is =
-      subst (λ (g : Gnb). StepGives (tables codec (records_of s) (CuCp g) input) (records_of (record s { cp_b = c })) result) (sym at_b) (b_gives result is)
+      subst (λ (g : Gnb). StepGives (tables codec (records_of s) (CuCp g) input) (records_of (record s { cu_cp_b = c })) result) (sym at_b) (b_gives result is)
 
-  pub a_goes_on : (result : Answer) → StepsTo codec s.cp_a input c result → OnOk result (AreWorking (record s { cp_a = c }))
+  pub a_goes_on : (result : Answer) → StepsTo codec s.cu_cp_a input c result → OnOk result (AreWorking (record s { cu_cp_a = c }))
   a_goes_on (Ok outputs) is = record {
-    cp_a = control_goes_on codec input s.cp_a c (with_cp (records_of s) A) s.cp_a.stopped outputs w.cp_a is;
-    cp_b = w.cp_b;
+    cu_cp_a = control_goes_on codec input s.cu_cp_a c (with_cu_cp (records_of s) A) s.cu_cp_a.stopped outputs w.cu_cp_a is;
+    cu_cp_b = w.cu_cp_b;
     users = w.users;
     nodes = w.nodes;
     terminals = w.terminals;
   }
   a_goes_on (Err error) is = tt
 
-  pub b_goes_on : (result : Answer) → StepsTo codec s.cp_b input c result → OnOk result (AreWorking (record s { cp_b = c }))
+  pub b_goes_on : (result : Answer) → StepsTo codec s.cu_cp_b input c result → OnOk result (AreWorking (record s { cu_cp_b = c }))
   b_goes_on (Ok outputs) is = record {
-    cp_a = w.cp_a;
-    cp_b = control_goes_on codec input s.cp_b c (with_cp (records_of s) B) s.cp_b.stopped outputs w.cp_b is;
+    cu_cp_a = w.cu_cp_a;
+    cu_cp_b = control_goes_on codec input s.cu_cp_b c (with_cu_cp (records_of s) B) s.cu_cp_b.stopped outputs w.cu_cp_b is;
     users = w.users;
     nodes = w.nodes;
     terminals = w.terminals;

@@ -2,7 +2,7 @@
 use Rattle.std.specs.Prelude.{◌≡◌, Option, Some, None}
 use Rattle.gnb_types.specs.Orders.{ue_cmp, node_cmp}
 use Rattle.tables.specs.Tables.{map_values}
-use Rattle.unit_defs.specs.Static.{cp_set_up}
+use Rattle.unit_defs.specs.Static.{cu_cp_set_up}
 use Rattle.run_defs.specs.Units.{new_units}
 use Rattle.run_defs.specs.UnitRuns.{Records}
 use Rattle.proof_site.specs.leaves.Settled.{AreSettled}
@@ -13,8 +13,8 @@ use Rattle.site.specs.site_tables.Nodes as nodes
 
 abbrev pub records_of : UnitSet → Records
 records_of s = record {
-  cp_a = s.cp_a.kept;
-  cp_b = s.cp_b.kept;
+  cu_cp_a = s.cu_cp_a.kept;
+  cu_cp_b = s.cu_cp_b.kept;
   ups = map_values (λ u. u.up) s.users;
   dus = map_values (λ n. n.du) s.nodes;
   ues = map_values (λ u. u.node) s.terminals;
@@ -22,8 +22,8 @@ records_of s = record {
 
 -- no unit has failed
 pub record AreWorking (s : UnitSet) : Type 0 where
-  pub cp_a : s.cp_a.stopped ≡ None
-  pub cp_b : s.cp_b.stopped ≡ None
+  pub cu_cp_a : s.cu_cp_a.stopped ≡ None
+  pub cu_cp_b : s.cu_cp_b.stopped ≡ None
   pub users : EachIs node_cmp (λ u. u.failure ≡ None) s.users
   pub nodes : EachIs node_cmp (λ n. n.failure ≡ None) s.nodes
   pub terminals : EachIs ue_cmp (λ u. u.failure ≡ None) s.terminals
@@ -31,8 +31,8 @@ pub record AreWorking (s : UnitSet) : Type 0 where
 -- all count as set up
 abbrev pub all_marked : UnitSet → UnitSet
 all_marked s = record s {
-  cp_a = record s.cp_a { kept = cp_set_up s.cp_a.kept };
-  cp_b = record s.cp_b { kept = cp_set_up s.cp_b.kept };
+  cu_cp_a = record s.cu_cp_a { kept = cu_cp_set_up s.cu_cp_a.kept };
+  cu_cp_b = record s.cu_cp_b { kept = cu_cp_set_up s.cu_cp_b.kept };
   users = map_values users.as_set_up s.users;
   nodes = map_values nodes.as_set_up s.nodes;
 }

@@ -9,7 +9,7 @@ ghost use Rattle.tables.specs.Tables.{find};
 ghost use Rattle.cu_up_contexts.specs.declared.contexts.placing.PlaceError.TheVariants as errors;
 ghost use Rattle.ue_node.specs.Nodes.{HasPacket};
 ghost use Rattle.unit_defs.specs.Ue.{new_ue};
-ghost use Rattle.run_defs.specs.Units.{new_units, cp_of, ue_of, with_ue, ups_rest};
+ghost use Rattle.run_defs.specs.Units.{new_units, cu_cp_of, ue_of, with_ue, ups_rest};
 ghost use Rattle.run_defs.specs.Conditions.{is_held_by_units};
 ghost use Rattle.run_defs.specs.UnitRuns.{tables};
 ghost use Rattle.run_defs.specs.plain_defs.Plain.{IsPlanned};
@@ -41,8 +41,8 @@ use unit_messages::steps::StepError;
 /// The ten units of both gNBs, and the terminals.
 #[derive(Drop)]
 pub struct UnitSet {
-    cp_a: CuControl,
-    cp_b: CuControl,
+    cu_cp_a: CuControl,
+    cu_cp_b: CuControl,
     users: Users,
     nodes: Nodes,
     terminals: Terminals,
@@ -56,11 +56,11 @@ impl UnitSet {
     {
         let users = users::first_users(alloc)?;
         let nodes = nodes::first_nodes(alloc)?;
-        let cp_a = CuControl::new(alloc, Gnb::A)?;
-        let (cp_b, cp_a) = beside(CuControl::new(alloc, Gnb::B), cp_a)?;
+        let cu_cp_a = CuControl::new(alloc, Gnb::A)?;
+        let (cu_cp_b, cu_cp_a) = beside(CuControl::new(alloc, Gnb::B), cu_cp_a)?;
         Ok(UnitSet {
-            cp_a,
-            cp_b,
+            cu_cp_a,
+            cu_cp_b,
             users,
             nodes,
             terminals: Table::new(alloc),
@@ -117,8 +117,8 @@ impl UnitSet {
         ensures fails { IfErr result (λ error. error ≡ step_errors.Memory) }
     {
         match plan.gnb {
-            Gnb::A => self.cp_a.place_static(plan),
-            Gnb::B => self.cp_b.place_static(plan),
+            Gnb::A => self.cu_cp_a.place_static(plan),
+            Gnb::B => self.cu_cp_b.place_static(plan),
         }
     }
 
@@ -128,8 +128,8 @@ impl UnitSet {
     {
         users::mark_set_up(&mut self.users, alloc)?;
         nodes::mark_set_up(&mut self.nodes, alloc)?;
-        self.cp_a.mark_set_up();
-        self.cp_b.mark_set_up();
+        self.cu_cp_a.mark_set_up();
+        self.cu_cp_b.mark_set_up();
         Ok(())
     }
 
@@ -170,8 +170,8 @@ impl UnitSet {
             (records_of self.new) result }
     {
         match gnb {
-            Gnb::A => self.cp_a.step(codec, input),
-            Gnb::B => self.cp_b.step(codec, input),
+            Gnb::A => self.cu_cp_a.step(codec, input),
+            Gnb::B => self.cu_cp_b.step(codec, input),
         }
     }
 
@@ -226,11 +226,11 @@ impl UnitSet {
     // ---- what a run looks at
 
     pub(crate) fn cu_control(&self, gnb: Gnb) -> &CuControl
-        ensures { result.now.kept ≡ cp_of (records_of self.now) gnb }
+        ensures { result.now.kept ≡ cu_cp_of (records_of self.now) gnb }
     {
         match gnb {
-            Gnb::A => &self.cp_a,
-            Gnb::B => &self.cp_b,
+            Gnb::A => &self.cu_cp_a,
+            Gnb::B => &self.cu_cp_b,
         }
     }
 

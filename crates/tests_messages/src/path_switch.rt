@@ -5,8 +5,8 @@ ghost use Rattle.aper_defs.specs.Membership.{Has};
 ghost use Rattle.message_defs.specs.profile_defs.Profile.{core_type};
 ghost use Rattle.message_defs.specs.Core.{written_core};
 
-use core_messages::hearing::heard;
-use core_messages::writing::written;
+use core_messages::reading::from_value;
+use core_messages::writing::to_value;
 use gnb_types::names::{BearerId, Gnb, UeId};
 use gnb_types::plans::{Peer, Tunnel, TunnelList};
 use message_types::CoreMessage;
@@ -16,11 +16,11 @@ use std::process::Abort;
 use std::test::Fail;
 
 /// Whether a message is heard in what is written for it.
-fn is_heard(alloc: Global, msg: &CoreMessage) -> Result<bool, MsgError>
+fn is_received(alloc: Global, msg: &CoreMessage) -> Result<bool, MsgError>
     requires { Has [] core_type (written_core msg.now) }
 {
-    let value = written(alloc, msg)?;
-    Ok(heard(alloc, &value)? == *msg)
+    let value = to_value(alloc, msg)?;
+    Ok(from_value(alloc, &value)? == *msg)
 }
 
 #[test]
@@ -36,7 +36,7 @@ fn a_request(rt: HostRuntime) -> Result<(), Fail> {
         peer: Peer { gnb: Gnb::B, up: 2 },
         n3: TunnelList::one(alloc, tunnel)?,
     };
-    assert!(rt; is_heard(alloc, &request)?);
+    assert!(rt; is_received(alloc, &request)?);
     Ok(())
 }
 
@@ -46,6 +46,6 @@ fn an_acknowledge(rt: HostRuntime) -> Result<(), Fail> {
         ue: UeId(1),
         instance: 0,
     };
-    assert!(rt; is_heard(rt.alloc(), &acknowledge)?);
+    assert!(rt; is_received(rt.alloc(), &acknowledge)?);
     Ok(())
 }

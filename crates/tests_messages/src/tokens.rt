@@ -8,18 +8,18 @@ ghost use Rattle.message_defs.specs.Tokens.{written_token};
 use gnb_types::names::{Gnb, UeId};
 use message_types::Token;
 use message_values::error::MsgError;
-use rrc_tokens::hearing::heard;
-use rrc_tokens::writing::written;
+use rrc_tokens::reading::from_value;
+use rrc_tokens::writing::to_value;
 use std::alloc::Global;
 use std::process::Abort;
 use std::test::Fail;
 
 /// Whether a token is heard in what is written for it.
-fn is_heard(alloc: Global, token: Token) -> Result<bool, MsgError>
+fn is_received(alloc: Global, token: Token) -> Result<bool, MsgError>
     requires { Has [] token_type (written_token token) }
 {
-    let value = written(alloc, token)?;
-    Ok(heard(&value)? == token)
+    let value = to_value(alloc, token)?;
+    Ok(from_value(&value)? == token)
 }
 
 #[test]
@@ -30,14 +30,14 @@ fn commands(rt: HostRuntime) -> Result<(), Fail> {
         gnb: Gnb::A,
         du: 1,
     };
-    assert!(rt; is_heard(rt.alloc(), least)?);
+    assert!(rt; is_received(rt.alloc(), least)?);
     let greatest = Token::Command {
         ue: UeId(16),
         epoch: u32::MAX,
         gnb: Gnb::B,
         du: 2,
     };
-    assert!(rt; is_heard(rt.alloc(), greatest)?);
+    assert!(rt; is_received(rt.alloc(), greatest)?);
     Ok(())
 }
 
@@ -47,16 +47,16 @@ fn marks(rt: HostRuntime) -> Result<(), Fail> {
         ue: UeId(1),
         epoch: 0,
     };
-    assert!(rt; is_heard(rt.alloc(), complete)?);
+    assert!(rt; is_received(rt.alloc(), complete)?);
     let reestablish = Token::Reestablish {
         ue: UeId(16),
         epoch: u32::MAX,
     };
-    assert!(rt; is_heard(rt.alloc(), reestablish)?);
+    assert!(rt; is_received(rt.alloc(), reestablish)?);
     let accepted = Token::Accepted {
         ue: UeId(7),
         epoch: 2,
     };
-    assert!(rt; is_heard(rt.alloc(), accepted)?);
+    assert!(rt; is_received(rt.alloc(), accepted)?);
     Ok(())
 }

@@ -14,15 +14,15 @@ use message_values::error::MsgError;
 use std::alloc::Global;
 use std::process::Abort;
 use std::test::Fail;
-use xn_messages::hearing::heard;
-use xn_messages::writing::written;
+use xn_messages::reading::from_value;
+use xn_messages::writing::to_value;
 
 /// Whether a message is heard in what is written for it.
-fn is_heard(alloc: Global, msg: &XnMessage) -> Result<bool, MsgError>
+fn is_received(alloc: Global, msg: &XnMessage) -> Result<bool, MsgError>
     requires { (version : ℕ) × Has [] (xn_type version) (written_xn msg.now) }
 {
-    let value = written(alloc, msg)?;
-    Ok(heard(alloc, &value)? == *msg)
+    let value = to_value(alloc, msg)?;
+    Ok(from_value(alloc, &value)? == *msg)
 }
 
 #[test]
@@ -38,7 +38,7 @@ fn a_request(rt: HostRuntime) -> Result<(), Fail> {
         du: 1,
         origin: None,
     };
-    assert!(rt; is_heard(rt.alloc(), &request)?);
+    assert!(rt; is_received(rt.alloc(), &request)?);
     Ok(())
 }
 
@@ -56,7 +56,7 @@ fn a_request_with_an_origin(rt: HostRuntime) -> Result<(), Fail> {
         du: 2,
         origin: Some(Octets::from_slice(alloc, b"A.cp")?),
     };
-    assert!(rt; is_heard(alloc, &request)?);
+    assert!(rt; is_received(alloc, &request)?);
     Ok(())
 }
 
@@ -82,7 +82,7 @@ fn an_acknowledge(rt: HostRuntime) -> Result<(), Fail> {
             },
         )?,
     };
-    assert!(rt; is_heard(alloc, &acknowledge)?);
+    assert!(rt; is_received(alloc, &acknowledge)?);
     Ok(())
 }
 
@@ -93,7 +93,7 @@ fn a_failure(rt: HostRuntime) -> Result<(), Fail> {
         instance: 1,
         cause: 66,
     };
-    assert!(rt; is_heard(rt.alloc(), &failure)?);
+    assert!(rt; is_received(rt.alloc(), &failure)?);
     Ok(())
 }
 
@@ -111,7 +111,7 @@ fn statuses(rt: HostRuntime) -> Result<(), Fail> {
         instance: 2,
         statuses: StatusList::one(alloc, status)?,
     };
-    assert!(rt; is_heard(alloc, &transfer)?);
+    assert!(rt; is_received(alloc, &transfer)?);
     Ok(())
 }
 
@@ -121,16 +121,16 @@ fn what_ends_a_handover(rt: HostRuntime) -> Result<(), Fail> {
         ue: UeId(1),
         instance: 3,
     };
-    assert!(rt; is_heard(rt.alloc(), &cancel)?);
+    assert!(rt; is_received(rt.alloc(), &cancel)?);
     let release = XnMessage::UeContextRelease {
         ue: UeId(1),
         instance: 4,
     };
-    assert!(rt; is_heard(rt.alloc(), &release)?);
+    assert!(rt; is_received(rt.alloc(), &release)?);
     let confirm = XnMessage::TransportConfirm {
         ue: UeId(1),
         instance: 5,
     };
-    assert!(rt; is_heard(rt.alloc(), &confirm)?);
+    assert!(rt; is_received(rt.alloc(), &confirm)?);
     Ok(())
 }

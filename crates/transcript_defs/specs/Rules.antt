@@ -134,8 +134,8 @@ Spelling = ControlMessage (List ℕ) → List ℕ
 
 -- a control message is the spelling of some message, whatever its ends are
 abbrev pub IsSpelled : Spelling → TextLine → Type 0
-IsSpelled spell (Printed (lines.PutMessage message)) = (control : ControlMessage (List ℕ)) × (spell control ≡ message.bytes)
-IsSpelled spell line = Unit {0}
+IsSpelled encode (Printed (lines.PutMessage message)) = (control : ControlMessage (List ℕ)) × (encode control ≡ message.bytes)
+IsSpelled encode line = Unit {0}
 
 -- ---- all rules
 
@@ -166,14 +166,14 @@ OfLine Holds (a_line line) = Holds line
 OfLine Holds place = Unit {0}
 
 abbrev pub Keeps : Spelling → Rule → List TextLine → AtPlace → Type 0
-Keeps spell rules.Form past place = KeepsForm past place
-Keeps spell rules.Wire past place = OfLine (IsOnWire past) place
-Keeps spell rules.Packet past place = OfLine (IsReadable past) place
-Keeps spell rules.Count past place = OfLine (ShowsCount past) place
-Keeps spell rules.Order past place = OfLine (IsInOrder past) place
-Keeps spell rules.Seen past place = OfLine (WasSeen past) place
-Keeps spell rules.Spelling past place = OfLine (IsSpelled spell) place
-Keeps spell rules.End past place = KeepsEnd past place
+Keeps encode rules.Form past place = KeepsForm past place
+Keeps encode rules.Wire past place = OfLine (IsOnWire past) place
+Keeps encode rules.Packet past place = OfLine (IsReadable past) place
+Keeps encode rules.Count past place = OfLine (ShowsCount past) place
+Keeps encode rules.Order past place = OfLine (IsInOrder past) place
+Keeps encode rules.Seen past place = OfLine (WasSeen past) place
+Keeps encode rules.Spelling past place = OfLine (IsSpelled encode) place
+Keeps encode rules.End past place = KeepsEnd past place
 
 -- the number under which a broken rule is reported
 abbrev pub rule_number : Rule → ℕ

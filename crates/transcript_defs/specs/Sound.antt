@@ -9,8 +9,8 @@ use Rattle.transcript_defs.specs.Rules.{Spelling, AtPlace, a_line, no_line, the_
 
 -- each of these lines, the newest first, keeps every rule after the lines before it
 abbrev pub AreSound : Spelling → List TextLine → Type 0
-AreSound spell [] = Unit {0}
-AreSound spell (line ∷ past) = AreSound spell past × ((rule : Rule) → Keeps spell rule past (a_line line))
+AreSound encode [] = Unit {0}
+AreSound encode (line ∷ past) = AreSound encode past × ((rule : Rule) → Keeps encode rule past (a_line line))
 
 -- the texts of these lines, the oldest first
 abbrev pub texts_of : List TextLine → List (List ℕ)
@@ -24,23 +24,23 @@ Stands (text ∷ rest) no_line = (line : TextLine) → IsLineOf text line → �
 Stands texts place = ⊥
 
 -- Texts that are a sound transcript; its lines, the newest first, are `past`.
-pub record Sound (spell : Spelling) (texts : List (List ℕ)) : Type 0 where
+pub record Sound (encode : Spelling) (texts : List (List ℕ)) : Type 0 where
   pub past : List TextLine
   pub texts_are : texts ≡ texts_of past
   pub proper : AllByRecursion IsProper past
-  pub sound : AreSound spell past
+  pub sound : AreSound encode past
   pub finished : IsFinished past
 
 -- Texts whose first broken rule is this one, at this place, counted from 1: the lines before it keep all rules, and what
 -- stands there breaks this rule and keeps those before it. At the end of the texts the place is one past the last.
-pub record IsUnsound (spell : Spelling) (texts : List (List ℕ)) (place : ℕ) (rule : Rule) : Type 0 where
+pub record IsUnsound (encode : Spelling) (texts : List (List ℕ)) (place : ℕ) (rule : Rule) : Type 0 where
   pub past : List TextLine
   pub rest : List (List ℕ)
   pub texts_are : texts ≡ texts_of past ++ rest
   pub proper : AllByRecursion IsProper past
-  pub sound : AreSound spell past
+  pub sound : AreSound encode past
   pub place_is : place ≡ length past + 1
   pub at : AtPlace
   pub stands : Stands rest at
-  pub broken : Keeps spell rule past at → ⊥
-  pub least : (other : Rule) → rule_number other < rule_number rule → Keeps spell other past at
+  pub broken : Keeps encode rule past at → ⊥
+  pub least : (other : Rule) → rule_number other < rule_number rule → Keeps encode other past at

@@ -9,28 +9,28 @@ use Rattle.gnb_types.specs.declared.keys.TunnelEnd.{TunnelEnd}
 use Rattle.gnb_types.specs.declared.keys.EntityKey.{EntityKey}
 use Rattle.gnb_types.specs.Orders.{ue_cmp, entity_cmp}
 use Rattle.tables.specs.Tables.{find, put, without}
-use Rattle.transport_defs.specs.declared.Letter.{Letter}
+use Rattle.transport_defs.specs.declared.ControlMessage.{ControlMessage}
 use Rattle.transport_defs.specs.declared.Item.{Item}
 
 -- ---- control messages: message n is the n-th put
 
 pub record Bag (M : Type 0) : Type 0 where
-  pub letters : List (ℕ × Letter M)
+  pub control_messages : List (ℕ × ControlMessage M)
   pub flight : List ℕ
 
-abbrev pub no_letters : {M : Type 0} → Bag M
-no_letters = record { letters = []; flight = [] }
+abbrev pub no_control_messages : {M : Type 0} → Bag M
+no_control_messages = record { control_messages = []; flight = [] }
 
 -- how many may be put
-abbrev pub most_letters : ℕ
-most_letters = 1000000
+abbrev pub most_control_messages : ℕ
+most_control_messages = 1000000
 
-unfoldable pub put_letter : {M : Type 0} → Bag M → Letter M → Bag M
-put_letter bag l =
-    let number = length bag.letters + 1 in record { letters = bag.letters ++ (number, l) ∷ []; flight = bag.flight ++ number ∷ [] }
+unfoldable pub put_control_message : {M : Type 0} → Bag M → ControlMessage M → Bag M
+put_control_message bag l =
+    let number = length bag.control_messages + 1 in record { control_messages = bag.control_messages ++ (number, l) ∷ []; flight = bag.flight ++ number ∷ [] }
 
-unfoldable pub letter : {M : Type 0} → Bag M → ℕ → Option (Letter M)
-letter bag number = find nat_cmp bag.letters number
+unfoldable pub control_message : {M : Type 0} → Bag M → ℕ → Option (ControlMessage M)
+control_message bag number = find nat_cmp bag.control_messages number
 
 -- it is no longer in flight
 unfoldable pub landed : {M : Type 0} → Bag M → ℕ → Bag M
@@ -39,12 +39,12 @@ landed bag number = record bag { flight = filter (λ n. not (n == number)) bag.f
 abbrev pub is_in : ℕ → List ℕ → Bool
 is_in number numbers = list_any (λ n. n == number) numbers
 
-abbrev pub is_of : {M : Type 0} → ℕ → Option (Letter M) → Bool
+abbrev pub is_of : {M : Type 0} → ℕ → Option (ControlMessage M) → Bool
 is_of ue None = false
 is_of ue (Some l) = l.ue == ue
 
 unfoldable pub in_flight_of : {M : Type 0} → Bag M → ℕ → ℕ
-in_flight_of bag ue = count_by (λ n. is_of ue (letter bag n)) bag.flight
+in_flight_of bag ue = count_by (λ n. is_of ue (control_message bag n)) bag.flight
 
 -- ---- radios: those of a bearer and direction, with how many of its items were carried and aren't confirmed
 

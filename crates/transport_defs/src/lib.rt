@@ -6,7 +6,7 @@ use gnb_types::names::NodeId;
 
 /// A control message that was put: its ends, its terminal (0: none), and what stands for it.
 #[derive(Drop)]
-pub struct Letter<M> {
+pub struct ControlMessage<M> {
     pub from: NodeId,
     pub to: NodeId,
     pub ue: u8,

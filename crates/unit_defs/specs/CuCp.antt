@@ -1,4 +1,4 @@
--- The control plane of the central unit: which input goes to which row (rows: CpRows).
+-- The control plane of the central unit: which input goes to which row (rows: CuCpRows).
 --
 --   order Attach, Handover, Cancel, Release            attach, handover, cancel, release
 --   F1 and E1 Setup Request                            set_up
@@ -13,7 +13,8 @@
 --   SN Status Transfer                                 status
 --   Handover Cancel                                    xn_cancelled
 --   UE Context Release (Xn)                            xn_released
---   UL RRC Message Transfer with a token               completes, completes_again, returns, arrives, arrives_again; say_accepted, where its
+--   UL RRC Message Transfer with a token               completes, completes_again, returns, arrives, arrives_again; accepted_action, where
+--   its
 --                                                      epoch is finished; Busy, where it is too early (token_on)
 --   a tick                                             open requests again; handover_expires; command
 use Rattle.std.specs.Prelude.{◌==◌, ℕ, ◌+◌, Bool, true, false, not, ◌&&◌, if◌then◌else◌, List, [], ◌∷◌, ◌++◌, map, Option, Some, None}
@@ -39,10 +40,10 @@ use Rattle.unit_defs.specs.declared.AttemptKind.TheVariants as kinds
 use Rattle.unit_defs.specs.Ways.{Message, f1, e1, xn, core, Input, control_input, tick_input, order_input, control, Way, Answer, ◌then◌, nothing, puts, drops}
 use Rattle.unit_defs.specs.Transactions.{Kind, request, reply, transfer, kind_of, Waiting, Transactions, waits_at, with_waiting, advance, replied, on_request, on_reply}
 use Rattle.unit_defs.specs.Messages.{cause_name, channel, shares_interface, are_bearers, statuses_of}
-use Rattle.unit_defs.specs.CpRecords.{Awaited, Attempt, CpContext, CpTerminal, CuCpRecord, terminal_of, with_transactions, attempted, same_node, has_unit, bearers_in, ignores, Row, stays, keeps, gives_up, answered, awaits_answer, after_asked, carry_out}
-use Rattle.unit_defs.specs.CpRows.{CpAt, own_du, name_bearers, is_between_dus, is_between_gnbs, attach, attach_has_tunnels, attach_is_placed, attach_fails, move_has_uplinks, move_is_placed, handover, handover_is_acknowledged, handover_is_declined, handover_expires, handover_is_frozen, handover_is_not_frozen, command, cancel, release, offer_context, offer, offer_has_tunnels, offer_is_declined, offer_is_placed, status, xn_cancelled, xn_released, place_is_renewed, is_switched, path_is_switched, say_accepted, completes, completes_again, returns, arrives, arrives_again}
+use Rattle.unit_defs.specs.CuCpRecords.{Awaited, Attempt, CuCpContext, CuCpTerminal, CuCpRecord, terminal_of, with_transactions, attempted, same_node, has_unit, bearers_in, ignores, Row, stays, keeps, gives_up, answered, awaits_answer, after_asked, carry_out}
+use Rattle.unit_defs.specs.CuCpRows.{CuCpScope, own_du, name_bearers, is_between_dus, is_between_gnbs, attach, attach_has_tunnels, attach_is_placed, attach_fails, move_has_uplinks, move_is_placed, handover, handover_is_acknowledged, handover_is_declined, handover_expires, handover_is_frozen, handover_is_not_frozen, command, cancel, release, offer_context, offer, offer_has_tunnels, offer_is_declined, offer_is_placed, status, xn_cancelled, xn_released, place_is_renewed, is_switched, path_is_switched, accepted_action, completes, completes_again, returns, arrives, arrives_again}
 
-abbrev pub at_of : {M C : Type 0} → CuCpRecord M C → UeId → CpAt
+abbrev pub at_of : {M C : Type 0} → CuCpRecord M C → UeId → CuCpScope
 at_of r ue = record { gnb = r.gnb; ue = ue; units = r.units }
 
 module _ {M C P : Type 0} (way : Way M C P) where
@@ -56,10 +57,10 @@ module _ {M C P : Type 0} (way : Way M C P) where
   caused None taken = None
   caused (Some cause) taken = Some (taken cause)
 
-  abbrev pub only_closes : CpTerminal → CpContext → Attempt → Row C
+  abbrev pub only_closes : CuCpTerminal → CuCpContext → Attempt → Row C
   only_closes t c a = keeps t [] (attempted c c.state a)
 
-  abbrev pub in_attaching : CpAt → Message C → CpTerminal → CpContext → Attempt → Option (Row C)
+  abbrev pub in_attaching : CuCpScope → Message C → CuCpTerminal → CuCpContext → Attempt → Option (Row C)
   in_attaching at (e1 (e1s.BearerContextSetupResponse ue instance uplinks n3 down up)) t c a =
       listed (name_bearers c uplinks && name_bearers c n3) (attach_has_tunnels way at uplinks n3 t c a)
   in_attaching at (e1 (e1s.BearerContextSetupFailure ue instance cause)) t c a = caused (cause_name cause) (λ name. attach_fails way name t)
@@ -67,7 +68,7 @@ module _ {M C P : Type 0} (way : Way M C P) where
       listed (name_bearers c downlinks) (attach_is_placed way at downlinks t c a)
   in_attaching at message t c a = Some (only_closes t c a)
 
-  abbrev pub in_moving : CpAt → Message C → CpTerminal → CpContext → Attempt → Option (Row C)
+  abbrev pub in_moving : CuCpScope → Message C → CuCpTerminal → CuCpContext → Attempt → Option (Row C)
   in_moving at (e1 (e1s.BearerContextModificationResponse ue instance (Some uplinks) statuses)) t c a =
       listed (name_bearers c uplinks) (move_has_uplinks way at uplinks t c a)
   in_moving at (e1 (e1s.BearerContextModificationResponse ue instance None statuses)) t c a = None
@@ -75,20 +76,20 @@ module _ {M C P : Type 0} (way : Way M C P) where
       listed (name_bearers c downlinks) (move_is_placed way downlinks t c a)
   in_moving at message t c a = Some (only_closes t c a)
 
-  abbrev pub in_preparing : CpAt → Message C → CpTerminal → CpContext → Attempt → Option (Row C)
+  abbrev pub in_preparing : CuCpScope → Message C → CuCpTerminal → CuCpContext → Attempt → Option (Row C)
   in_preparing at (xn (xns.HandoverRequestAcknowledge ue instance peer down up)) t c a =
       listed (name_bearers c down && name_bearers c up) (handover_is_acknowledged way at peer down up t c a)
   in_preparing at (xn (xns.HandoverPreparationFailure ue instance cause)) t c a = caused (cause_name cause) (λ name. handover_is_declined way name t c)
   in_preparing at message t c a = Some (only_closes t c a)
 
-  abbrev pub in_prepared : CpAt → Message C → CpTerminal → CpContext → Attempt → Option (Row C)
+  abbrev pub in_prepared : CuCpScope → Message C → CuCpTerminal → CuCpContext → Attempt → Option (Row C)
   in_prepared at (e1 (e1s.BearerContextModificationResponse ue instance uplinks (Some statuses))) t c a =
       listed (are_bearers (bearers_in c) (statuses_of statuses)) (handover_is_frozen way at statuses t c a)
   in_prepared at (e1 (e1s.BearerContextModificationResponse ue instance uplinks None)) t c a = None
   in_prepared at (e1 (e1s.BearerContextModificationFailure ue instance cause)) t c a = caused (cause_name cause) (λ name. handover_is_not_frozen way at name t c)
   in_prepared at message t c a = Some (only_closes t c a)
 
-  abbrev pub in_offered : CpAt → Message C → CpTerminal → CpContext → Attempt → Option (Row C)
+  abbrev pub in_offered : CuCpScope → Message C → CuCpTerminal → CuCpContext → Attempt → Option (Row C)
   in_offered at (e1 (e1s.BearerContextSetupResponse ue instance uplinks n3 (Some down) (Some up))) t c a =
       listed (name_bearers c uplinks && name_bearers c n3 && name_bearers c down && name_bearers c up) (offer_has_tunnels way at uplinks n3 down up t c a)
   in_offered at (e1 (e1s.BearerContextSetupResponse ue instance uplinks n3 down up)) t c a = None
@@ -98,7 +99,7 @@ module _ {M C P : Type 0} (way : Way M C P) where
   in_offered at message t c a = Some (only_closes t c a)
 
   -- after an arrival or a return
-  abbrev pub in_switching : CpAt → Message C → CpTerminal → CpContext → Attempt → Option (Row C)
+  abbrev pub in_switching : CuCpScope → Message C → CuCpTerminal → CuCpContext → Attempt → Option (Row C)
   in_switching at (f1 (f1s.UeContextModificationResponse ue instance downlinks)) t c a =
       listed (name_bearers c downlinks) (place_is_renewed way at downlinks t c a)
   in_switching at (e1 (e1s.BearerContextModificationResponse ue instance uplinks statuses)) t c a = Some (is_switched way at t c a)
@@ -106,11 +107,11 @@ module _ {M C P : Type 0} (way : Way M C P) where
   in_switching at message t c a = Some (only_closes t c a)
 
   -- the source lets go: it is over once DU and CU-UP have answered
-  abbrev pub in_releasing : CpTerminal → CpContext → Attempt → List Awaited → Row C
+  abbrev pub in_releasing : CuCpTerminal → CuCpContext → Attempt → List Awaited → Row C
   in_releasing t c a [] = gives_up t []
   in_releasing t c a (w ∷ ws) = only_closes t c a
 
-  abbrev pub in_state : CpAt → Message C → CpTerminal → CpContext → StateName → Attempt → Option (Row C)
+  abbrev pub in_state : CuCpScope → Message C → CuCpTerminal → CuCpContext → StateName → Attempt → Option (Row C)
   in_state at message t c states.Attaching a = in_attaching at message t c a
   in_state at message t c states.Preparing a = if is_between_dus a.kind then in_moving at message t c a else in_preparing at message t c a
   in_state at message t c states.Prepared a = in_prepared at message t c a
@@ -127,27 +128,27 @@ module _ {M C P : Type 0} (way : Way M C P) where
     answers_none : Answered
     answers_with : (taken : Option (Row C)) → Answered
 
-  abbrev pub answer_of : CpAt → NodeId → ℕ → Message C → CpTerminal → CpContext → Option Attempt → Answered
+  abbrev pub answer_of : CuCpScope → NodeId → ℕ → Message C → CuCpTerminal → CuCpContext → Option Attempt → Answered
   answer_of at from instance message t c None = answers_none
   answer_of at from instance message t c (Some a) =
       if awaits_answer a from instance then answers_with (in_state at message t c c.state (answered a from)) else answers_none
 
-  abbrev pub answer_on : CpAt → NodeId → ℕ → Message C → CpTerminal → Option CpContext → Answered
+  abbrev pub answer_on : CuCpScope → NodeId → ℕ → Message C → CuCpTerminal → Option CuCpContext → Answered
   answer_on at from instance message t None = answers_none
   answer_on at from instance message t (Some c) = answer_of at from instance message t c c.attempt
 
-  unfoldable pub answer : CpAt → NodeId → ℕ → Message C → CpTerminal → Answered
+  unfoldable pub answer : CuCpScope → NodeId → ℕ → Message C → CuCpTerminal → Answered
   answer at from instance message t = answer_on at from instance message t t.context
 
   -- A setup failed that no attempt awaits any more: its offer was cancelled, and the release that waits first is the one after
   -- it, and isn't needed.
-  abbrev pub is_up_release : Message C → Bool
-  is_up_release (e1 (e1s.BearerContextReleaseCommand ue instance is_final)) = true
-  is_up_release message = false
+  abbrev pub is_cu_up_release : Message C → Bool
+  is_cu_up_release (e1 (e1s.BearerContextReleaseCommand ue instance is_final)) = true
+  is_cu_up_release message = false
 
   abbrev pub without_release : List (Waiting C) → List (Waiting C)
   without_release [] = []
-  without_release (w ∷ ws) = if is_up_release w.message then ws else w ∷ ws
+  without_release (w ∷ ws) = if is_cu_up_release w.message then ws else w ∷ ws
 
   abbrev pub is_setup_failure : Message C → Bool
   is_setup_failure (e1 (e1s.BearerContextSetupFailure ue instance cause)) = true
@@ -169,8 +170,8 @@ module _ {M C P : Type 0} (way : Way M C P) where
   answered_by ue ch message r (answers_with None) = drops Unexpected r
   answered_by ue ch message r (answers_with (Some taken)) = carry_out way ue (closed_at ch r) taken then put_next ue ch
 
-  unfoldable pub reply_came : UeId → Channel → ℕ → Message C → CuCpRecord M C → Answer M P (CuCpRecord M C)
-  reply_came ue ch instance message r =
+  unfoldable pub reply_received : UeId → Channel → ℕ → Message C → CuCpRecord M C → Answer M P (CuCpRecord M C)
+  reply_received ue ch instance message r =
       answered_by ue ch message r (answer (at_of r ue) ch.peer instance message (terminal_of r ue))
 
   -- ---- requests of others, each of which is taken
@@ -230,43 +231,43 @@ module _ {M C P : Type 0} (way : Way M C P) where
   is_ready states.Ready = true
   is_ready state = false
 
-  abbrev pub unexpected_token : CpTerminal → Row C
+  abbrev pub unexpected_token : CuCpTerminal → Row C
   unexpected_token t = stays t (ignores Unexpected ∷ [])
 
-  abbrev pub token_in_ready : CpAt → NodeId → Token → ℕ → CpTerminal → CpContext → Attempt → Row C
+  abbrev pub token_in_ready : CuCpScope → NodeId → Token → ℕ → CuCpTerminal → CuCpContext → Attempt → Row C
   token_in_ready at from token epoch t c a =
       if not (is_ready c.state && same_node from (own_du at c.du)) then unexpected_token t else
       (if is_complete token && a.epoch == epoch then arrives way at epoch t c a else
       (if is_reestablish token && a.epoch + 1 == epoch then arrives_again way at epoch t c a else unexpected_token t))
 
-  abbrev pub token_of_return : CpAt → NodeId → Token → ℕ → CpTerminal → CpContext → Attempt → Row C
+  abbrev pub token_of_return : CuCpScope → NodeId → Token → ℕ → CuCpTerminal → CuCpContext → Attempt → Row C
   token_of_return at from token epoch t c a =
       if is_reestablish token && is_epoch c.epoch 1 epoch && same_node from (own_du at c.du) then
       (if may_return c.state a.kind then returns way at epoch t c else
       (if is_too_early c.state a.kind then stays t (ignores Busy ∷ []) else token_in_ready at from token epoch t c a))
       else token_in_ready at from token epoch t c a
 
-  abbrev pub token_of_attempt : CpAt → NodeId → Token → ℕ → CpTerminal → CpContext → Attempt → Row C
+  abbrev pub token_of_attempt : CuCpScope → NodeId → Token → ℕ → CuCpTerminal → CuCpContext → Attempt → Row C
   token_of_attempt at from token epoch t c a =
       if not (is_own_command c.state a.kind && same_node from (own_du at a.du)) then token_of_return at from token epoch t c a else
       (if is_complete token && is_epoch c.epoch 1 epoch then completes way at epoch t c a else
       (if is_reestablish token && is_epoch c.epoch 2 epoch then completes_again way at epoch t c a else token_of_return at from token epoch t c a))
 
-  abbrev pub token_while_serving : CpAt → NodeId → Token → ℕ → CpTerminal → CpContext → Row C
+  abbrev pub token_while_serving : CuCpScope → NodeId → Token → ℕ → CuCpTerminal → CuCpContext → Row C
   token_while_serving at from token epoch t c =
       if is_reestablish token && is_epoch c.epoch 1 epoch && same_node from (own_du at c.du) then returns way at epoch t c else unexpected_token t
 
-  abbrev pub token_by_attempt : CpAt → NodeId → Token → ℕ → CpTerminal → CpContext → Option Attempt → Row C
+  abbrev pub token_by_attempt : CuCpScope → NodeId → Token → ℕ → CuCpTerminal → CuCpContext → Option Attempt → Row C
   token_by_attempt at from token epoch t c None = token_while_serving at from token epoch t c
   token_by_attempt at from token epoch t c (Some a) = token_of_attempt at from token epoch t c a
 
   -- an epoch that is accepted and finished is accepted again
-  abbrev pub token_on : CpAt → NodeId → Token → ℕ → CpTerminal → Option CpContext → Row C
+  abbrev pub token_on : CuCpScope → NodeId → Token → ℕ → CuCpTerminal → Option CuCpContext → Row C
   token_on at from token epoch t None = stays t (ignores NoContext ∷ [])
   token_on at from token epoch t (Some c) =
-      if is_epoch c.epoch 0 epoch && c.finished then stays t (say_accepted way at c epoch ∷ []) else token_by_attempt at from token epoch t c c.attempt
+      if is_epoch c.epoch 0 epoch && c.finished then stays t (accepted_action way at c epoch ∷ []) else token_by_attempt at from token epoch t c c.attempt
 
-  abbrev pub token_row : CpAt → NodeId → CpTerminal → Token → Row C
+  abbrev pub token_row : CuCpScope → NodeId → CuCpTerminal → Token → Row C
   token_row at from t (tokens.Complete ue epoch) = token_on at from (tokens.Complete ue epoch) epoch t t.context
   token_row at from t (tokens.Reestablish ue epoch) = token_on at from (tokens.Reestablish ue epoch) epoch t t.context
   token_row at from t token = unexpected_token t
@@ -278,21 +279,21 @@ module _ {M C P : Type 0} (way : Way M C P) where
   token_ue (tokens.Reestablish ue epoch) = ue
   token_ue (tokens.Accepted ue epoch) = ue
 
-  abbrev pub container_row : CpAt → NodeId → CpTerminal → Option Token → Row C
+  abbrev pub container_row : CuCpScope → NodeId → CuCpTerminal → Option Token → Row C
   container_row at from t None = unexpected_token t
   container_row at from t (Some token) = if (token_ue token).0 == at.ue.0 then token_row at from t token else unexpected_token t
 
-  abbrev pub no_context_first : CpAt → NodeId → CpTerminal → Option CpContext → Option Token → Row C
+  abbrev pub no_context_first : CuCpScope → NodeId → CuCpTerminal → Option CuCpContext → Option Token → Row C
   no_context_first at from t None token = stays t (ignores NoContext ∷ [])
   no_context_first at from t (Some c) token = container_row at from t token
 
-  unfoldable pub token_came : UeId → NodeId → C → CuCpRecord M C → Answer M P (CuCpRecord M C)
-  token_came ue from container r =
+  unfoldable pub token_received : UeId → NodeId → C → CuCpRecord M C → Answer M P (CuCpRecord M C)
+  token_received ue from container r =
       let t = terminal_of r ue in
       carry_out way ue r (no_context_first (at_of r ue) from t t.context (way.unwrap container))
 
   abbrev pub transferred : NodeId → Message C → CuCpRecord M C → Answer M P (CuCpRecord M C)
-  transferred from (f1 (f1s.UlRrcMessageTransfer ue container)) r = token_came ue from container r
+  transferred from (f1 (f1s.UlRrcMessageTransfer ue container)) r = token_received ue from container r
   transferred from message r = drops Unexpected r
 
   -- ---- a control message
@@ -301,15 +302,15 @@ module _ {M C P : Type 0} (way : Way M C P) where
   control_by from message r (request ue instance) =
       on_request way r r.transactions (channel ue from) instance (λ t. asked from message (with_transactions r t))
   control_by from message r (reply ue instance) =
-      on_reply way r r.transactions (channel ue from) instance (reply_came (record { 0 = ue }) (channel ue from) instance message r)
+      on_reply way r r.transactions (channel ue from) instance (reply_received (record { 0 = ue }) (channel ue from) instance message r)
   control_by from message r (transfer ue) = transferred from message r
 
-  unfoldable pub control_came : NodeId → Message C → CuCpRecord M C → Answer M P (CuCpRecord M C)
-  control_came from message r = if shares_interface (cp_node r.gnb) from then control_by from message r (kind_of message) else drops Unexpected r
+  unfoldable pub control_received : NodeId → Message C → CuCpRecord M C → Answer M P (CuCpRecord M C)
+  control_received from message r = if shares_interface (cp_node r.gnb) from then control_by from message r (kind_of message) else drops Unexpected r
 
   -- ---- a tick: open requests again, or what expires; then the commands
 
-  abbrev pub expired_on : CpAt → CpTerminal → Option CpContext → Row C
+  abbrev pub expired_on : CuCpScope → CuCpTerminal → Option CuCpContext → Row C
   expired_on at t None = stays t []
   expired_on at t (Some c) = handover_expires way at t c
 
@@ -323,12 +324,12 @@ module _ {M C P : Type 0} (way : Way M C P) where
   due_each [] r = nothing r
   due_each (d ∷ ds) r = due_one r d then due_each ds
 
-  abbrev pub command_by : CpAt → CpTerminal → CpContext → StateName → Option Attempt → Row C
+  abbrev pub command_by : CuCpScope → CuCpTerminal → CuCpContext → StateName → Option Attempt → Row C
   command_by at t c states.Frozen (Some a) = command way at t c a
   command_by at t c states.Commanded (Some a) = command way at t c a
   command_by at t c state attempt = stays t []
 
-  abbrev pub command_on : CpAt → CpTerminal → Option CpContext → Row C
+  abbrev pub command_on : CuCpScope → CuCpTerminal → Option CuCpContext → Row C
   command_on at t None = stays t []
   command_on at t (Some c) = command_by at t c c.state c.attempt
 
@@ -355,7 +356,7 @@ module _ {M C P : Type 0} (way : Way M C P) where
   ordered order r = drops Unexpected r
 
   unfoldable pub cu_cp_acts : CuCpRecord M C → Input C P → Answer M P (CuCpRecord M C)
-  cu_cp_acts r (control_input from message) = control_came from message r
+  cu_cp_acts r (control_input from message) = control_received from message r
   cu_cp_acts r tick_input = tick r
   cu_cp_acts r (order_input order) = ordered order r
   cu_cp_acts r input = drops Unexpected r

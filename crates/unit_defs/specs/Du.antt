@@ -203,7 +203,7 @@ module _ {M C P : Type 0} (way : Way M C P) where
   abbrev pub relayed_up : UeId → Token → Du M C → Option DuContext → Answer M P (Du M C)
   relayed_up ue token r None = drops NoContext r
   relayed_up ue token r (Some c) =
-      puts (control (CuCp r.gnb) ue.0 (way.spell (f1 (f1s.UlRrcMessageTransfer ue (way.wrap token))))) r
+      puts (control (CuCp r.gnb) ue.0 (way.encode (f1 (f1s.UlRrcMessageTransfer ue (way.wrap token))))) r
 
   unfoldable pub relay_up : UeId → Token → Du M C → Answer M P (Du M C)
   relay_up ue token r = relayed_up ue token r (context_of r ue)
@@ -241,21 +241,21 @@ module _ {M C P : Type 0} (way : Way M C P) where
   transferred (f1 (f1s.DlRrcMessageTransfer ue container)) r = relay_down ue container r
   transferred message r = drops Unexpected r
 
-  abbrev pub of_cp : NodeId → Message C → Du M C → Kind → Answer M P (Du M C)
-  of_cp from message r (request ue instance) =
+  abbrev pub of_cu_cp : NodeId → Message C → Du M C → Kind → Answer M P (Du M C)
+  of_cu_cp from message r (request ue instance) =
       on_request way r r.transactions (channel ue from) instance (λ t. asked (channel ue from) message (with_transactions r t))
-  of_cp from message r (reply ue instance) = on_reply way r r.transactions (channel ue from) instance (set_up (channel ue from) r)
-  of_cp from message r (transfer ue) = transferred message r
+  of_cu_cp from message r (reply ue instance) = on_reply way r r.transactions (channel ue from) instance (set_up (channel ue from) r)
+  of_cu_cp from message r (transfer ue) = transferred message r
 
   abbrev pub of_terminal : ℕ → Message C → Du M C → Answer M P (Du M C)
   of_terminal ue (rrc token) r = if (token_ue token).0 == ue then relay_up (token_ue token) token r else drops Unexpected r
   of_terminal ue message r = drops Unexpected r
 
-  unfoldable pub control_came : NodeId → Message C → Du M C → Answer M P (Du M C)
-  control_came (CuCp gnb) message r =
-      if is_same_gnb gnb r.gnb then of_cp (CuCp gnb) message r (kind_of message) else drops Unexpected r
-  control_came (Ue ue) message r = of_terminal ue message r
-  control_came from message r = drops Unexpected r
+  unfoldable pub control_received : NodeId → Message C → Du M C → Answer M P (Du M C)
+  control_received (CuCp gnb) message r =
+      if is_same_gnb gnb r.gnb then of_cu_cp (CuCp gnb) message r (kind_of message) else drops Unexpected r
+  control_received (Ue ue) message r = of_terminal ue message r
+  control_received from message r = drops Unexpected r
 
   -- ---- a frame: what is missing before it is told, and a poll is answered; then its PDU goes to the radio
 
@@ -281,15 +281,15 @@ module _ {M C P : Type 0} (way : Way M C P) where
   abbrev pub with_bearer : UeId → BearerId → DuContext → DuBearer → Du M C → Du M C
   with_bearer ue bearer c b r = with_context ue r (record c { bearers = put bearer_cmp c.bearers bearer b })
 
-  abbrev pub frame_came : UeId → BearerId → DuContext → DuBearer → Taken P → Du M C → Answer M P (Du M C)
-  frame_came ue bearer c b (frame_item poll restart number pdu) r =
+  abbrev pub frame_received : UeId → BearerId → DuContext → DuBearer → Taken P → Du M C → Answer M P (Du M C)
+  frame_received ue bearer c b (frame_item poll restart number pdu) r =
       gives (told ue bearer b poll number) (with_bearer ue bearer c (record b { awaited = number + 1; gap = gap_after b number restart pdu }) r)
       then carried ue bearer c (gap_after b number restart pdu) pdu
-  frame_came ue bearer c b item r = drops Unexpected r
+  frame_received ue bearer c b item r = drops Unexpected r
 
   abbrev pub taken_in : UeId → BearerId → DuContext → Taken P → Du M C → Option DuBearer → Answer M P (Du M C)
   taken_in ue bearer c item r None = drops NoContext r
-  taken_in ue bearer c item r (Some b) = frame_came ue bearer c b item r
+  taken_in ue bearer c item r (Some b) = frame_received ue bearer c b item r
 
   abbrev pub taken_of : UeId → BearerId → Taken P → Du M C → Option DuContext → Answer M P (Du M C)
   taken_of ue bearer item r None = drops NoContext r
@@ -339,7 +339,7 @@ module _ {M C P : Type 0} (way : Way M C P) where
   ordered order r = drops Unexpected r
 
   unfoldable pub du_acts : Du M C → Input C P → Answer M P (Du M C)
-  du_acts r (control_input from message) = control_came from message r
+  du_acts r (control_input from message) = control_received from message r
   du_acts r (packet_input teid item) = take teid item r
   du_acts r (radio_input ue bearer Ul pdu content) = pass_up ue bearer pdu r
   du_acts r (confirm_input ue bearer Dl pdu content) = confirm ue bearer pdu r

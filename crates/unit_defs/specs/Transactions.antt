@@ -121,7 +121,7 @@ module _ {M C P : Type 0} (way : Way M C P) where
 
   abbrev pub begun_as : Transactions M C → Channel → Waiting C → Begin M → Answer M P (Asked M C)
   begun_as t c w (begun instance after) =
-      let message = way.spell (with_instance instance w.message) in
+      let message = way.encode (with_instance instance w.message) in
       puts (control c.peer c.ue message)
       (record { transactions = record t { caller = keep_request after c message }; awaited = awaited_as w.awaited instance })
   begun_as t c w running = nothing (record { transactions = t; awaited = None })
@@ -154,12 +154,12 @@ module _ {M C P : Type 0} (way : Way M C P) where
 
   unfoldable pub replied : Transactions M C → Channel → Message C → Answer M P (Transactions M C)
   replied t c message =
-      puts (control c.peer c.ue (way.spell message)) (record t { callee = keep t.callee c (way.spell message) })
+      puts (control c.peer c.ue (way.encode message)) (record t { callee = keep t.callee c (way.encode message) })
 
   -- a reply that comes later than the step that took its request
   unfoldable pub replied_late : Transactions M C → Channel → ℕ → Message C → Answer M P (Transactions M C)
   replied_late t c instance message =
-      puts (control c.peer c.ue (way.spell message)) (record t { callee = keep_for t.callee c instance (way.spell message) })
+      puts (control c.peer c.ue (way.encode message)) (record t { callee = keep_for t.callee c instance (way.encode message) })
 
   -- A request is acted on once: where its instance is new the row is made, of what is kept then. The newest one is answered
   -- again with its reply, if one is kept; a lower one is stale.

@@ -155,7 +155,7 @@ module _ {M C P : Type 0} (way : Way M C P) where
   token_of u says.Reestablish = tokens.Reestablish u.plan.ue u.epoch
 
   abbrev pub said : UeNode → Option TokenKind → Option NodeId → List (Output M P)
-  said u (Some kind) (Some home) = control home u.plan.ue.0 (way.spell (rrc (token_of u kind))) ∷ []
+  said u (Some kind) (Some home) = control home u.plan.ue.0 (way.encode (rrc (token_of u kind))) ∷ []
   said u kind home = []
 
   abbrev pub says_it : UeNode → Answer M P UeNode

@@ -88,7 +88,7 @@ Output M P = Put M (Load P) P
 
 -- how messages, containers and PDUs are written and looked at
 pub record Way (M C P : Type 0) : Type 0 where
-  pub spell : Message C → M
+  pub encode : Message C → M
   pub wrap : Token → C
   pub unwrap : C → Option Token
   pub pass : C → M

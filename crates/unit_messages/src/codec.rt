@@ -18,8 +18,8 @@ pub trait MessageCodec {
     ghost codec: { Codec };
 
     /// The octets of a message.
-    fn spell(&self, alloc: Global, message: &Message) -> Result<Octets, Memory>
-        ensures { IfOk result (λ octets. octets ≡ codec.spell (message_as message.now)) };
+    fn encode(&self, alloc: Global, message: &Message) -> Result<Octets, Memory>
+        ensures { IfOk result (λ octets. octets ≡ codec.encode (message_as message.now)) };
 
     /// The message that octets from one node to another say, or why they are dropped.
     fn read(
@@ -37,14 +37,14 @@ pub trait MessageCodec {
 }
 
 /// The octets of a message, which is let go.
-pub fn spelled<C: MessageCodec>(
+pub fn encoded<C: MessageCodec>(
     alloc: Global,
     codec: &C,
     message: Message,
 ) -> Result<Octets, Memory>
-    ensures { IfOk result (λ octets. octets ≡ C.codec.spell (message_as message)) }
+    ensures { IfOk result (λ octets. octets ≡ C.codec.encode (message_as message)) }
 {
-    let octets = codec.spell(alloc, &message);
+    let octets = codec.encode(alloc, &message);
     drop(message);
     octets
 }

@@ -7,6 +7,6 @@ pub mod lawful_codecs;
 mod message;
 pub mod steps;
 
-pub use codec::{MessageCodec, spelled};
+pub use codec::{MessageCodec, encoded};
 pub use kind::Kind;
 pub use message::Message;

@@ -52,10 +52,10 @@ impl Requests {
     ) -> Result<(), Memory>
         ensures kept { OnOk result (self.new ≡ record self.old {
           caller =
-              keep_request self.old.caller channel (C.codec.spell (with_instance instance waiting.message));
+              keep_request self.old.caller channel (C.codec.encode (with_instance instance waiting.message));
         }) }
         ensures put { OnOk result (outputs.new ≡ outputs.old
-            ++ Output.Control channel.peer channel.ue (C.codec.spell (with_instance instance waiting.message)) ∷ []) }
+            ++ Output.Control channel.peer channel.ue (C.codec.encode (with_instance instance waiting.message)) ∷ []) }
     {
         let message = waiting.message.with_instance(instance);
         let kept = put_message(alloc, codec, channel, &message, outputs);

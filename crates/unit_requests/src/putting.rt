@@ -29,11 +29,11 @@ pub(crate) fn put_message<C: MessageCodec>(
     message: &Message,
     outputs: &mut Outputs,
 ) -> Result<Octets, Memory>
-    ensures kept { IfOk result (λ kept. kept ≡ C.codec.spell (message_as message.now)) }
+    ensures kept { IfOk result (λ kept. kept ≡ C.codec.encode (message_as message.now)) }
     ensures put { OnOk result (outputs.new ≡ outputs.old
-        ++ Output.Control channel.peer channel.ue (C.codec.spell (message_as message.now)) ∷ []) }
+        ++ Output.Control channel.peer channel.ue (C.codec.encode (message_as message.now)) ∷ []) }
 {
-    let bytes = codec.spell(alloc, message)?;
+    let bytes = codec.encode(alloc, message)?;
     let kept = Octets::from_slice(alloc, bytes.as_slice())?;
     outputs.push(Output::Control {
         to: channel.peer,

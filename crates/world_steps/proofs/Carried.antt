@@ -8,7 +8,7 @@ use Rattle.run_defs.specs.Lines.{RunLine}
 use Rattle.run_defs.specs.States.{Stop, goes, stops, told_before, ◌next◌, as_step}
 use Rattle.run_defs.specs.Steps.{reconnect_node, put_out_all, check_spans, carried_out}
 use Rattle.run_defs.specs.UnitRuns.{Records, OctetPut}
-use Rattle.run_links.specs.Grounds.{Octets, OctetState, OctetWorld, OctetWithin}
+use Rattle.run_links.specs.Networks.{Octets, OctetState, OctetWorld, OctetWithin}
 use Rattle.run_links.specs.Told.{printed, GoesTo}
 use Rattle.run_links.proofs.Goes.{told_more}
 use Rattle.world_steps.specs.declared.cause.Cause.{Cause}

@@ -12,10 +12,10 @@ use Rattle.unit_messages.specs.declared.steps.StepError.{StepError}
 use Rattle.unit_messages.specs.declared.steps.StepError.TheVariants as errors
 use Rattle.unit_defs.specs.octet_defs.Codec.{Codec}
 use Rattle.run_defs.specs.States.{Stop, spent_counter, as_step}
-use Rattle.run_defs.specs.Steps.{is_done, does, carried_out, too_many_letters}
+use Rattle.run_defs.specs.Steps.{is_done, does, carried_out, too_many_control_messages}
 use Rattle.run_defs.specs.UnitRuns.{Records, Meaning, UnitAnswer, unit_gives, OctetGiven, input_of, put_of, stepped_by, unit_world}
 use Rattle.run_units.specs.Steps.{StepGives, IsAsked, LeavesAll}
-use Rattle.run_links.specs.Grounds.{OctetState, OctetWorld, OctetWithin, OctetOutcome}
+use Rattle.run_links.specs.Networks.{OctetState, OctetWorld, OctetWithin, OctetOutcome}
 use Rattle.run_links.specs.Told.{GoesTo}
 use Rattle.world_steps.specs.declared.cause.Cause.{Cause}
 use Rattle.world_steps.specs.declared.cause.Cause.TheVariants as causes
@@ -23,7 +23,7 @@ use Rattle.world_steps.specs.declared.asked.Asked.{Asked}
 use Rattle.world_steps.specs.declared.asked.Asked.TheVariants as kinds
 use Rattle.world_steps.specs.Gives.{Gives, EventGives, EventStops, cause_of, stop_by, finished}
 use Rattle.world_steps.specs.declared.asked.Moved.TheVariants as moves
-use Rattle.world_steps.specs.Moves.{OctetDone, DoneStops, DoneGives, moved_by}
+use Rattle.world_steps.specs.Moves.{OctetDone, DoneStops, StepOutcome, moved_by}
 use Rattle.world_steps.specs.Asks.{Asking, ComesOf, SortsTo}
 use Rattle.world_steps.proofs.Carried.{carried, as_event}
 use Rattle.world_steps.proofs.Sorted.{comes_of}
@@ -40,7 +40,7 @@ comes_of_error world s node answer after errors.Memory h = tt
 
 pub comes_of_outputs : (world : OctetWorld) (meaning : Meaning) (s : OctetState) (node : NodeId) (input : Input) (outputs : List Output)
     (after : Records) (room many : Bool) (result : Result Asked Cause) → LeavesAll meaning s.units → IsAsked s.units node input
-    → meaning s.units node input ≡ unit_gives outputs after → many ≡ too_many_letters world (map put_of outputs) s → room ≡ not many
+    → meaning s.units node input ≡ unit_gives outputs after → many ≡ too_many_control_messages world (map put_of outputs) s → room ≡ not many
     → SortsTo outputs room result
     → ComesOf (record { world = world; state = s; node = node; stepped = stepped_by (meaning s.units node input) }) after result
 comes_of_outputs world meaning s node input outputs after room many result leaves asked is few open_ sorts =
@@ -62,10 +62,10 @@ module _ (codec : Codec) (answer : Meaning) (s : OctetState) (node : NodeId) (gi
   pub does_step : (outputs : List Output) (after : Records) (t u : OctetState) (before middle lines : List OutLine) (result : Result (Unit {0}) Cause)
       → ComesOf asking after (Ok (kinds.Does outputs)) → GoesTo before (first (record s { units = after })) middle t
       → Gives middle (finished world node taken (map put_of outputs) t) lines u result
-      → DoneGives (does world node given taken first s) (record { state = s; lines = before }) (record { state = u; lines = lines }) (moved_by result)
+      → StepOutcome (does world node given taken first s) (record { state = s; lines = before }) (record { state = u; lines = lines }) (moved_by result)
   unfolding does
   does_step outputs after t u before middle lines result came goes_so gives_so =
-      subst (λ (d : OctetDone). DoneGives d (record { state = s; lines = before }) (record { state = u; lines = lines }) (moved_by result))
+      subst (λ (d : OctetDone). StepOutcome d (record { state = s; lines = before }) (record { state = u; lines = lines }) (moved_by result))
       (sym (came.1 taken first))
       (moved result (as_event (Some node) (carried_out world node taken first (map put_of outputs) after s) before lines u result
       (carried world node taken first (map put_of outputs) after s t u before middle lines result goes_so gives_so)))
@@ -77,33 +77,33 @@ module _ (codec : Codec) (answer : Meaning) (s : OctetState) (node : NodeId) (gi
 
       moved : (r : Result (Unit {0}) Cause)
           → EventGives before (as_step (Some node) (carried_out world node taken first (map put_of outputs) after s)) lines u r
-          → DoneGives (is_done (as_step (Some node) (carried_out world node taken first (map put_of outputs) after s)))
+          → StepOutcome (is_done (as_step (Some node) (carried_out world node taken first (map put_of outputs) after s)))
           (record { state = s; lines = before }) (record { state = u; lines = lines }) (moved_by r)
       moved (Ok done) h = h
       moved (Err cause) h = stopped (as_step (Some node) (carried_out world node taken first (map put_of outputs) after s)) (stop_by cause) h
 
   -- a unit that holds its input, or refuses the event; the records are those from before
   pub does_hold : (after : Records) (reason : HeldReason) (lines : List OutLine) → ComesOf asking after (Ok (kinds.Holds reason))
-      → DoneGives (does world node given taken first s) (record { state = s; lines = lines })
+      → StepOutcome (does world node given taken first s) (record { state = s; lines = lines })
       (record { state = record s { units = after }; lines = lines }) (Ok (moves.Holds reason))
   unfolding does
   does_hold after reason lines came =
-      subst (λ (d : OctetDone). DoneGives d (record { state = s; lines = lines }) (record { state = record s { units = after }; lines = lines })
+      subst (λ (d : OctetDone). StepOutcome d (record { state = s; lines = lines }) (record { state = record s { units = after }; lines = lines })
       (Ok (moves.Holds reason))) (sym (came.1 taken first))
       (refl, ap (λ (r : Records). record { state = record s { units = r }; lines = lines }) came.0)
 
   pub does_refuse : (after : Records) (reason : RefuseReason) (lines : List OutLine) → ComesOf asking after (Ok (kinds.Refuses reason))
-      → DoneGives (does world node given taken first s) (record { state = s; lines = lines })
+      → StepOutcome (does world node given taken first s) (record { state = s; lines = lines })
       (record { state = record s { units = after }; lines = lines }) (Ok (moves.Refuses reason))
   unfolding does
   does_refuse after reason lines came =
-      subst (λ (d : OctetDone). DoneGives d (record { state = s; lines = lines }) (record { state = record s { units = after }; lines = lines })
+      subst (λ (d : OctetDone). StepOutcome d (record { state = s; lines = lines }) (record { state = record s { units = after }; lines = lines })
       (Ok (moves.Refuses reason))) (sym (came.1 taken first))
       (refl, ap (λ (r : Records). record { state = record s { units = r }; lines = lines }) came.0)
 
   -- a unit that fails, before anything is taken
   pub does_fail : (after : Records) (u : OctetState) (lines : List OutLine) (cause : Cause) → ComesOf asking after (Err cause)
-      → DoneGives (does world node given taken first s) (record { state = s; lines = lines }) (record { state = u; lines = lines }) (Err cause)
+      → StepOutcome (does world node given taken first s) (record { state = s; lines = lines }) (record { state = u; lines = lines }) (Err cause)
   unfolding does
   does_fail after u lines (causes.Outstanding o) came = absurd came
   does_fail after u lines (causes.Spent counter) came =

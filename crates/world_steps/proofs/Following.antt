@@ -9,7 +9,7 @@ use Rattle.scenario_text.specs.declared.line.OutLine.{OutLine}
 use Rattle.std.specs.List.{flat_map}
 use Rattle.run_defs.specs.Lines.{RunLine}
 use Rattle.run_defs.specs.States.{RunStep, Stop, goes, stops, told_before, ◌next◌, goes_on}
-use Rattle.run_links.specs.Grounds.{Octets, OctetState, OctetOutcome}
+use Rattle.run_links.specs.Networks.{Octets, OctetState, OctetOutcome}
 use Rattle.run_links.specs.Told.{printed, EndsAt}
 use Rattle.run_links.proofs.Goes.{told_more}
 use Rattle.world_steps.specs.declared.cause.Cause.{Cause}

@@ -7,7 +7,7 @@ use Rattle.tables.specs.Tables.{find}
 use Rattle.unit_defs.specs.Ue.{UeNode}
 use Rattle.run_defs.specs.Units.{ue_of}
 use Rattle.run_defs.specs.Steps.{is_on_air, epoch_on_air, epoch_now}
-use Rattle.run_links.specs.Grounds.{OctetWorld, OctetState}
+use Rattle.run_links.specs.Networks.{OctetWorld, OctetState}
 
 pub epoch_is : (world : OctetWorld) (s : OctetState) (ue : UeId) (plan : Plan) (u : UeNode) (on_air : Bool) → Some plan ≡ find ue_cmp s.plans ue
     → Some u ≡ ue_of s.units ue → on_air ≡ is_on_air world u.state → (if on_air then Some u.epoch else None) ≡ epoch_now world s ue

@@ -11,12 +11,12 @@ use Rattle.scenario_text.specs.declared.line.OutLine.TheVariants as outs
 use Rattle.run_defs.specs.Lines.{held_at}
 use Rattle.run_defs.specs.States.{Stop, goes, as_step, refused}
 use Rattle.run_defs.specs.Steps.{is_done, is_held, is_refused, ordered_by}
-use Rattle.run_links.specs.Grounds.{OctetState, OctetWorld, OctetOutcome}
+use Rattle.run_links.specs.Networks.{OctetState, OctetWorld, OctetOutcome}
 use Rattle.world_steps.specs.declared.asked.Moved.{Moved}
 use Rattle.world_steps.specs.declared.asked.Moved.TheVariants as moves
 use Rattle.run_links.specs.Told.{EndsAt}
 use Rattle.world_steps.specs.Gives.{EventGives, EventStops}
-use Rattle.world_steps.specs.Moves.{OctetDone, At, Moves, DoneStops, held_lines, refused_lines}
+use Rattle.world_steps.specs.Moves.{OctetDone, RunPoint, Moves, DoneStops, held_lines, refused_lines}
 
 -- the lines of a step that was made, and no more
 no_more : (outcome : OctetOutcome) (before middle lines : List OutLine) (s : OctetState) → EndsAt before outcome middle s → lines ≡ middle ++ []
@@ -35,14 +35,14 @@ pub shows_held : (actor : Option NodeId) (link : Link) (s t : OctetState) (done 
     → EventGives before (held_by actor link s done) lines t (Ok tt)
 shows_held actor link s t (is_done outcome) moves.Done before middle lines h e = no_more outcome before middle lines t h e
 shows_held actor link s t (is_held reason) (moves.Holds r) before middle lines h e = (
-  e ∙ ap (λ (l : List OutLine). l ++ outs.Held link r ∷ []) (ap (λ (a : At). a.lines) h.1)
+  e ∙ ap (λ (l : List OutLine). l ++ outs.Held link r ∷ []) (ap (λ (a : RunPoint). a.lines) h.1)
       ∙ ap (λ (x : HeldReason). before ++ outs.Held link x ∷ []) h.0,
-  sym (ap (λ (a : At). a.state) h.1),
+  sym (ap (λ (a : RunPoint). a.state) h.1),
 )
 shows_held actor link s t (is_refused reason) (moves.Refuses r) before middle lines h e = (
-  e ∙ ap (λ (l : List OutLine). l ++ outs.Refused r ∷ []) (ap (λ (a : At). a.lines) h.1)
+  e ∙ ap (λ (l : List OutLine). l ++ outs.Refused r ∷ []) (ap (λ (a : RunPoint). a.lines) h.1)
       ∙ ap (λ (x : RefuseReason). before ++ outs.Refused x ∷ []) h.0,
-  sym (ap (λ (a : At). a.state) h.1),
+  sym (ap (λ (a : RunPoint). a.state) h.1),
 )
 shows_held actor link s t (is_done outcome) (moves.Holds r) before middle lines h e = absurd h
 shows_held actor link s t (is_done outcome) (moves.Refuses r) before middle lines h e = absurd h
@@ -66,11 +66,11 @@ pub shows_refused : (world : OctetWorld) (s t : OctetState) (done : OctetDone) (
     → EventGives before (ordered_by world s done) lines t (Ok tt)
 shows_refused world s t (is_done outcome) moves.Done before middle lines h e = no_more outcome before middle lines t h e
 shows_refused world s t (is_held reason) (moves.Holds r) before middle lines h e =
-    (e ∙ ap (λ (l : List OutLine). l ++ []) (ap (λ (a : At). a.lines) h.1), sym (ap (λ (a : At). a.state) h.1))
+    (e ∙ ap (λ (l : List OutLine). l ++ []) (ap (λ (a : RunPoint). a.lines) h.1), sym (ap (λ (a : RunPoint). a.state) h.1))
 shows_refused world s t (is_refused reason) (moves.Refuses r) before middle lines h e = (
-  e ∙ ap (λ (l : List OutLine). l ++ outs.Refused r ∷ []) (ap (λ (a : At). a.lines) h.1)
+  e ∙ ap (λ (l : List OutLine). l ++ outs.Refused r ∷ []) (ap (λ (a : RunPoint). a.lines) h.1)
       ∙ ap (λ (x : RefuseReason). before ++ outs.Refused x ∷ []) h.0,
-  sym (ap (λ (a : At). a.state) h.1),
+  sym (ap (λ (a : RunPoint). a.state) h.1),
 )
 shows_refused world s t (is_done outcome) (moves.Holds r) before middle lines h e = absurd h
 shows_refused world s t (is_done outcome) (moves.Refuses r) before middle lines h e = absurd h

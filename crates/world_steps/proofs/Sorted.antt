@@ -6,12 +6,12 @@ use Rattle.gnb_types.specs.declared.reasons.HeldReason.{HeldReason}
 use Rattle.gnb_types.specs.declared.reasons.RefuseReason.{RefuseReason}
 use Rattle.gnb_types.specs.declared.outputs.Output.{Output}
 use Rattle.gnb_types.specs.declared.outputs.Output.TheVariants as outs
-use Rattle.transport_defs.specs.Links.{most_letters}
+use Rattle.transport_defs.specs.Links.{most_control_messages}
 use Rattle.run_defs.specs.States.{stepped, spent_counter, stops, as_step}
-use Rattle.run_defs.specs.Steps.{Done, is_done, is_held, is_refused, done_with, carried_out, too_many_letters, letters_spent}
+use Rattle.run_defs.specs.Steps.{Done, is_done, is_held, is_refused, done_with, carried_out, too_many_control_messages, control_messages_spent}
 use Rattle.run_defs.specs.UnitRuns.{Records, put_of}
-use Rattle.run_links.specs.Grounds.{Octets, OctetState, OctetWorld, OctetWithin}
-use Rattle.run_links.proofs.Counting.{letters_put}
+use Rattle.run_links.specs.Networks.{Octets, OctetState, OctetWorld, OctetWithin}
+use Rattle.run_links.proofs.Counting.{control_messages_put}
 use Rattle.world_steps.specs.declared.cause.Cause.{Cause}
 use Rattle.world_steps.specs.declared.asked.Alone.{Alone}
 use Rattle.world_steps.specs.declared.asked.Alone.TheVariants as alone
@@ -23,7 +23,7 @@ abbrev by_alone : OctetWorld → NodeId → Option ℕ → (OctetState → Octet
 by_alone world node taken first s outputs after (alone.Holds reason) = is_held reason
 by_alone world node taken first s outputs after (alone.Refuses reason) = is_refused reason
 by_alone world node taken first s outputs after alone.Neither =
-    if too_many_letters world (map put_of outputs) s then is_done (stops [] (spent_counter letters_spent))
+    if too_many_control_messages world (map put_of outputs) s then is_done (stops [] (spent_counter control_messages_spent))
     else is_done (as_step (Some node) (carried_out world node taken first (map put_of outputs) after s))
 
 done_alone : (world : OctetWorld) (node : NodeId) (taken : Option ℕ) (first : OctetState → OctetWithin) (s : OctetState)
@@ -77,17 +77,17 @@ abbrev asking : OctetWorld → OctetState → NodeId → List Output → Records
 asking world s node outputs after = record { world = world; state = s; node = node; stepped = stepped (map put_of outputs) after }
 
 sorts : (world : OctetWorld) (s : OctetState) (node : NodeId) (outputs : List Output) (after : Records) (room : Bool) (a : Alone)
-    → room ≡ not (too_many_letters world (map put_of outputs) s) → alone_in outputs ≡ a → Leaves s.units after a
+    → room ≡ not (too_many_control_messages world (map put_of outputs) s) → alone_in outputs ≡ a → Leaves s.units after a
     → ComesOf (asking world s node outputs after) after (sorted_by outputs room a)
 sorts world s node outputs after room (alone.Holds reason) is kind same =
     (same, λ taken first. done_alone world node taken first s outputs after ∙ ap (by_alone world node taken first s outputs after) kind)
 sorts world s node outputs after room (alone.Refuses reason) is kind same =
     (same, λ taken first. done_alone world node taken first s outputs after ∙ ap (by_alone world node taken first s outputs after) kind)
 sorts world s node outputs after true alone.Neither is kind same =
-    let few : too_many_letters world (map put_of outputs) s ≡ false = shut (too_many_letters world (map put_of outputs) s) is in (
-      ap (λ (n : ℕ). nat_lt most_letters (length s.bag.letters + n)) (sym (letters_put world outputs)) ∙ few,
+    let few : too_many_control_messages world (map put_of outputs) s ≡ false = shut (too_many_control_messages world (map put_of outputs) s) is in (
+      ap (λ (n : ℕ). nat_lt most_control_messages (length s.bag.control_messages + n)) (sym (control_messages_put world outputs)) ∙ few,
       λ taken first. done_alone world node taken first s outputs after ∙ ap (by_alone world node taken first s outputs after) kind
-          ∙ ap (λ (b : Bool). if b then is_done (stops [] (spent_counter letters_spent))
+          ∙ ap (λ (b : Bool). if b then is_done (stops [] (spent_counter control_messages_spent))
           else is_done (as_step (Some node) (carried_out world node taken first (map put_of outputs) after s))) few,
     )
   where
@@ -95,9 +95,9 @@ sorts world s node outputs after true alone.Neither is kind same =
     shut true h = cc
     shut false h = refl
 sorts world s node outputs after false alone.Neither is kind same =
-    let many : too_many_letters world (map put_of outputs) s ≡ true = open_ (too_many_letters world (map put_of outputs) s) is in
+    let many : too_many_control_messages world (map put_of outputs) s ≡ true = open_ (too_many_control_messages world (map put_of outputs) s) is in
     λ taken first. done_alone world node taken first s outputs after ∙ ap (by_alone world node taken first s outputs after) kind
-    ∙ ap (λ (b : Bool). if b then is_done (stops [] (spent_counter letters_spent))
+    ∙ ap (λ (b : Bool). if b then is_done (stops [] (spent_counter control_messages_spent))
     else is_done (as_step (Some node) (carried_out world node taken first (map put_of outputs) after s))) many
   where
     open_ : (b : Bool) → false ≡ not b → b ≡ true
@@ -112,7 +112,7 @@ leaves before after outputs (alone.Refuses reason) h held refused = refused reas
 leaves before after outputs alone.Neither h held refused = tt
 
 pub comes_of : (world : OctetWorld) (s : OctetState) (node : NodeId) (outputs : List Output) (after : Records) (room : Bool)
-    (result : Result Asked Cause) → room ≡ not (too_many_letters world (map put_of outputs) s) → SortsTo outputs room result
+    (result : Result Asked Cause) → room ≡ not (too_many_control_messages world (map put_of outputs) s) → SortsTo outputs room result
     → ((reason : HeldReason) → outputs ≡ outs.Held reason ∷ [] → after ≡ s.units)
     → ((reason : RefuseReason) → outputs ≡ outs.No reason ∷ [] → after ≡ s.units)
     → ComesOf (asking world s node outputs after) after result

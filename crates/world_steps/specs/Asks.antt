@@ -3,11 +3,11 @@ use Rattle.std.specs.Prelude.{◌≡◌, ℕ, Bool, true, false, nat_lt, ◌+◌
 use Rattle.gnb_types.specs.declared.outputs.Output.{Output}
 use Rattle.gnb_types.specs.declared.outputs.Output.TheVariants as outs
 use Rattle.gnb_types.specs.declared.names.NodeId.{NodeId}
-use Rattle.transport_defs.specs.Links.{most_letters}
+use Rattle.transport_defs.specs.Links.{most_control_messages}
 use Rattle.run_defs.specs.States.{spent_counter, stops, as_step}
 use Rattle.run_defs.specs.Steps.{is_done, is_held, is_refused, done_with, carried_out}
 use Rattle.run_defs.specs.UnitRuns.{Records, OctetStepped, put_of}
-use Rattle.run_links.specs.Grounds.{OctetState, OctetWorld, OctetWithin, letters_in}
+use Rattle.run_links.specs.Networks.{OctetState, OctetWorld, OctetWithin, control_messages_in}
 use Rattle.world_steps.specs.declared.cause.Cause.{Cause}
 use Rattle.world_steps.specs.declared.cause.Cause.TheVariants as causes
 use Rattle.world_steps.specs.declared.asked.Alone.{Alone}
@@ -25,7 +25,7 @@ pub record Asking : Type 0 where
 -- what comes of it, whatever the step takes first
 abbrev pub ComesOf : Asking → Records → Result Asked Cause → Type 0
 ComesOf a after (Ok (kinds.Does outputs)) =
-    (nat_lt most_letters (length a.state.bag.letters + letters_in outputs) ≡ false)
+    (nat_lt most_control_messages (length a.state.bag.control_messages + control_messages_in outputs) ≡ false)
     × ((taken : Option ℕ) (first : OctetState → OctetWithin) → done_with a.world a.node taken first a.state a.stepped
     ≡ is_done (as_step (Some a.node) (carried_out a.world a.node taken first (map put_of outputs) after a.state)))
 ComesOf a after (Ok (kinds.Holds reason)) =

@@ -8,7 +8,7 @@ use Rattle.run_defs.specs.Steps.{reconnect_node, put_out_all, check_spans}
 use Rattle.run_defs.specs.UnitRuns.{OctetPut}
 use Rattle.unit_messages.specs.declared.steps.StepError.{StepError}
 use Rattle.unit_messages.specs.declared.steps.StepError.TheVariants as errors
-use Rattle.run_links.specs.Grounds.{Octets, OctetState, OctetWorld, OctetWithin, OctetOutcome}
+use Rattle.run_links.specs.Networks.{Octets, OctetState, OctetWorld, OctetWithin, OctetOutcome}
 use Rattle.run_links.specs.Told.{printed, GoesTo, EndsAt}
 use Rattle.world_steps.specs.declared.cause.Cause.{Cause}
 use Rattle.world_steps.specs.declared.cause.Cause.TheVariants as causes

@@ -2,4 +2,4 @@ pub mod Gives
 pub mod Asks
 pub mod Moves
 pub mod packets
-pub mod letters
+pub mod control_messages

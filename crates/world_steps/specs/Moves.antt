@@ -5,7 +5,7 @@ use Rattle.scenario_text.specs.declared.line.OutLine.{OutLine}
 use Rattle.scenario_text.specs.declared.line.OutLine.TheVariants as outs
 use Rattle.run_defs.specs.States.{Stop}
 use Rattle.run_defs.specs.Steps.{Done, is_done, is_held, is_refused}
-use Rattle.run_links.specs.Grounds.{Octets, OctetState}
+use Rattle.run_links.specs.Networks.{Octets, OctetState}
 use Rattle.world_steps.specs.declared.cause.Cause.{Cause}
 use Rattle.world_steps.specs.declared.asked.Moved.{Moved}
 use Rattle.world_steps.specs.declared.asked.Moved.TheVariants as moves
@@ -16,24 +16,24 @@ abbrev pub OctetDone : Type 0
 OctetDone = Done Octets Octets Octets Octets
 
 -- where a run stands, with the lines that were printed
-pub record At : Type 0 where
+pub record RunPoint : Type 0 where
   pub state : OctetState
   pub lines : List OutLine
 
-abbrev pub Moves : OctetDone → At → At → Moved → Type 0
+abbrev pub Moves : OctetDone → RunPoint → RunPoint → Moved → Type 0
 Moves (is_done outcome) old new moves.Done = EndsAt old.lines outcome new.lines new.state
 Moves (is_held reason) old new (moves.Holds r) = (r ≡ reason) × (new ≡ old)
 Moves (is_refused reason) old new (moves.Refuses r) = (r ≡ reason) × (new ≡ old)
 Moves done old new moved = ⊥
 
-abbrev pub DoneStops : OctetDone → At → At → Option Stop → Type 0
+abbrev pub DoneStops : OctetDone → RunPoint → RunPoint → Option Stop → Type 0
 DoneStops done old new None = Unit {0}
 DoneStops (is_done outcome) old new (Some why) = EventStops old.lines outcome new.lines (Some why)
 DoneStops done old new (Some why) = ⊥
 
-abbrev pub DoneGives : OctetDone → At → At → Result Moved Cause → Type 0
-DoneGives done old new (Ok moved) = Moves done old new moved
-DoneGives done old new (Err cause) = DoneStops done old new (stop_by cause)
+abbrev pub StepOutcome : OctetDone → RunPoint → RunPoint → Result Moved Cause → Type 0
+StepOutcome done old new (Ok moved) = Moves done old new moved
+StepOutcome done old new (Err cause) = DoneStops done old new (stop_by cause)
 
 abbrev pub moved_by : Result (Unit {0}) Cause → Result Moved Cause
 moved_by (Ok done) = Ok moves.Done

@@ -3,10 +3,10 @@
 
 pub mod asked;
 pub mod cause;
-pub mod letters;
+pub mod control_messages;
 mod looks;
 pub mod packets;
-pub mod parts;
+pub mod run_state;
 mod steps;
 
 pub use run_units::units::Units;

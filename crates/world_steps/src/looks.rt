@@ -3,13 +3,13 @@
 ghost use Rattle.std.specs.Prelude.{◌≡◌};
 ghost use Rattle.unit_defs.specs.Ue.{is_connected};
 ghost use Rattle.unit_defs.specs.Accessors.{is_unconfirmed};
-ghost use Rattle.run_defs.specs.Units.{cp_of, up_of, epoch_at};
+ghost use Rattle.run_defs.specs.Units.{cu_cp_of, cu_up_of, epoch_at};
 ghost use Rattle.run_defs.specs.Steps.{epoch_now, is_on_air};
 ghost use Rattle.run_defs.specs.Conditions.{later, same_epoch, state_at, has_home, ready_home, serving_gnb, serving_place};
 ghost use Rattle.run_defs.specs.UnitRuns.{unit_world};
-ghost use Rattle.run_links.specs.Grounds.{OctetWorld, state_of};
+ghost use Rattle.run_links.specs.Networks.{OctetWorld, state_of};
 
-use crate::parts::Parts;
+use crate::run_state::RunState;
 use gnb_types::names::{BearerId, Gnb, NodeId, UeId};
 use run_units::units::Units;
 use unit_defs::UeState;
@@ -48,14 +48,14 @@ fn is_later(first: Option<u32>, second: Option<u32>) -> bool
     }
 }
 
-impl<U: Units<C> + Drop, C: MessageCodec + Drop> Parts<U, C> {
+impl<U: Units<C> + Drop, C: MessageCodec + Drop> RunState<U, C> {
     /// The epoch in which the radios of a terminal are to be connected, if they are.
     pub fn epoch_now(&self, ue: UeId) -> Option<u32>
         requires { U.ready self.now.units }
         ensures { result ≡ epoch_now (unit_world C.codec U.answer)
-            (state_of (U.records self.now.units) self.now.core self.now.ground) ue }
+            (state_of (U.records self.now.units) self.now.core self.now.network) ue }
     {
-        self.ground.plan(ue)?;
+        self.network.plan(ue)?;
         let terminal = self.units.ue_node(ue)?;
         if is_on_air(terminal.state()) {
             Some(terminal.epoch())
@@ -67,7 +67,7 @@ impl<U: Units<C> + Drop, C: MessageCodec + Drop> Parts<U, C> {
     /// The state of a terminal; `Idle` where it never came.
     pub fn state_at(&self, ue: UeId) -> UeState
         requires { U.ready self.now.units }
-        ensures { result ≡ state_at (state_of (U.records self.now.units) self.now.core self.now.ground) ue }
+        ensures { result ≡ state_at (state_of (U.records self.now.units) self.now.core self.now.network) ue }
     {
         match self.units.ue_node(ue) {
             Some(terminal) => terminal.state(),
@@ -78,7 +78,7 @@ impl<U: Units<C> + Drop, C: MessageCodec + Drop> Parts<U, C> {
     /// Whether a terminal was ever connected.
     pub fn has_home(&self, ue: UeId) -> bool
         requires { U.ready self.now.units }
-        ensures { result ≡ has_home (state_of (U.records self.now.units) self.now.core self.now.ground) ue }
+        ensures { result ≡ has_home (state_of (U.records self.now.units) self.now.core self.now.network) ue }
     {
         match self.units.ue_node(ue) {
             Some(terminal) => terminal.home().is_some(),
@@ -101,7 +101,7 @@ impl<U: Units<C> + Drop, C: MessageCodec + Drop> Parts<U, C> {
     /// The home DU of a terminal whose radios are ready.
     pub fn ready_home(&self, ue: UeId) -> Option<NodeId>
         requires { U.ready self.now.units }
-        ensures { result ≡ ready_home (state_of (U.records self.now.units) self.now.core self.now.ground) ue }
+        ensures { result ≡ ready_home (state_of (U.records self.now.units) self.now.core self.now.network) ue }
     {
         let terminal = self.units.ue_node(ue)?;
         let home = terminal.home()?;
@@ -116,7 +116,7 @@ impl<U: Units<C> + Drop, C: MessageCodec + Drop> Parts<U, C> {
     /// The gNB whose CU-CP serves a terminal.
     pub fn serving_gnb(&self, ue: UeId) -> Gnb
         requires { U.ready self.now.units }
-        ensures { result ≡ serving_gnb (state_of (U.records self.now.units) self.now.core self.now.ground) ue }
+        ensures { result ≡ serving_gnb (state_of (U.records self.now.units) self.now.core self.now.network) ue }
     {
         let of_a = self.units.cu_control(Gnb::A).taken(ue);
         let of_b = self.units.cu_control(Gnb::B).taken(ue);
@@ -126,7 +126,7 @@ impl<U: Units<C> + Drop, C: MessageCodec + Drop> Parts<U, C> {
         if of_a.is_some() {
             return Gnb::A;
         }
-        match self.ground.plan(ue) {
+        match self.network.plan(ue) {
             Some(plan) => plan.gnb,
             None => Gnb::A,
         }
@@ -135,7 +135,7 @@ impl<U: Units<C> + Drop, C: MessageCodec + Drop> Parts<U, C> {
     /// The numbers of the CU-UP and the DU that serve a terminal.
     pub fn serving_place(&self, ue: UeId) -> Option<(u8, u8)>
         requires { U.ready self.now.units }
-        ensures { result ≡ serving_place (state_of (U.records self.now.units) self.now.core self.now.ground) ue }
+        ensures { result ≡ serving_place (state_of (U.records self.now.units) self.now.core self.now.network) ue }
     {
         self.units.cu_control(self.serving_gnb(ue)).place(ue)
     }
@@ -144,7 +144,7 @@ impl<U: Units<C> + Drop, C: MessageCodec + Drop> Parts<U, C> {
     #[tactic(auto, unfolding(tables::specs::Tables::at, tables::specs::Tables::find))]
     pub fn is_unconfirmed(&self, gnb: Gnb, number: u8, ue: UeId, bearer: BearerId) -> bool
         requires { U.ready self.now.units }
-        ensures { result ≡ is_unconfirmed (up_of (U.records self.now.units) gnb number) ue bearer }
+        ensures { result ≡ is_unconfirmed (cu_up_of (U.records self.now.units) gnb number) ue bearer }
     {
         match self.units.cu_user(NodeId::CuUp(gnb, number)) {
             Some(user) => user.is_unconfirmed(ue, bearer),

@@ -3,5 +3,5 @@
 
 mod additions;
 mod codes;
-pub mod hearing;
+pub mod reading;
 pub mod writing;

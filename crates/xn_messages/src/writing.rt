@@ -32,7 +32,7 @@ use std::alloc::Global;
 ///
 /// # Errors
 /// Out of memory.
-pub fn written(alloc: Global, msg: &XnMessage) -> Result<Value, Memory>
+pub fn to_value(alloc: Global, msg: &XnMessage) -> Result<Value, Memory>
     ensures { IfOk result (λ v. view v ≡ written_xn msg.now) }
 {
     match msg {

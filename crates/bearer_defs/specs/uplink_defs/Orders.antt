@@ -3,50 +3,50 @@ use Rattle.std.specs.Prelude.{◌==◌, ℕ, ◌+◌, max, Bool, true, false, no
 use Rattle.gnb_types.specs.declared.plans.SnStatus.{SnStatus}
 use Rattle.pdcp_defs.specs.Senders.{numbered as with_next, confirmed_to, confirmed_by}
 use Rattle.pdcp_defs.specs.Receivers.{Delivery, is_duplicate, stored, deliver}
-use Rattle.unit_defs.specs.UpRecords.{SourceHop, UpBearer, UpFlags}
-use Rattle.unit_defs.specs.UpBearers.{released, thawed, no_uplink}
-use Rattle.bearer_defs.specs.chain_defs.Parts.{set}
+use Rattle.unit_defs.specs.CuUpRecords.{SourceHop, CuUpBearer, CuUpFlags}
+use Rattle.unit_defs.specs.CuUpBearers.{released, thawed, no_uplink}
+use Rattle.bearer_defs.specs.chain_defs.Models.{set}
 use Rattle.bearer_defs.specs.chain_defs.Orders.{frozen, known}
-use Rattle.bearer_defs.specs.uplink_defs.Parts.{Item, numbered, end_marker, Source, uplink_tunnel, forwarding, Member, Part, new_member, no_member, with_rest}
+use Rattle.bearer_defs.specs.uplink_defs.Models.{Item, numbered, end_marker, Source, uplink_tunnel, forwarding, Member, Model, new_member, no_member, with_rest}
 
 -- Each names the context where it happens; what is taken from a tunnel, and what is left there.
-pub data Order : Type 0 where
+pub data ModelStep : Type 0 where
   -- the terminal: a packet is offered, one that waits gets its COUNT, it connects and sends again what nothing confirmed, it leaves
   -- its radio or loses it, it comes to another context
-  offers : (packet : List ℕ) → Order
-  numbers : (packet : List ℕ) (rest : List (List ℕ)) → Order
-  connects : Order
-  leaves : Order
-  arrives : (at : ℕ) → Order
+  offers : (packet : List ℕ) → ModelStep
+  numbers : (packet : List ℕ) (rest : List (List ℕ)) → ModelStep
+  connects : ModelStep
+  leaves : ModelStep
+  arrives : (at : ℕ) → ModelStep
   -- the DU passes on what it carries, with which uplink tunnel; the terminal learns of it; a status report comes; an End Marker on
   -- a tunnel that the DU no longer uses
-  carries : (teid count : ℕ) (packet : List ℕ) (rest : List (ℕ × List ℕ)) → Order
-  acknowledges : (count : ℕ) (rest : List ℕ) → Order
-  reports : (fmc : ℕ) (bits : List Bool) → Order
-  marks : (at teid : ℕ) → Order
+  carries : (teid count : ℕ) (packet : List ℕ) (rest : List (ℕ × List ℕ)) → ModelStep
+  acknowledges : (count : ℕ) (rest : List ℕ) → ModelStep
+  reports : (fmc : ℕ) (bits : List Bool) → ModelStep
+  marks : (at teid : ℕ) → ModelStep
   -- control; a context is made, as a target; it closes where nothing comes any more, or is discarded
-  makes : (at teid : ℕ) → Order
-  adds : (at teid : ℕ) → Order
-  freezes : (at to : ℕ) (hop : SourceHop) → Order
-  knows : (at : ℕ) (status : SnStatus) → Order
-  switches : (at : ℕ) → Order
-  resumes : (at : ℕ) → Order
-  releases : (at : ℕ) → Order
-  closes : (at : ℕ) → Order
-  discards : (at : ℕ) → Order
+  makes : (at teid : ℕ) → ModelStep
+  adds : (at teid : ℕ) → ModelStep
+  freezes : (at to : ℕ) (hop : SourceHop) → ModelStep
+  knows : (at : ℕ) (status : SnStatus) → ModelStep
+  switches : (at : ℕ) → ModelStep
+  resumes : (at : ℕ) → ModelStep
+  releases : (at : ℕ) → ModelStep
+  closes : (at : ℕ) → ModelStep
+  discards : (at : ℕ) → ModelStep
   -- a CU-UP takes a packet, and the End Marker of an uplink tunnel and of the hop
-  takes : (at : ℕ) (from : Source) (count : ℕ) (packet : List ℕ) (rest : List Item) → Order
-  ends_uplink : (at teid : ℕ) (rest : List Item) → Order
-  ends_hop : (at : ℕ) (rest : List Item) → Order
+  takes : (at : ℕ) (from : Source) (count : ℕ) (packet : List ℕ) (rest : List Item) → ModelStep
+  ends_uplink : (at teid : ℕ) (rest : List Item) → ModelStep
+  ends_hop : (at : ℕ) (rest : List Item) → ModelStep
 
 -- ---- what happens to a bearer
 
 -- what is stored goes to the target
-abbrev pub late : UpBearer → List Item
+abbrev pub late : CuUpBearer → List Item
 late b = map (λ e. numbered e.0 e.1) b.receiver.stored
 
 -- nothing comes any more of the hop from the source
-abbrev pub is_hop_up_done : UpFlags → UpBearer → Bool
+abbrev pub is_hop_up_done : CuUpFlags → CuUpBearer → Bool
 is_hop_up_done flags b = not flags.target || b.up_ended
 
 abbrev pub stores : Member → ℕ → List ℕ → Member
@@ -55,39 +55,39 @@ stores m count packet = record m { bearer = record m.bearer { receiver = stored 
 abbrev pub without_uplink : Member → ℕ → Member
 without_uplink m teid = record m { bearer = record m.bearer { uplinks = filter (λ t. not (t == teid)) m.bearer.uplinks } }
 
--- ---- and to the part
+-- ---- and to the model
 
-abbrev pub changed : Part → ℕ → Member → Part
+abbrev pub changed : Model → ℕ → Member → Model
 changed s x m = record s { members = set s.members x m }
 
 -- at the end of a forwarding tunnel
-abbrev pub put_on : Part → ℕ → List Item → Part
+abbrev pub put_on : Model → ℕ → List Item → Model
 put_on s x items = changed s x (record (s.members x) { forwarded = (s.members x).forwarded ++ items })
 
 -- to where its hop leads
-abbrev pub passed : Part → ℕ → Member → List Item → Part
+abbrev pub passed : Model → ℕ → Member → List Item → Model
 passed s x m items = put_on (changed s x m) m.next_hop items
 
 -- what the receiver hands up is delivered
-abbrev pub handed : Part → ℕ → Member → Delivery (List ℕ) → Part
+abbrev pub handed : Model → ℕ → Member → Delivery (List ℕ) → Model
 handed s x m d = record (changed s x (record m { bearer = record m.bearer { receiver = d.after } })) { delivered = s.delivered ++ d.packets }
 
 -- a packet that isn't a duplicate is stored, and goes on while frozen; else what is stored is delivered
-abbrev pub stored_at : Part → ℕ → Member → ℕ → List ℕ → Bool → Part
+abbrev pub stored_at : Model → ℕ → Member → ℕ → List ℕ → Bool → Model
 stored_at s x m count packet true = passed s x (stores m count packet) (numbered count packet ∷ [])
 stored_at s x m count packet false =
     handed s x m (deliver (stored m.bearer.receiver count packet))
 
-abbrev pub new_at : Part → ℕ → Member → ℕ → List ℕ → Bool → Part
+abbrev pub new_at : Model → ℕ → Member → ℕ → List ℕ → Bool → Model
 new_at s x m count packet true = changed s x m
 new_at s x m count packet false = stored_at s x m count packet m.flags.frozen
 
 -- a released context keeps no packet, and passes on what was not delivered before
-abbrev pub late_at : Part → ℕ → Member → ℕ → List ℕ → Bool → Part
+abbrev pub late_at : Model → ℕ → Member → ℕ → List ℕ → Bool → Model
 late_at s x m count packet true = changed s x m
 late_at s x m count packet false = passed s x m (numbered count packet ∷ [])
 
-abbrev pub taken_at : Part → ℕ → Member → ℕ → List ℕ → Bool → Part
+abbrev pub taken_at : Model → ℕ → Member → ℕ → List ℕ → Bool → Model
 taken_at s x m count packet true = late_at s x m count packet (nat_lt count m.bearer.receiver.deliv)
 taken_at s x m count packet false = new_at s x m count packet (is_duplicate m.bearer.receiver count)
 
@@ -98,15 +98,15 @@ is_up_over m hop = not hop.up_ended && no_uplink m.bearer.uplinks && is_hop_up_d
 abbrev pub with_ended : Member → SourceHop → Member
 with_ended m hop = record m { bearer = record m.bearer { hop = Some (record hop { up_ended = true }) } }
 
-abbrev pub ended_if : Part → ℕ → Member → SourceHop → Bool → Part
+abbrev pub ended_if : Model → ℕ → Member → SourceHop → Bool → Model
 ended_if s x m hop true = passed s x (with_ended m hop) (end_marker ∷ [])
 ended_if s x m hop false = changed s x m
 
-abbrev pub ended_at : Part → ℕ → Member → Option SourceHop → Part
+abbrev pub ended_at : Model → ℕ → Member → Option SourceHop → Model
 ended_at s x m None = changed s x m
 ended_at s x m (Some hop) = ended_if s x m hop (is_up_over m hop)
 
-unfoldable pub after : Part → Order → Part
+unfoldable pub after : Model → ModelStep → Model
 after s (offers packet) =
     record s { terminal = record s.terminal { waiting = s.terminal.waiting ++ packet ∷ [] }; offered = s.offered + 1 }
 after s (numbers packet rest) = record s {
@@ -166,12 +166,12 @@ after s (ends_hop x rest) =
     let m = with_rest (s.members x) forwarding rest in
     ended_at s x (record m { bearer = record m.bearer { up_ended = true } }) m.bearer.hop
 
-unfoldable pub run : Part → List Order → Part
+unfoldable pub run : Model → List ModelStep → Model
 run s [] = s
 run s (o ∷ os) = run (after s o) os
 
 -- the packets that a list of orders offers
-unfoldable pub offers_in : List Order → List (List ℕ)
+unfoldable pub offers_in : List ModelStep → List (List ℕ)
 offers_in [] = []
 offers_in (offers packet ∷ os) = packet ∷ offers_in os
 offers_in (o ∷ os) = offers_in os

@@ -2,8 +2,8 @@
 use Rattle.std.specs.Prelude.{◌≡◌, ◌⊎◌, ℕ, Bool, true, List, [], ◌∷◌, is_some}
 use Rattle.std.specs.Ordering.{nat_cmp}
 use Rattle.tables.specs.Tables.{find}
-use Rattle.bearer_defs.specs.uplink_defs.Parts.{Item, numbered, end_marker, uplink_tunnel, Member}
-use Rattle.bearer_defs.specs.uplink_defs.Guards.{IsOpen}
+use Rattle.bearer_defs.specs.uplink_defs.Models.{Item, numbered, end_marker, uplink_tunnel, Member}
+use Rattle.bearer_defs.specs.uplink_defs.Assumptions.{IsOpen}
 
 -- a packet with this COUNT is one of them
 abbrev pub has : List (ℕ × List ℕ) → ℕ → Bool

@@ -5,7 +5,7 @@ use Rattle.scenario_text.specs.declared.event.Event.{Event}
 use Rattle.scenario_text.specs.declared.line.OutLine.{OutLine}
 use Rattle.run_defs.specs.States.{Stop, goes, stops}
 use Rattle.run_defs.specs.Runs.{happens}
-use Rattle.run_links.specs.Grounds.{OctetState, OctetWorld, OctetOutcome}
+use Rattle.run_links.specs.Networks.{OctetState, OctetWorld, OctetOutcome}
 use Rattle.run_links.specs.Told.{EndsAt}
 use Rattle.world_steps.specs.declared.cause.Cause.{Cause}
 use Rattle.world_steps.specs.declared.cause.Cause.TheVariants as causes

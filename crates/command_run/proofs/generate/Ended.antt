@@ -6,7 +6,7 @@ use Rattle.unit_defs.specs.octet_defs.Codec.{Codec}
 use Rattle.run_defs.specs.States.{Stop, outstanding, spent_counter, new_state, goes, stops}
 use Rattle.run_defs.specs.Runs.{Transcript, happens, run_on, run_from, run}
 use Rattle.run_defs.specs.UnitRuns.{Meaning, unit_world, UnitRun}
-use Rattle.run_links.specs.Grounds.{OctetState, OctetWorld, OctetOutcome}
+use Rattle.run_links.specs.Networks.{OctetState, OctetWorld, OctetOutcome}
 use Rattle.world_steps.specs.declared.cause.Cause.{Cause}
 use Rattle.world_steps.specs.declared.cause.Cause.TheVariants as causes
 use Rattle.command_run.specs.declared.generate.end.GenerateEnd.{GenerateEnd}

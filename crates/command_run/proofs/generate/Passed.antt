@@ -4,7 +4,7 @@ use Rattle.std.specs.Prelude.{Result, Ok, Err}
 use Rattle.scenario_text.specs.declared.event.Event.{Event}
 use Rattle.run_defs.specs.States.{Stop, goes, stops}
 use Rattle.run_defs.specs.Runs.{happens}
-use Rattle.run_links.specs.Grounds.{OctetState, OctetWorld, OctetOutcome}
+use Rattle.run_links.specs.Networks.{OctetState, OctetWorld, OctetOutcome}
 use Rattle.world_steps.specs.declared.cause.Cause.{Cause}
 use Rattle.world_steps.specs.Gives.{stop_by}
 use Rattle.command_run.specs.generate.inside.Passing.{Passage, passed, halted, passed_on, pass, RunAt, HaltsBy, FollowsTo, Follows}

@@ -4,7 +4,7 @@ use Rattle.std.specs.Prelude.{Result, Ok, Err}
 use Rattle.std.proofs.Math.ListN.{drop_of_length-le}
 use Rattle.scenario_text.specs.declared.event.Event.{Event}
 use Rattle.scenario_text.specs.declared.event.Event.TheVariants.{Ask}
-use Rattle.run_links.specs.Grounds.{OctetWorld}
+use Rattle.run_links.specs.Networks.{OctetWorld}
 use Rattle.world_steps.specs.declared.cause.Cause.{Cause}
 use Rattle.command_run.specs.declared.generate.script.Moment.{Moment}
 use Rattle.command_run.specs.declared.generate.script.Moment.TheVariants.{Offer}

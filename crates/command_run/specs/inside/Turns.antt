@@ -27,8 +27,8 @@ use Rattle.command_run.specs.declared.end.RunEnd.TheVariants.{Differs, Script, C
 use Rattle.run_defs.specs.States.{RunStep, Stop, goes, stops}
 use Rattle.run_defs.specs.Runs.{happens}
 use Rattle.run_defs.specs.UnitRuns.{Records, unit_world}
-use Rattle.run_links.specs.declared.ground.Ground.{Ground}
-use Rattle.run_links.specs.Grounds.{OctetOutcome, OctetCore, state_of}
+use Rattle.run_links.specs.declared.network.Network.{Network}
+use Rattle.run_links.specs.Networks.{OctetOutcome, OctetCore, state_of}
 use Rattle.run_links.specs.Told.{EndsAt}
 use Rattle.world_steps.specs.declared.cause.Cause.{Cause}
 use Rattle.world_steps.specs.Gives.{printed_steps, stop_by, EventStops}
@@ -42,7 +42,7 @@ use Rattle.command_run.specs.declared.script.Meaning.TheVariants as meanings
 
 -- ---- the parts of a run at one moment
 
-abbrev pub world_at : Records → OctetCore → Ground → Option Cause → WorldAt
+abbrev pub world_at : Records → OctetCore → Network → Option Cause → WorldAt
 world_at units core links stop = record { state = state_of units core links; stop = stop }
 
 pub record WorkAt : Type 0 where

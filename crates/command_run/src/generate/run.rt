@@ -3,7 +3,7 @@
 ghost use Rattle.std.specs.Prelude.{◌≡◌, ◌≤◌, ◌<◌, ◌+◌, ◌*◌, ◌^◌, ◌∷◌, [], map, length, None, OnOk, IfOk};
 ghost use Rattle.scenario_text.specs.Texts.{InRange};
 ghost use Rattle.run_defs.specs.UnitRuns.{unit_world, UnitRun};
-ghost use Rattle.run_links.specs.Grounds.{state_of};
+ghost use Rattle.run_links.specs.Networks.{state_of};
 ghost use Rattle.command_run.specs.generate.Script.{script, turn_events, turns_from};
 ghost use Rattle.command_run.specs.generate.Ends.{EndMeets};
 ghost use Rattle.command_run.specs.generate.inside.Moments.{event_at};
@@ -55,11 +55,11 @@ impl<U: Units<C> + Drop, C: LawfulCodec + Drop> GeneratedRun<U, C> {
         requires range { InRange event }
         requires room { self.old.line < 2 ^ 32 }
         requires going { self.old.world.stop ≡ None }
-        requires ready { U.ready self.old.world.parts.units }
-        ensures ready { OnOk result (U.ready self.new.world.parts.units) }
+        requires ready { U.ready self.old.world.run_state.units }
+        ensures ready { OnOk result (U.ready self.new.world.run_state.units) }
         ensures follows { Follows (unit_world C.codec U.answer) (event ∷ [])
-            (run_at (record { state = state_of (U.records self.old.world.parts.units) self.old.world.parts.core self.old.world.parts.ground; stop = self.old.world.stop }) self.old.line)
-            (run_at (record { state = state_of (U.records self.new.world.parts.units) self.new.world.parts.core self.new.world.parts.ground; stop = self.new.world.stop }) self.new.line) result }
+            (run_at (record { state = state_of (U.records self.old.world.run_state.units) self.old.world.run_state.core self.old.world.run_state.network; stop = self.old.world.stop }) self.old.line)
+            (run_at (record { state = state_of (U.records self.new.world.run_state.units) self.new.world.run_state.core self.new.world.run_state.network; stop = self.new.world.stop }) self.new.line) result }
     {
         self.line += 1;
         let answer = self.world.apply(&event);
@@ -78,11 +78,11 @@ impl<U: Units<C> + Drop, C: LawfulCodec + Drop> GeneratedRun<U, C> {
         requires few { place.returns ≤ 1000 }
         requires room { self.old.line < 2 ^ 32 }
         requires going { self.old.world.stop ≡ None }
-        requires ready { U.ready self.old.world.parts.units }
-        ensures ready { OnOk result (U.ready self.new.world.parts.units) }
+        requires ready { U.ready self.old.world.run_state.units }
+        ensures ready { OnOk result (U.ready self.new.world.run_state.units) }
         ensures follows { Follows (unit_world C.codec U.answer) (event_at place moment ∷ [])
-            (run_at (record { state = state_of (U.records self.old.world.parts.units) self.old.world.parts.core self.old.world.parts.ground; stop = self.old.world.stop }) self.old.line)
-            (run_at (record { state = state_of (U.records self.new.world.parts.units) self.new.world.parts.core self.new.world.parts.ground; stop = self.new.world.stop }) self.new.line) result }
+            (run_at (record { state = state_of (U.records self.old.world.run_state.units) self.old.world.run_state.core self.old.world.run_state.network; stop = self.old.world.stop }) self.old.line)
+            (run_at (record { state = state_of (U.records self.new.world.run_state.units) self.new.world.run_state.core self.new.world.run_state.network; stop = self.new.world.stop }) self.new.line) result }
     {
         match moment.event(self.alloc, place) {
             Ok(event) => self.apply(event),
@@ -96,11 +96,11 @@ impl<U: Units<C> + Drop, C: LawfulCodec + Drop> GeneratedRun<U, C> {
         requires short { length moments.now ≤ 9 }
         requires room { self.old.line < 2 ^ 31 }
         requires going { self.old.world.stop ≡ None }
-        requires ready { U.ready self.old.world.parts.units }
-        ensures ready { OnOk result (U.ready self.new.world.parts.units) }
+        requires ready { U.ready self.old.world.run_state.units }
+        ensures ready { OnOk result (U.ready self.new.world.run_state.units) }
         ensures follows { Follows (unit_world C.codec U.answer) (map (event_at place) moments.now)
-            (run_at (record { state = state_of (U.records self.old.world.parts.units) self.old.world.parts.core self.old.world.parts.ground; stop = self.old.world.stop }) self.old.line)
-            (run_at (record { state = state_of (U.records self.new.world.parts.units) self.new.world.parts.core self.new.world.parts.ground; stop = self.new.world.stop }) self.new.line) result }
+            (run_at (record { state = state_of (U.records self.old.world.run_state.units) self.old.world.run_state.core self.old.world.run_state.network; stop = self.old.world.stop }) self.old.line)
+            (run_at (record { state = state_of (U.records self.new.world.run_state.units) self.new.world.run_state.core self.new.world.run_state.network; stop = self.new.world.stop }) self.new.line) result }
     {
         for moment in moments {
             match self.pass(*moment, place) {
@@ -116,12 +116,12 @@ impl<U: Units<C> + Drop, C: LawfulCodec + Drop> GeneratedRun<U, C> {
         requires below { packet < 100000 }
         requires room { self.old.line ≤ 2 + 15 * packet }
         requires going { self.old.world.stop ≡ None }
-        requires ready { U.ready self.old.world.parts.units }
-        ensures ready { OnOk result (U.ready self.new.world.parts.units) }
+        requires ready { U.ready self.old.world.run_state.units }
+        ensures ready { OnOk result (U.ready self.new.world.run_state.units) }
         ensures room { OnOk result (self.new.line ≤ 2 + 15 * (packet + 1)) }
         ensures follows { Follows (unit_world C.codec U.answer) (turn_events packet)
-            (run_at (record { state = state_of (U.records self.old.world.parts.units) self.old.world.parts.core self.old.world.parts.ground; stop = self.old.world.stop }) self.old.line)
-            (run_at (record { state = state_of (U.records self.new.world.parts.units) self.new.world.parts.core self.new.world.parts.ground; stop = self.new.world.stop }) self.new.line) result }
+            (run_at (record { state = state_of (U.records self.old.world.run_state.units) self.old.world.run_state.core self.old.world.run_state.network; stop = self.old.world.stop }) self.old.line)
+            (run_at (record { state = state_of (U.records self.new.world.run_state.units) self.new.world.run_state.core self.new.world.run_state.network; stop = self.new.world.stop }) self.new.line) result }
     {
         let returns = packet / PACKETS_TO_A_RETURN;
         match self.pass_all(&PACKET, Place { packet, returns }) {
@@ -140,10 +140,10 @@ impl<U: Units<C> + Drop, C: LawfulCodec + Drop> GeneratedRun<U, C> {
         requires most { packets ≤ 100000 }
         requires first { self.old.line ≡ 2 }
         requires going { self.old.world.stop ≡ None }
-        requires ready { U.ready self.old.world.parts.units }
+        requires ready { U.ready self.old.world.run_state.units }
         ensures { Follows (unit_world C.codec U.answer) (turns_from 0 packets)
-            (run_at (record { state = state_of (U.records self.old.world.parts.units) self.old.world.parts.core self.old.world.parts.ground; stop = self.old.world.stop }) self.old.line)
-            (run_at (record { state = state_of (U.records self.new.world.parts.units) self.new.world.parts.core self.new.world.parts.ground; stop = self.new.world.stop }) self.new.line) result }
+            (run_at (record { state = state_of (U.records self.old.world.run_state.units) self.old.world.run_state.core self.old.world.run_state.network; stop = self.old.world.stop }) self.old.line)
+            (run_at (record { state = state_of (U.records self.new.world.run_state.units) self.new.world.run_state.core self.new.world.run_state.network; stop = self.new.world.stop }) self.new.line) result }
     {
         for packet in 0..packets {
             match self.turn(packet) {
@@ -160,10 +160,10 @@ impl<U: Units<C> + Drop, C: LawfulCodec + Drop> GeneratedRun<U, C> {
         requires most { packets ≤ 100000 }
         requires first { self.old.line ≡ 1 }
         requires going { self.old.world.stop ≡ None }
-        requires ready { U.ready self.old.world.parts.units }
+        requires ready { U.ready self.old.world.run_state.units }
         ensures { Follows (unit_world C.codec U.answer) (script packets)
-            (run_at (record { state = state_of (U.records self.old.world.parts.units) self.old.world.parts.core self.old.world.parts.ground; stop = self.old.world.stop }) self.old.line)
-            (run_at (record { state = state_of (U.records self.new.world.parts.units) self.new.world.parts.core self.new.world.parts.ground; stop = self.new.world.stop }) self.new.line) result }
+            (run_at (record { state = state_of (U.records self.old.world.run_state.units) self.old.world.run_state.core self.old.world.run_state.network; stop = self.old.world.stop }) self.old.line)
+            (run_at (record { state = state_of (U.records self.new.world.run_state.units) self.new.world.run_state.core self.new.world.run_state.network; stop = self.new.world.stop }) self.new.line) result }
     {
         match self.apply(Event::Static { plan: PLAN }) {
             Ok(()) => self.turns(packets),

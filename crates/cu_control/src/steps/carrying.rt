@@ -2,16 +2,16 @@
 
 ghost use Rattle.std.specs.Prelude.{◌≡◌, map, OnOk};
 ghost use Rattle.unit_defs.specs.octet_defs.Codec.{octet_way};
-ghost use Rattle.unit_defs.specs.CpRecords.{after_begun, noted, asks, cancels, replies, replies_late, sends, forgets, say_one, say_all, carry_out};
+ghost use Rattle.unit_defs.specs.CuCpRecords.{after_begun, noted, asks, cancels, replies, replies_late, sends, forgets, act_one, act_all, carry_out};
 ghost use Rattle.unit_defs.specs.CuCp.{put_next};
 ghost use Rattle.unit_messages.specs.Messages.{message_as};
 ghost use Rattle.unit_messages.specs.steps.Steps.{step_after, IsStep};
-ghost use Rattle.cu_cp_records.specs.control_says.Rows.{row_as, say_as};
+ghost use Rattle.cu_cp_records.specs.control_actions.Rows.{row_as, action_as};
 
 use crate::steps::terminals::{note_awaiting, note_begun};
+use cu_cp_records::control_actions::Row;
+use cu_cp_records::control_actions::actions::{Action, Actions};
 use cu_cp_records::control_records::ControlRecord;
-use cu_cp_records::control_says::Row;
-use cu_cp_records::control_says::says::{Say, Says};
 use gnb_types::items::Memory;
 use gnb_types::keys::Channel;
 use gnb_types::names::{NodeId, UeId};
@@ -64,7 +64,7 @@ fn note<C: MessageCodec>(
 /// Lets go of a value. It is of any type, so that its caller has no path on which it lets go of what it has.
 fn let_go<T: Drop>(_value: T) {}
 
-#[tactic(auto, unfolding(unit_defs::specs::CpRecords::say_one))]
+#[tactic(auto, unfolding(unit_defs::specs::CuCpRecords::act_one))]
 fn say_ask<C: MessageCodec>(
     record: &mut ControlRecord,
     alloc: Global,
@@ -74,7 +74,7 @@ fn say_ask<C: MessageCodec>(
     outputs: &mut Outputs,
 ) -> Result<(), StepError>
     ensures { IsStep
-        (step_after outputs.old (say_one (octet_way C.codec) (record { 0 = channel.ue }) record.old
+        (step_after outputs.old (act_one (octet_way C.codec) (record { 0 = channel.ue }) record.old
         (asks channel.peer waiting.message waiting.deadline waiting.awaited)))
         outputs.new record.new result }
 {
@@ -87,7 +87,7 @@ fn say_ask<C: MessageCodec>(
     Ok(())
 }
 
-#[tactic(auto, unfolding(unit_defs::specs::CpRecords::say_one))]
+#[tactic(auto, unfolding(unit_defs::specs::CuCpRecords::act_one))]
 fn say_cancel<C: MessageCodec>(
     record: &mut ControlRecord,
     alloc: Global,
@@ -97,7 +97,7 @@ fn say_cancel<C: MessageCodec>(
     outputs: &mut Outputs,
 ) -> Result<(), StepError>
     ensures { IsStep
-        (step_after outputs.old (say_one (octet_way C.codec) (record { 0 = channel.ue }) record.old
+        (step_after outputs.old (act_one (octet_way C.codec) (record { 0 = channel.ue }) record.old
         (cancels channel.peer (message_as message))))
         outputs.new record.new result }
 {
@@ -113,7 +113,7 @@ fn say_cancel<C: MessageCodec>(
     Ok(())
 }
 
-#[tactic(auto, unfolding(unit_defs::specs::CpRecords::say_one))]
+#[tactic(auto, unfolding(unit_defs::specs::CuCpRecords::act_one))]
 fn say_reply<C: MessageCodec>(
     record: &mut ControlRecord,
     alloc: Global,
@@ -123,7 +123,7 @@ fn say_reply<C: MessageCodec>(
     outputs: &mut Outputs,
 ) -> Result<(), StepError>
     ensures { IsStep
-        (step_after outputs.old (say_one (octet_way C.codec) (record { 0 = channel.ue }) record.old
+        (step_after outputs.old (act_one (octet_way C.codec) (record { 0 = channel.ue }) record.old
         (replies channel.peer (message_as message))))
         outputs.new record.new result }
 {
@@ -135,7 +135,7 @@ fn say_reply<C: MessageCodec>(
     Ok(())
 }
 
-#[tactic(auto, unfolding(unit_defs::specs::CpRecords::say_one))]
+#[tactic(auto, unfolding(unit_defs::specs::CuCpRecords::act_one))]
 fn say_late_reply<C: MessageCodec>(
     record: &mut ControlRecord,
     alloc: Global,
@@ -146,7 +146,7 @@ fn say_late_reply<C: MessageCodec>(
     outputs: &mut Outputs,
 ) -> Result<(), StepError>
     ensures { IsStep
-        (step_after outputs.old (say_one (octet_way C.codec) (record { 0 = channel.ue }) record.old
+        (step_after outputs.old (act_one (octet_way C.codec) (record { 0 = channel.ue }) record.old
         (replies_late channel.peer instance (message_as message))))
         outputs.new record.new result }
 {
@@ -158,7 +158,7 @@ fn say_late_reply<C: MessageCodec>(
     Ok(())
 }
 
-#[tactic(auto, unfolding(unit_defs::specs::CpRecords::say_one))]
+#[tactic(auto, unfolding(unit_defs::specs::CuCpRecords::act_one))]
 fn say_message<C: MessageCodec>(
     record: &ControlRecord,
     alloc: Global,
@@ -168,11 +168,11 @@ fn say_message<C: MessageCodec>(
     outputs: &mut Outputs,
 ) -> Result<(), StepError>
     ensures { IsStep
-        (step_after outputs.old (say_one (octet_way C.codec) (record { 0 = channel.ue }) record.now
+        (step_after outputs.old (act_one (octet_way C.codec) (record { 0 = channel.ue }) record.now
         (sends channel.peer (message_as message))))
         outputs.new record.now result }
 {
-    let bytes = codec.spell(alloc, &message);
+    let bytes = codec.encode(alloc, &message);
     let_go(message);
     put(
         outputs,
@@ -184,7 +184,7 @@ fn say_message<C: MessageCodec>(
     )
 }
 
-#[tactic(auto, unfolding(unit_defs::specs::CpRecords::say_one))]
+#[tactic(auto, unfolding(unit_defs::specs::CuCpRecords::act_one))]
 fn say_forget<C: MessageCodec>(
     record: &mut ControlRecord,
     alloc: Global,
@@ -193,7 +193,7 @@ fn say_forget<C: MessageCodec>(
     outputs: &mut Outputs,
 ) -> Result<(), StepError>
     ensures { IsStep
-        (step_after outputs.old (say_one (octet_way C.codec) ue record.old forgets))
+        (step_after outputs.old (act_one (octet_way C.codec) ue record.old forgets))
         outputs.new record.new result }
 {
     forget(&mut record.requests, alloc, ue)?;
@@ -201,21 +201,21 @@ fn say_forget<C: MessageCodec>(
 }
 
 /// One thing that a row says.
-#[tactic(auto, unfolding(unit_defs::specs::CpRecords::say_one))]
-fn say_one<C: MessageCodec>(
+#[tactic(auto, unfolding(unit_defs::specs::CuCpRecords::act_one))]
+fn act_one<C: MessageCodec>(
     record: &mut ControlRecord,
     alloc: Global,
     codec: &C,
     ue: UeId,
-    say: Say,
+    say: Action,
     outputs: &mut Outputs,
 ) -> Result<(), StepError>
     ensures { IsStep
-        (step_after outputs.old (say_one (octet_way C.codec) ue record.old (say_as say)))
+        (step_after outputs.old (act_one (octet_way C.codec) ue record.old (action_as say)))
         outputs.new record.new result }
 {
     match say {
-        Say::Ask {
+        Action::Ask {
             to,
             message,
             deadline,
@@ -228,24 +228,24 @@ fn say_one<C: MessageCodec>(
             };
             say_ask(record, alloc, codec, on(ue, to), waiting, outputs)
         }
-        Say::Cancel { to, message } => {
+        Action::Cancel { to, message } => {
             say_cancel(record, alloc, codec, on(ue, to), message, outputs)
         }
-        Say::Reply { to, message } => {
+        Action::Reply { to, message } => {
             say_reply(record, alloc, codec, on(ue, to), message, outputs)
         }
-        Say::ReplyLate {
+        Action::ReplyLate {
             to,
             instance,
             message,
         } => say_late_reply(record, alloc, codec, on(ue, to), instance, message, outputs),
-        Say::Send { to, message } => {
+        Action::Send { to, message } => {
             say_message(record, alloc, codec, on(ue, to), message, outputs)
         }
-        Say::Fail(cause) => put(outputs, Output::FailedUe { ue, cause }),
-        Say::Ignore(reason) => put(outputs, Output::Drop(reason)),
-        Say::Refuse(reason) => put(outputs, Output::No(reason)),
-        Say::Forget => say_forget(record, alloc, codec, ue, outputs),
+        Action::Fail(cause) => put(outputs, Output::FailedUe { ue, cause }),
+        Action::Ignore(reason) => put(outputs, Output::Drop(reason)),
+        Action::Refuse(reason) => put(outputs, Output::No(reason)),
+        Action::Forget => say_forget(record, alloc, codec, ue, outputs),
     }
 }
 
@@ -257,27 +257,27 @@ fn on(ue: UeId, peer: NodeId) -> Channel
 }
 
 /// All that a row says, in order.
-fn say_all<C: MessageCodec>(
+fn act_all<C: MessageCodec>(
     record: &mut ControlRecord,
     alloc: Global,
     codec: &C,
     ue: UeId,
-    says: Says,
+    actions: Actions,
     outputs: &mut Outputs,
 ) -> Result<(), StepError>
     ensures { IsStep
-        (step_after outputs.old (say_all (octet_way C.codec) ue (map say_as says) record.old))
+        (step_after outputs.old (act_all (octet_way C.codec) ue (map action_as actions) record.old))
         outputs.new record.new result }
 {
-    let mut left = VecDeque::from(says.into_vec());
+    let mut left = VecDeque::from(actions.into_vec());
     while let Some(say) = left.pop_front() {
-        say_one(record, alloc, codec, ue, say, outputs)?;
+        act_one(record, alloc, codec, ue, say, outputs)?;
     }
     Ok(())
 }
 
 /// A row is carried out: what it keeps of the terminal is kept, and what it says is said.
-#[tactic(auto, unfolding(unit_defs::specs::CpRecords::carry_out))]
+#[tactic(auto, unfolding(unit_defs::specs::CuCpRecords::carry_out))]
 pub fn carry_out<C: MessageCodec>(
     record: &mut ControlRecord,
     alloc: Global,
@@ -290,9 +290,9 @@ pub fn carry_out<C: MessageCodec>(
         (step_after outputs.old (carry_out (octet_way C.codec) ue record.old (row_as row)))
         outputs.new record.new result }
 {
-    let Row { says, after } = row;
+    let Row { actions, after } = row;
     record.put_terminal(ue, after)?;
-    say_all(record, alloc, codec, ue, says, outputs)
+    act_all(record, alloc, codec, ue, actions, outputs)
 }
 
 /// What waits longest on a channel is put.

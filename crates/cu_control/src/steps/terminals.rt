@@ -1,7 +1,7 @@
 //! What the attempt of a terminal awaits.
 
 ghost use Rattle.std.specs.Prelude.{◌≡◌, OnOk, if◌then◌else◌};
-ghost use Rattle.unit_defs.specs.CpRecords.{awaiting, begun, on_attempt, on_context, with_attempt};
+ghost use Rattle.unit_defs.specs.CuCpRecords.{awaiting, begun, on_attempt, on_context, with_attempt};
 
 use cu_cp_records::control_contexts::{Attempt, Context};
 use cu_cp_records::control_records::ControlRecord;

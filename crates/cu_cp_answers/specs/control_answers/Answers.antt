@@ -2,12 +2,12 @@
 use Rattle.std.specs.Prelude.{◌≡◌, ℕ, Bool, true, false, List, Option, Some, None, Result, Ok, Err}
 use Rattle.gnb_types.specs.declared.plans.Tunnel.{Tunnel}
 use Rattle.unit_defs.specs.Ways.{Way}
-use Rattle.unit_defs.specs.CpRecords as cp
+use Rattle.unit_defs.specs.CuCpRecords as cp
 use Rattle.unit_defs.specs.CuCp as rows
 use Rattle.unit_messages.specs.declared.steps.StepError.{StepError}
 use Rattle.unit_messages.specs.declared.steps.StepError.TheVariants as errors
-use Rattle.cu_cp_records.specs.declared.control_says.row.Row.{Row}
-use Rattle.cu_cp_records.specs.control_says.Rows.{row_as}
+use Rattle.cu_cp_records.specs.declared.control_actions.row.Row.{Row}
+use Rattle.cu_cp_records.specs.control_actions.Rows.{row_as}
 use Rattle.cu_cp_answers.specs.declared.control_answers.states.Answered.{Answered}
 use Rattle.cu_cp_answers.specs.declared.control_answers.states.Answered.TheVariants as code
 

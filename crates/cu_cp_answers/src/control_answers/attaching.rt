@@ -2,16 +2,16 @@
 
 ghost use Rattle.std.specs.Prelude.{◌&&◌};
 ghost use Rattle.unit_defs.specs.Messages.{cause_name};
-ghost use Rattle.unit_defs.specs.CpRows.{name_bearers, attach_has_tunnels, attach_is_placed, attach_fails};
+ghost use Rattle.unit_defs.specs.CuCpRows.{name_bearers, attach_has_tunnels, attach_is_placed, attach_fails};
 ghost use Rattle.unit_defs.specs.CuCp.{listed, caused, in_attaching};
 ghost use Rattle.unit_defs.specs.octet_defs.Codec.{octet_way};
 ghost use Rattle.unit_messages.specs.Messages.{message_as};
-ghost use Rattle.cu_cp_records.specs.control_says.Rows.{SomeRowGives};
+ghost use Rattle.cu_cp_records.specs.control_actions.Rows.{SomeRowGives};
 
 use crate::control_answers::closing::{cause_name, only_closes};
 use crate::control_answers::copies::{both_name_bearers, copy_both, copy_named};
+use cu_cp_records::control_actions::{Row, Scope};
 use cu_cp_records::control_contexts::{Attempt, Context, Terminal};
-use cu_cp_records::control_says::{At, Row};
 use cu_cp_rows::control_rows::{attach_fails, attach_has_tunnels, attach_is_placed};
 use gnb_types::plans::TunnelList;
 use message_types::{E1Message, F1, F1Message};
@@ -20,7 +20,7 @@ use unit_messages::{Message, MessageCodec};
 
 /// The bearers have their tunnels, or are refused; or the DU is ready.
 pub(crate) fn in_attaching<C: MessageCodec>(
-    at: &At<'_, C>,
+    at: &Scope<'_, C>,
     message: &Message,
     terminal: &Terminal,
     context: &Context,
@@ -40,7 +40,7 @@ pub(crate) fn in_attaching<C: MessageCodec>(
 }
 
 fn in_attaching_on_e1<C: MessageCodec>(
-    at: &At<'_, C>,
+    at: &Scope<'_, C>,
     message: &E1Message,
     terminal: &Terminal,
     context: &Context,
@@ -69,7 +69,7 @@ fn in_attaching_on_e1<C: MessageCodec>(
 }
 
 fn tunnels_came<C: MessageCodec>(
-    at: &At<'_, C>,
+    at: &Scope<'_, C>,
     uplinks: &TunnelList,
     n3: &TunnelList,
     terminal: &Terminal,
@@ -89,7 +89,7 @@ fn tunnels_came<C: MessageCodec>(
 }
 
 fn failure_came<C: MessageCodec>(
-    at: &At<'_, C>,
+    at: &Scope<'_, C>,
     cause: u32,
     terminal: &Terminal,
 ) -> Result<Option<Row>, StepError>
@@ -104,7 +104,7 @@ fn failure_came<C: MessageCodec>(
 }
 
 fn in_attaching_on_f1<C: MessageCodec>(
-    at: &At<'_, C>,
+    at: &Scope<'_, C>,
     message: &F1Message,
     terminal: &Terminal,
     context: &Context,
@@ -131,7 +131,7 @@ fn in_attaching_on_f1<C: MessageCodec>(
 }
 
 fn du_came<C: MessageCodec>(
-    at: &At<'_, C>,
+    at: &Scope<'_, C>,
     downlinks: &TunnelList,
     terminal: &Terminal,
     context: &Context,

@@ -4,10 +4,10 @@ ghost use Rattle.std.specs.Prelude.{◌≡◌, Some};
 ghost use Rattle.unit_defs.specs.Messages.{cause_name};
 ghost use Rattle.unit_defs.specs.CuCp.{only_closes};
 ghost use Rattle.unit_defs.specs.octet_defs.Codec.{octet_way};
-ghost use Rattle.cu_cp_records.specs.control_says.Rows.{SomeRowGives};
+ghost use Rattle.cu_cp_records.specs.control_actions.Rows.{SomeRowGives};
 
+use cu_cp_records::control_actions::{Row, Scope};
 use cu_cp_records::control_contexts::{Attempt, Context, Terminal};
-use cu_cp_records::control_says::{At, Row};
 use gnb_types::items::Items;
 use gnb_types::reasons::CauseName;
 use unit_messages::MessageCodec;
@@ -22,7 +22,7 @@ const NO_UNIT: u32 = 2;
 
 /// The answer only closes its request: it is awaited no more.
 pub(crate) fn only_closes<C: MessageCodec>(
-    at: &At<'_, C>,
+    at: &Scope<'_, C>,
     terminal: &Terminal,
     context: &Context,
     attempt: &Attempt,

@@ -1,7 +1,7 @@
 //! Lists of tunnels that are to name the bearers of a context.
 
 ghost use Rattle.std.specs.Prelude.{◌≡◌, ◌&&◌, IfOk};
-ghost use Rattle.unit_defs.specs.CpRows.{name_bearers};
+ghost use Rattle.unit_defs.specs.CuCpRows.{name_bearers};
 ghost use Rattle.cu_cp_answers.specs.control_answers.Answers.{CopiesNamed};
 
 use cu_cp_records::control_contexts::{Context, copy_tunnels};

@@ -1,15 +1,15 @@
 //! While a handover between own DUs is under way.
 
-ghost use Rattle.unit_defs.specs.CpRows.{name_bearers, move_has_uplinks, move_is_placed};
+ghost use Rattle.unit_defs.specs.CuCpRows.{name_bearers, move_has_uplinks, move_is_placed};
 ghost use Rattle.unit_defs.specs.CuCp.{listed, in_moving};
 ghost use Rattle.unit_defs.specs.octet_defs.Codec.{octet_way};
 ghost use Rattle.unit_messages.specs.Messages.{message_as};
-ghost use Rattle.cu_cp_records.specs.control_says.Rows.{SomeRowGives};
+ghost use Rattle.cu_cp_records.specs.control_actions.Rows.{SomeRowGives};
 
 use crate::control_answers::closing::only_closes;
 use crate::control_answers::copies::copy_named;
+use cu_cp_records::control_actions::{Row, Scope};
 use cu_cp_records::control_contexts::{Attempt, Context, Terminal};
-use cu_cp_records::control_says::{At, Row};
 use cu_cp_rows::control_rows::{move_has_uplinks, move_is_placed};
 use gnb_types::plans::TunnelList;
 use message_types::{E1Message, F1, F1Message};
@@ -18,7 +18,7 @@ use unit_messages::{Message, MessageCodec};
 
 /// The bearers have their further uplinks; or the target DU is ready.
 pub(crate) fn in_moving<C: MessageCodec>(
-    at: &At<'_, C>,
+    at: &Scope<'_, C>,
     message: &Message,
     terminal: &Terminal,
     context: &Context,
@@ -38,7 +38,7 @@ pub(crate) fn in_moving<C: MessageCodec>(
 }
 
 fn in_moving_on_e1<C: MessageCodec>(
-    at: &At<'_, C>,
+    at: &Scope<'_, C>,
     message: &E1Message,
     terminal: &Terminal,
     context: &Context,
@@ -69,7 +69,7 @@ fn in_moving_on_e1<C: MessageCodec>(
 }
 
 fn uplinks_came<C: MessageCodec>(
-    at: &At<'_, C>,
+    at: &Scope<'_, C>,
     uplinks: &TunnelList,
     terminal: &Terminal,
     context: &Context,
@@ -88,7 +88,7 @@ fn uplinks_came<C: MessageCodec>(
 }
 
 fn in_moving_on_f1<C: MessageCodec>(
-    at: &At<'_, C>,
+    at: &Scope<'_, C>,
     message: &F1Message,
     terminal: &Terminal,
     context: &Context,
@@ -115,7 +115,7 @@ fn in_moving_on_f1<C: MessageCodec>(
 }
 
 fn du_came<C: MessageCodec>(
-    at: &At<'_, C>,
+    at: &Scope<'_, C>,
     downlinks: &TunnelList,
     terminal: &Terminal,
     context: &Context,

@@ -2,16 +2,16 @@
 
 ghost use Rattle.std.specs.Prelude.{◌≡◌, ◌&&◌, IfOk};
 ghost use Rattle.unit_defs.specs.Messages.{cause_name};
-ghost use Rattle.unit_defs.specs.CpRows.{name_bearers, offer_has_tunnels, offer_is_declined, offer_is_placed};
+ghost use Rattle.unit_defs.specs.CuCpRows.{name_bearers, offer_has_tunnels, offer_is_declined, offer_is_placed};
 ghost use Rattle.unit_defs.specs.CuCp.{listed, caused, in_offered};
 ghost use Rattle.unit_defs.specs.octet_defs.Codec.{octet_way};
 ghost use Rattle.unit_messages.specs.Messages.{message_as};
-ghost use Rattle.cu_cp_records.specs.control_says.Rows.{SomeRowGives};
+ghost use Rattle.cu_cp_records.specs.control_actions.Rows.{SomeRowGives};
 
 use crate::control_answers::closing::{cause_name, only_closes};
 use crate::control_answers::copies::{both_name_bearers, copy_both, copy_named};
+use cu_cp_records::control_actions::{Row, Scope};
 use cu_cp_records::control_contexts::{Attempt, Context, Terminal};
-use cu_cp_records::control_says::{At, Row};
 use cu_cp_rows::control_targets::{
     OfferTunnels, name_bearers, offer_has_tunnels, offer_is_declined, offer_is_placed,
 };
@@ -24,7 +24,7 @@ use unit_messages::{Message, MessageCodec};
 
 /// The bearers have their tunnels, or are refused; or the DU is ready.
 pub(crate) fn in_offered<C: MessageCodec>(
-    at: &At<'_, C>,
+    at: &Scope<'_, C>,
     message: &Message,
     terminal: &Terminal,
     context: &Context,
@@ -44,7 +44,7 @@ pub(crate) fn in_offered<C: MessageCodec>(
 }
 
 fn in_offered_on_e1<C: MessageCodec>(
-    at: &At<'_, C>,
+    at: &Scope<'_, C>,
     message: &E1Message,
     terminal: &Terminal,
     context: &Context,
@@ -138,7 +138,7 @@ fn are_named(alloc: Global, context: &Context, tunnels: &OfferTunnels) -> Result
 }
 
 fn tunnels_came<C: MessageCodec>(
-    at: &At<'_, C>,
+    at: &Scope<'_, C>,
     tunnels: OfferTunnels,
     terminal: &Terminal,
     context: &Context,
@@ -160,7 +160,7 @@ fn tunnels_came<C: MessageCodec>(
 }
 
 fn failure_came<C: MessageCodec>(
-    at: &At<'_, C>,
+    at: &Scope<'_, C>,
     cause: u32,
     terminal: &Terminal,
     attempt: &Attempt,
@@ -177,7 +177,7 @@ fn failure_came<C: MessageCodec>(
 }
 
 fn in_offered_on_f1<C: MessageCodec>(
-    at: &At<'_, C>,
+    at: &Scope<'_, C>,
     message: &F1Message,
     terminal: &Terminal,
     context: &Context,
@@ -204,7 +204,7 @@ fn in_offered_on_f1<C: MessageCodec>(
 }
 
 fn du_came<C: MessageCodec>(
-    at: &At<'_, C>,
+    at: &Scope<'_, C>,
     downlinks: &TunnelList,
     terminal: &Terminal,
     context: &Context,

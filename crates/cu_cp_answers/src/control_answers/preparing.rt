@@ -2,17 +2,17 @@
 
 ghost use Rattle.std.specs.Prelude.{◌&&◌};
 ghost use Rattle.unit_defs.specs.Messages.{cause_name, are_bearers, statuses_of};
-ghost use Rattle.unit_defs.specs.CpRecords.{bearers_in};
-ghost use Rattle.unit_defs.specs.CpRows.{name_bearers, handover_is_acknowledged, handover_is_declined, handover_is_frozen, handover_is_not_frozen};
+ghost use Rattle.unit_defs.specs.CuCpRecords.{bearers_in};
+ghost use Rattle.unit_defs.specs.CuCpRows.{name_bearers, handover_is_acknowledged, handover_is_declined, handover_is_frozen, handover_is_not_frozen};
 ghost use Rattle.unit_defs.specs.CuCp.{listed, caused, in_preparing, in_prepared};
 ghost use Rattle.unit_defs.specs.octet_defs.Codec.{octet_way};
 ghost use Rattle.unit_messages.specs.Messages.{message_as};
-ghost use Rattle.cu_cp_records.specs.control_says.Rows.{SomeRowGives};
+ghost use Rattle.cu_cp_records.specs.control_actions.Rows.{SomeRowGives};
 
 use crate::control_answers::closing::{cause_name, only_closes};
 use crate::control_answers::copies::{both_name_bearers, copy_both};
+use cu_cp_records::control_actions::{Row, Scope};
 use cu_cp_records::control_contexts::{Attempt, Context, Terminal};
-use cu_cp_records::control_says::{At, Row};
 use cu_cp_records::status_copies::copy_statuses;
 use cu_cp_rows::control_rows::{
     handover_is_acknowledged, handover_is_declined, handover_is_frozen, handover_is_not_frozen,
@@ -25,7 +25,7 @@ use unit_messages::{Message, MessageCodec};
 
 /// The target is ready, or isn't.
 pub(crate) fn in_preparing<C: MessageCodec>(
-    at: &At<'_, C>,
+    at: &Scope<'_, C>,
     message: &Message,
     terminal: &Terminal,
     context: &Context,
@@ -44,7 +44,7 @@ pub(crate) fn in_preparing<C: MessageCodec>(
 }
 
 fn in_preparing_on_xn<C: MessageCodec>(
-    at: &At<'_, C>,
+    at: &Scope<'_, C>,
     message: &XnMessage,
     terminal: &Terminal,
     context: &Context,
@@ -81,7 +81,7 @@ fn in_preparing_on_xn<C: MessageCodec>(
 }
 
 fn target_came<C: MessageCodec>(
-    at: &At<'_, C>,
+    at: &Scope<'_, C>,
     peer: Peer,
     forward_down: &TunnelList,
     forward_up: &TunnelList,
@@ -112,7 +112,7 @@ fn target_came<C: MessageCodec>(
 }
 
 fn target_declined<C: MessageCodec>(
-    at: &At<'_, C>,
+    at: &Scope<'_, C>,
     cause: u32,
     terminal: &Terminal,
     context: &Context,
@@ -129,7 +129,7 @@ fn target_declined<C: MessageCodec>(
 
 /// The bearers are frozen, or can't be.
 pub(crate) fn in_prepared<C: MessageCodec>(
-    at: &At<'_, C>,
+    at: &Scope<'_, C>,
     message: &Message,
     terminal: &Terminal,
     context: &Context,
@@ -148,7 +148,7 @@ pub(crate) fn in_prepared<C: MessageCodec>(
 }
 
 fn in_prepared_on_e1<C: MessageCodec>(
-    at: &At<'_, C>,
+    at: &Scope<'_, C>,
     message: &E1Message,
     terminal: &Terminal,
     context: &Context,
@@ -181,7 +181,7 @@ fn in_prepared_on_e1<C: MessageCodec>(
 }
 
 fn statuses_came<C: MessageCodec>(
-    at: &At<'_, C>,
+    at: &Scope<'_, C>,
     statuses: &StatusList,
     terminal: &Terminal,
     context: &Context,
@@ -201,7 +201,7 @@ fn statuses_came<C: MessageCodec>(
 }
 
 fn not_frozen<C: MessageCodec>(
-    at: &At<'_, C>,
+    at: &Scope<'_, C>,
     cause: u32,
     terminal: &Terminal,
     context: &Context,

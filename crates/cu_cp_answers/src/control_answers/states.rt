@@ -4,7 +4,7 @@ ghost use Rattle.std.specs.Prelude.{◌≡◌, [], ◌∷◌, Some};
 ghost use Rattle.unit_defs.specs.CuCp.{in_releasing, in_state, answer_of, answer};
 ghost use Rattle.unit_defs.specs.octet_defs.Codec.{octet_way};
 ghost use Rattle.unit_messages.specs.Messages.{message_as};
-ghost use Rattle.cu_cp_records.specs.control_says.Rows.{SomeRowGives};
+ghost use Rattle.cu_cp_records.specs.control_actions.Rows.{SomeRowGives};
 ghost use Rattle.cu_cp_answers.specs.control_answers.Answers.{AnswerGives};
 
 use crate::control_answers::attaching::in_attaching;
@@ -13,8 +13,8 @@ use crate::control_answers::moving::in_moving;
 use crate::control_answers::offered::in_offered;
 use crate::control_answers::preparing::{in_prepared, in_preparing};
 use crate::control_answers::switching::in_switching;
+use cu_cp_records::control_actions::{Row, Scope};
 use cu_cp_records::control_contexts::{Attempt, Context, Terminal};
-use cu_cp_records::control_says::{At, Row};
 use cu_cp_rows::control_rows::is_between_gnbs;
 use cu_cp_rows::control_targets::is_between_dus;
 use gnb_types::items::Items;
@@ -34,7 +34,7 @@ pub enum Answered {
 
 /// The source lets go: it is over once DU and CU-UP have answered.
 fn in_releasing<C: MessageCodec>(
-    at: &At<'_, C>,
+    at: &Scope<'_, C>,
     terminal: &Terminal,
     context: &Context,
     attempt: &Attempt,
@@ -49,7 +49,7 @@ fn in_releasing<C: MessageCodec>(
 }
 
 fn while_preparing<C: MessageCodec>(
-    at: &At<'_, C>,
+    at: &Scope<'_, C>,
     message: &Message,
     terminal: &Terminal,
     context: &Context,
@@ -66,7 +66,7 @@ fn while_preparing<C: MessageCodec>(
 }
 
 fn while_completing<C: MessageCodec>(
-    at: &At<'_, C>,
+    at: &Scope<'_, C>,
     message: &Message,
     terminal: &Terminal,
     context: &Context,
@@ -83,7 +83,7 @@ fn while_completing<C: MessageCodec>(
 }
 
 fn in_state<C: MessageCodec>(
-    at: &At<'_, C>,
+    at: &Scope<'_, C>,
     message: &Message,
     terminal: &Terminal,
     context: &Context,
@@ -113,7 +113,7 @@ fn in_state<C: MessageCodec>(
 /// What an answer is to the attempt of the terminal: an answer of the node with the instance that it awaits names its row.
 #[tactic(auto, unfolding(unit_defs::specs::CuCp::answer))]
 pub fn answer<C: MessageCodec>(
-    at: &At<'_, C>,
+    at: &Scope<'_, C>,
     from: NodeId,
     instance: u32,
     message: &Message,

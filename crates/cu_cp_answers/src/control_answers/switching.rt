@@ -1,16 +1,16 @@
 //! After an arrival or a return.
 
 ghost use Rattle.std.specs.Prelude.{Some};
-ghost use Rattle.unit_defs.specs.CpRows.{name_bearers, place_is_renewed, is_switched, path_is_switched};
+ghost use Rattle.unit_defs.specs.CuCpRows.{name_bearers, place_is_renewed, is_switched, path_is_switched};
 ghost use Rattle.unit_defs.specs.CuCp.{listed, in_switching};
 ghost use Rattle.unit_defs.specs.octet_defs.Codec.{octet_way};
 ghost use Rattle.unit_messages.specs.Messages.{message_as};
-ghost use Rattle.cu_cp_records.specs.control_says.Rows.{SomeRowGives};
+ghost use Rattle.cu_cp_records.specs.control_actions.Rows.{SomeRowGives};
 
 use crate::control_answers::closing::only_closes;
 use crate::control_answers::copies::copy_named;
+use cu_cp_records::control_actions::{Row, Scope};
 use cu_cp_records::control_contexts::{Attempt, Context, Terminal};
-use cu_cp_records::control_says::{At, Row};
 use cu_cp_rows::control_targets::{is_switched, path_is_switched, place_is_renewed};
 use gnb_types::plans::TunnelList;
 use message_types::{CoreMessage, E1Message, F1, F1Message};
@@ -19,7 +19,7 @@ use unit_messages::{Message, MessageCodec};
 
 /// The DU has new downlinks, the bearers were switched, or the path was.
 pub(crate) fn in_switching<C: MessageCodec>(
-    at: &At<'_, C>,
+    at: &Scope<'_, C>,
     message: &Message,
     terminal: &Terminal,
     context: &Context,
@@ -38,7 +38,7 @@ pub(crate) fn in_switching<C: MessageCodec>(
 }
 
 fn in_switching_on_f1<C: MessageCodec>(
-    at: &At<'_, C>,
+    at: &Scope<'_, C>,
     message: &F1Message,
     terminal: &Terminal,
     context: &Context,
@@ -65,7 +65,7 @@ fn in_switching_on_f1<C: MessageCodec>(
 }
 
 fn du_came<C: MessageCodec>(
-    at: &At<'_, C>,
+    at: &Scope<'_, C>,
     downlinks: &TunnelList,
     terminal: &Terminal,
     context: &Context,
@@ -83,7 +83,7 @@ fn du_came<C: MessageCodec>(
 }
 
 fn in_switching_on_e1<C: MessageCodec>(
-    at: &At<'_, C>,
+    at: &Scope<'_, C>,
     message: &E1Message,
     terminal: &Terminal,
     context: &Context,
@@ -112,7 +112,7 @@ fn in_switching_on_e1<C: MessageCodec>(
 }
 
 fn switch_came<C: MessageCodec>(
-    at: &At<'_, C>,
+    at: &Scope<'_, C>,
     terminal: &Terminal,
     context: &Context,
     attempt: &Attempt,
@@ -125,7 +125,7 @@ fn switch_came<C: MessageCodec>(
 }
 
 fn in_switching_on_core<C: MessageCodec>(
-    at: &At<'_, C>,
+    at: &Scope<'_, C>,
     message: &CoreMessage,
     terminal: &Terminal,
     context: &Context,
@@ -142,7 +142,7 @@ fn in_switching_on_core<C: MessageCodec>(
 }
 
 fn path_came<C: MessageCodec>(
-    at: &At<'_, C>,
+    at: &Scope<'_, C>,
     terminal: &Terminal,
     context: &Context,
     attempt: &Attempt,

@@ -4,13 +4,13 @@ ghost use Rattle.std.specs.Prelude.{◌≡◌};
 ghost use Rattle.unit_defs.specs.CuCp.{is_own_command, may_return, is_too_early, is_ready};
 ghost use Rattle.unit_defs.specs.octet_defs.Codec.{octet_way};
 
-use cu_cp_records::control_says::At;
+use cu_cp_records::control_actions::Scope;
 use unit_defs::{AttemptKind, StateName};
 use unit_messages::MessageCodec;
 
 /// Whether a terminal was told to go to a DU of this gNB.
 pub(crate) fn is_own_command<C: MessageCodec>(
-    _at: &At<'_, C>,
+    _at: &Scope<'_, C>,
     state: StateName,
     kind: AttemptKind,
 ) -> bool
@@ -37,7 +37,7 @@ pub(crate) fn is_own_command<C: MessageCodec>(
 
 /// Whether a return is taken.
 pub(crate) fn may_return<C: MessageCodec>(
-    at: &At<'_, C>,
+    at: &Scope<'_, C>,
     state: StateName,
     kind: AttemptKind,
 ) -> bool
@@ -65,7 +65,7 @@ pub(crate) fn may_return<C: MessageCodec>(
     }
 }
 
-fn may_return_on_command<C: MessageCodec>(_at: &At<'_, C>, kind: AttemptKind) -> bool
+fn may_return_on_command<C: MessageCodec>(_at: &Scope<'_, C>, kind: AttemptKind) -> bool
     ensures { result ≡ may_return (octet_way C.codec) StateName.Commanded kind }
 {
     match kind {
@@ -76,7 +76,7 @@ fn may_return_on_command<C: MessageCodec>(_at: &At<'_, C>, kind: AttemptKind) ->
 
 /// Whether a return comes too early.
 pub(crate) fn is_too_early<C: MessageCodec>(
-    _at: &At<'_, C>,
+    _at: &Scope<'_, C>,
     state: StateName,
     kind: AttemptKind,
 ) -> bool
@@ -105,7 +105,7 @@ pub(crate) fn is_too_early<C: MessageCodec>(
 }
 
 /// Whether the target of a handover awaits the terminal.
-pub(crate) fn is_ready<C: MessageCodec>(_at: &At<'_, C>, state: StateName) -> bool
+pub(crate) fn is_ready<C: MessageCodec>(_at: &Scope<'_, C>, state: StateName) -> bool
     ensures { result ≡ is_ready (octet_way C.codec) state }
 {
     match state {

@@ -1,8 +1,8 @@
 //! An attempt: an attach, a handover, an offer of one, or a return.
 
 ghost use Rattle.std.specs.Prelude.{◌≡◌, IfOk};
-ghost use Rattle.unit_defs.specs.CpRecords.{is_from, with_instance_of, awaiting, begun, answered, is_instance, awaits_answer};
-ghost use Rattle.unit_defs.specs.CpRows.{new_attempt};
+ghost use Rattle.unit_defs.specs.CuCpRecords.{is_from, with_instance_of, awaiting, begun, answered, is_instance, awaits_answer};
+ghost use Rattle.unit_defs.specs.CuCpRows.{new_attempt};
 
 use crate::control_contexts::nodes::{copy_tunnels, same_node};
 use gnb_types::items::{Items, Memory};
@@ -20,7 +20,7 @@ pub struct Awaited {
 }
 
 impl Model for Awaited {
-    ghost use Rattle.unit_defs.specs.CpRecords.{Awaited};
+    ghost use Rattle.unit_defs.specs.CuCpRecords.{Awaited};
 
     ghost Value = { Awaited };
 
@@ -84,7 +84,7 @@ pub struct Attempt {
 }
 
 impl Model for Attempt {
-    ghost use Rattle.unit_defs.specs.CpRecords.{Attempt};
+    ghost use Rattle.unit_defs.specs.CuCpRecords.{Attempt};
 
     ghost Value = { Attempt };
 

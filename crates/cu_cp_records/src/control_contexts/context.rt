@@ -1,7 +1,7 @@
 //! A terminal: its context, and the greatest epoch that it told.
 
 ghost use Rattle.std.specs.Prelude.{◌≡◌, Some, None, IfOk};
-ghost use Rattle.unit_defs.specs.CpRecords.{attempted, serving, no_terminal};
+ghost use Rattle.unit_defs.specs.CuCpRecords.{attempted, serving, no_terminal};
 
 use crate::control_contexts::attempt::Attempt;
 use gnb_types::items::Memory;
@@ -27,9 +27,9 @@ pub struct Context {
 }
 
 impl Model for Context {
-    ghost use Rattle.unit_defs.specs.CpRecords.{CpContext};
+    ghost use Rattle.unit_defs.specs.CuCpRecords.{CuCpContext};
 
-    ghost Value = { CpContext };
+    ghost Value = { CuCpContext };
 
     ghost view = { λ c. record {
       state = c.state;
@@ -102,9 +102,9 @@ pub struct Terminal {
 }
 
 impl Model for Terminal {
-    ghost use Rattle.unit_defs.specs.CpRecords.{CpTerminal};
+    ghost use Rattle.unit_defs.specs.CuCpRecords.{CuCpTerminal};
 
-    ghost Value = { CpTerminal };
+    ghost Value = { CuCpTerminal };
 
     ghost view = { λ t. record { context = t.context; taken = t.taken } };
 }

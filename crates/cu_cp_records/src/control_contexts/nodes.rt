@@ -2,7 +2,7 @@
 
 ghost use Rattle.std.specs.Prelude.{◌≡◌, IfOk};
 ghost use Rattle.std.specs.List.{list_any};
-ghost use Rattle.unit_defs.specs.CpRecords.{same_node, has_unit};
+ghost use Rattle.unit_defs.specs.CuCpRecords.{same_node, has_unit};
 
 use gnb_types::items::Memory;
 use gnb_types::names::NodeId;

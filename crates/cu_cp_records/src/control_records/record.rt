@@ -1,11 +1,11 @@
 //! The record of a CU-CP.
 
 ghost use Rattle.std.specs.Prelude.{◌≡◌, map, IfOk, OnOk, OnErr, option_copied};
-ghost use Rattle.unit_defs.specs.CpRecords.{new_cu_cp, terminal_of, with_terminal};
+ghost use Rattle.unit_defs.specs.CuCpRecords.{new_cu_cp, terminal_of, with_terminal};
 ghost use Rattle.unit_defs.specs.CuCp.{with_unit};
 ghost use Rattle.unit_defs.specs.octet_defs.Codec.{Codec, octet_way};
-ghost use Rattle.unit_defs.specs.Static.{cp_placed, cp_set_up};
-ghost use Rattle.unit_defs.specs.Accessors.{state_of, taken_epoch, place_of, is_set_up, cp_rests};
+ghost use Rattle.unit_defs.specs.Static.{cu_cp_placed, cu_cp_set_up};
+ghost use Rattle.unit_defs.specs.Accessors.{state_of, taken_epoch, place_of, is_set_up, cu_cp_rests};
 
 use crate::control_contexts::{Context, Terminal, has_node};
 use gnb_types::items::{Items, Memory};
@@ -32,7 +32,7 @@ pub struct ControlRecord {
 
 impl Model for ControlRecord {
     ghost use Rattle.std.specs.Prelude.{List, ℕ, ◌≤◌, vec_capacity};
-    ghost use Rattle.unit_defs.specs.CpRecords.{CuCpRecord};
+    ghost use Rattle.unit_defs.specs.CuCpRecords.{CuCpRecord};
 
     ghost Value = { CuCpRecord (List ℕ) (List ℕ) };
 
@@ -114,9 +114,9 @@ impl ControlRecord {
     // ---- terminals and units without messages
 
     /// A terminal is served here as if an attach had run. Out of memory nothing changes.
-    #[tactic(auto, unfolding(unit_defs::specs::Static::cp_placed))]
+    #[tactic(auto, unfolding(unit_defs::specs::Static::cu_cp_placed))]
     pub fn place_static(&mut self, plan: Plan) -> Result<(), Memory>
-        ensures ok { OnOk result (self.new ≡ cp_placed self.old plan) }
+        ensures ok { OnOk result (self.new ≡ cu_cp_placed self.old plan) }
         ensures err { OnErr result (self.new ≡ self.old) }
     {
         let context = Context {
@@ -140,7 +140,7 @@ impl ControlRecord {
 
     /// All units of the gNB count as set up.
     pub fn mark_set_up(&mut self)
-        ensures { self.new ≡ cp_set_up self.old }
+        ensures { self.new ≡ cu_cp_set_up self.old }
     {
         self.units.clear();
         self.units.push_reserved(NodeId::CuUp(self.gnb, 1));
@@ -190,7 +190,7 @@ impl ControlRecord {
 
     /// Whether no request of a terminal is open or waits.
     pub fn rests(&self, ue: UeId) -> bool
-        ensures { result ≡ cp_rests self.now ue }
+        ensures { result ≡ cu_cp_rests self.now ue }
     {
         self.requests.rests(ue.0)
     }

@@ -3,9 +3,9 @@
 ghost use Rattle.std.specs.Prelude.{◌≡◌, true, false};
 ghost use Rattle.unit_defs.specs.Messages.{mode_uplinks, mode_switch, mode_freeze, mode_status, mode_resume};
 
+use crate::control_actions::Scope;
+use crate::control_actions::actions::{Action, NO_INSTANCE};
 use crate::control_contexts::Context;
-use crate::control_says::At;
-use crate::control_says::says::{NO_INSTANCE, Say};
 use gnb_types::names::NodeId;
 use gnb_types::plans::{Peer, StatusList, TunnelList};
 use message_types::E1Message;
@@ -22,12 +22,12 @@ const STATUS: u32 = 3;
 
 const RESUME: u32 = 4;
 
-pub fn say_uplinks<C>(at: &At<'_, C>, context: &Context) -> Say
-    ensures { result ≡ Say.Ask (NodeId.CuUp at.now.gnb context.now.up)
+pub fn uplinks_action<C>(at: &Scope<'_, C>, context: &Context) -> Action
+    ensures { result ≡ Action.Ask (NodeId.CuUp at.now.gnb context.now.up)
         (Message.E1 (E1Message.BearerContextModificationRequest at.now.ue 0 None mode_uplinks None None
         None None None)) None true }
 {
-    Say::Ask {
+    Action::Ask {
         to: NodeId::CuUp(at.gnb, context.up),
         message: Message::E1(E1Message::BearerContextModificationRequest {
             ue: at.ue,
@@ -45,12 +45,12 @@ pub fn say_uplinks<C>(at: &At<'_, C>, context: &Context) -> Say
     }
 }
 
-pub fn say_switch<C>(at: &At<'_, C>, context: &Context, downlinks: TunnelList) -> Say
-    ensures { result ≡ Say.Ask (NodeId.CuUp at.now.gnb context.now.up)
+pub fn switch_action<C>(at: &Scope<'_, C>, context: &Context, downlinks: TunnelList) -> Action
+    ensures { result ≡ Action.Ask (NodeId.CuUp at.now.gnb context.now.up)
         (Message.E1 (E1Message.BearerContextModificationRequest at.now.ue 0 (Some downlinks) mode_switch
         None None None None (Some context.now.du))) None true }
 {
-    Say::Ask {
+    Action::Ask {
         to: NodeId::CuUp(at.gnb, context.up),
         message: Message::E1(E1Message::BearerContextModificationRequest {
             ue: at.ue,
@@ -68,18 +68,18 @@ pub fn say_switch<C>(at: &At<'_, C>, context: &Context, downlinks: TunnelList) -
     }
 }
 
-pub fn say_freeze<C>(
-    at: &At<'_, C>,
+pub fn freeze_action<C>(
+    at: &Scope<'_, C>,
     context: &Context,
     peer: Peer,
     forward_down: TunnelList,
     forward_up: TunnelList,
-) -> Say
-    ensures { result ≡ Say.Ask (NodeId.CuUp at.now.gnb context.now.up)
+) -> Action
+    ensures { result ≡ Action.Ask (NodeId.CuUp at.now.gnb context.now.up)
         (Message.E1 (E1Message.BearerContextModificationRequest at.now.ue 0 None mode_freeze (Some peer)
         (Some forward_down) (Some forward_up) None None)) None true }
 {
-    Say::Ask {
+    Action::Ask {
         to: NodeId::CuUp(at.gnb, context.up),
         message: Message::E1(E1Message::BearerContextModificationRequest {
             ue: at.ue,
@@ -97,12 +97,12 @@ pub fn say_freeze<C>(
     }
 }
 
-pub fn say_status<C>(at: &At<'_, C>, context: &Context, statuses: StatusList) -> Say
-    ensures { result ≡ Say.Ask (NodeId.CuUp at.now.gnb context.now.up)
+pub fn status_action<C>(at: &Scope<'_, C>, context: &Context, statuses: StatusList) -> Action
+    ensures { result ≡ Action.Ask (NodeId.CuUp at.now.gnb context.now.up)
         (Message.E1 (E1Message.BearerContextModificationRequest at.now.ue 0 None mode_status None None
         None (Some statuses) None)) None false }
 {
-    Say::Ask {
+    Action::Ask {
         to: NodeId::CuUp(at.gnb, context.up),
         message: Message::E1(E1Message::BearerContextModificationRequest {
             ue: at.ue,
@@ -120,12 +120,12 @@ pub fn say_status<C>(at: &At<'_, C>, context: &Context, statuses: StatusList) ->
     }
 }
 
-pub fn say_resume<C>(at: &At<'_, C>, context: &Context) -> Say
-    ensures { result ≡ Say.Ask (NodeId.CuUp at.now.gnb context.now.up)
+pub fn resume_action<C>(at: &Scope<'_, C>, context: &Context) -> Action
+    ensures { result ≡ Action.Ask (NodeId.CuUp at.now.gnb context.now.up)
         (Message.E1 (E1Message.BearerContextModificationRequest at.now.ue 0 None mode_resume None None
         None None None)) None false }
 {
-    Say::Ask {
+    Action::Ask {
         to: NodeId::CuUp(at.gnb, context.up),
         message: Message::E1(E1Message::BearerContextModificationRequest {
             ue: at.ue,

@@ -2,21 +2,21 @@
 
 ghost use Rattle.std.specs.Prelude.{◌≡◌, true, IfOk};
 
+use crate::control_actions::Scope;
+use crate::control_actions::actions::{Action, NO_INSTANCE};
 use crate::control_contexts::{Attempt, Context, copy_tunnels};
-use crate::control_says::At;
-use crate::control_says::says::{NO_INSTANCE, Say};
 use gnb_types::items::Memory;
 use gnb_types::names::NodeId;
 use gnb_types::plans::{Peer, TunnelList};
 use message_types::{CoreMessage, E1Message, F1};
 use unit_messages::Message;
 
-pub fn bearer_setup<C>(at: &At<'_, C>, context: &Context, forward: bool) -> Say
-    ensures { result ≡ Say.Ask (NodeId.CuUp at.now.gnb context.now.up)
+pub fn bearer_setup<C>(at: &Scope<'_, C>, context: &Context, forward: bool) -> Action
+    ensures { result ≡ Action.Ask (NodeId.CuUp at.now.gnb context.now.up)
         (Message.E1 (E1Message.BearerContextSetupRequest at.now.ue 0 context.now.bearers
         context.now.sn context.now.quota forward)) None true }
 {
-    Say::Ask {
+    Action::Ask {
         to: NodeId::CuUp(at.gnb, context.up),
         message: Message::E1(E1Message::BearerContextSetupRequest {
             ue: at.ue,
@@ -32,17 +32,17 @@ pub fn bearer_setup<C>(at: &At<'_, C>, context: &Context, forward: bool) -> Say
 }
 
 pub fn du_setup<C>(
-    at: &At<'_, C>,
+    at: &Scope<'_, C>,
     context: &Context,
     du: u8,
     epoch: u32,
     uplinks: TunnelList,
-) -> Say
-    ensures { result ≡ Say.Ask (NodeId.Du at.now.gnb du)
+) -> Action
+    ensures { result ≡ Action.Ask (NodeId.Du at.now.gnb du)
         (Message.F1 (F1.UeContextSetupRequest at.now.ue 0 epoch uplinks context.now.sn
         (record { gnb = at.now.gnb; up = context.now.up }))) None true }
 {
-    Say::Ask {
+    Action::Ask {
         to: NodeId::Du(at.gnb, du),
         message: Message::F1(F1::UeContextSetupRequest {
             ue: at.ue,
@@ -60,11 +60,11 @@ pub fn du_setup<C>(
     }
 }
 
-pub fn du_modify<C>(at: &At<'_, C>, du: u8, epoch: u32) -> Say
-    ensures { result ≡ Say.Ask (NodeId.Du at.now.gnb du)
+pub fn du_modify<C>(at: &Scope<'_, C>, du: u8, epoch: u32) -> Action
+    ensures { result ≡ Action.Ask (NodeId.Du at.now.gnb du)
         (Message.F1 (F1.UeContextModificationRequest at.now.ue 0 epoch)) None true }
 {
-    Say::Ask {
+    Action::Ask {
         to: NodeId::Du(at.gnb, du),
         message: Message::F1(F1::UeContextModificationRequest {
             ue: at.ue,
@@ -77,13 +77,17 @@ pub fn du_modify<C>(at: &At<'_, C>, du: u8, epoch: u32) -> Say
 }
 
 /// The path from the core is to end at the CU-UP of this context, with the tunnels of the attempt.
-pub fn path_switch<C>(at: &At<'_, C>, context: &Context, attempt: &Attempt) -> Result<Say, Memory>
-    ensures { IfOk result (λ say. say ≡ Say.Ask NodeId.Core
+pub fn path_switch<C>(
+    at: &Scope<'_, C>,
+    context: &Context,
+    attempt: &Attempt,
+) -> Result<Action, Memory>
+    ensures { IfOk result (λ say. say ≡ Action.Ask NodeId.Core
         (Message.Core (CoreMessage.PathSwitchRequest at.now.ue 0
         (record { gnb = at.now.gnb; up = context.now.up }) attempt.now.n3)) None true) }
 {
     let n3 = copy_tunnels(at.alloc, &attempt.n3)?;
-    Ok(Say::Ask {
+    Ok(Action::Ask {
         to: NodeId::Core,
         message: Message::Core(CoreMessage::PathSwitchRequest {
             ue: at.ue,

@@ -4,7 +4,7 @@ use Rattle.std.proofs.lemmas.Bool.Decides.{nat_tests}
 use Rattle.std.proofs.lemmas.List.{append-nil}
 use Rattle.std.proofs.Math.Seq.{drop-cons}
 use Rattle.gnb_types.specs.declared.names.BearerId.{BearerId}
-use Rattle.unit_defs.specs.CpRecords.{bearer_list}
+use Rattle.unit_defs.specs.CuCpRecords.{bearer_list}
 use Rattle.unit_defs.specs.Messages.{are_bearers}
 
 abbrev pub bearer : ℕ → BearerId

@@ -1,15 +1,15 @@
 //! An attach (TS 38.401, 8.1): the bearers get their tunnels, then the DU gets the context.
 
 ghost use Rattle.std.specs.Prelude.{◌≡◌, [], ◌∷◌, ◌&&◌, map, IfOk};
-ghost use Rattle.unit_defs.specs.CpRecords.{has_unit};
-ghost use Rattle.unit_defs.specs.CpRows.{own_up, own_du, say_command, attach_context as attach_context_of, attach, attach_begins, attach_has_tunnels, attach_is_placed, attach_fails};
+ghost use Rattle.unit_defs.specs.CuCpRecords.{has_unit};
+ghost use Rattle.unit_defs.specs.CuCpRows.{own_up, own_du, command_action, attach_context as attach_context_of, attach, attach_begins, attach_has_tunnels, attach_is_placed, attach_fails};
 ghost use Rattle.unit_defs.specs.octet_defs.Codec.{octet_way};
-ghost use Rattle.cu_cp_records.specs.control_says.Rows.{say_as, RowGives};
+ghost use Rattle.cu_cp_records.specs.control_actions.Rows.{action_as, RowGives};
 
+use cu_cp_records::control_actions::actions::{Action, Actions};
+use cu_cp_records::control_actions::{Row, Scope, command_action};
 use cu_cp_records::control_contexts::{Attempt, Context, Terminal, has_node};
 use cu_cp_records::control_requests::{bearer_setup, du_setup};
-use cu_cp_records::control_says::says::{Say, Says};
-use cu_cp_records::control_says::{At, Row, say_command};
 use gnb_types::items::{Items, Memory};
 use gnb_types::names::NodeId;
 use gnb_types::plans::{Plan, TunnelList};
@@ -23,9 +23,9 @@ use unit_messages::steps::StepError;
 const FIRST: u32 = 1;
 
 /// A terminal asks for service: it has no context, and its units are set up.
-#[tactic(auto, unfolding(unit_defs::specs::CpRows::attach))]
+#[tactic(auto, unfolding(unit_defs::specs::CuCpRows::attach))]
 pub fn attach<C: MessageCodec>(
-    at: &At<'_, C>,
+    at: &Scope<'_, C>,
     plan: Plan,
     terminal: &Terminal,
 ) -> Result<Row, StepError>
@@ -38,7 +38,7 @@ pub fn attach<C: MessageCodec>(
 }
 
 /// Whether the units of a place are set up.
-fn has_units<C>(at: &At<'_, C>, up: u8, du: u8) -> bool
+fn has_units<C>(at: &Scope<'_, C>, up: u8, du: u8) -> bool
     ensures { result
         ≡ (has_unit at.now.units (own_up at.now up) && has_unit at.now.units (own_du at.now du)) }
 {
@@ -46,7 +46,7 @@ fn has_units<C>(at: &At<'_, C>, up: u8, du: u8) -> bool
 }
 
 fn attach_begins<C: MessageCodec>(
-    at: &At<'_, C>,
+    at: &Scope<'_, C>,
     plan: Plan,
     terminal: &Terminal,
 ) -> Result<Row, StepError>
@@ -56,13 +56,13 @@ fn attach_begins<C: MessageCodec>(
         return Row::refuses(at, terminal, RefuseReason::NotStarted);
     }
     let context = attach_context(at, plan);
-    let says = Items::one(at.alloc, bearer_setup(at, &context, false));
-    let (says, context) = beside(says, context)?;
-    Ok(Row::keeps(terminal, says, context))
+    let actions = Items::one(at.alloc, bearer_setup(at, &context, false));
+    let (actions, context) = beside(actions, context)?;
+    Ok(Row::keeps(terminal, actions, context))
 }
 
 /// The context of an attach: no epoch was accepted yet.
-fn attach_context<C: MessageCodec>(at: &At<'_, C>, plan: Plan) -> Context
+fn attach_context<C: MessageCodec>(at: &Scope<'_, C>, plan: Plan) -> Context
     ensures { result ≡ attach_context_of (octet_way C.codec) plan }
 {
     let attempt = Attempt::new(
@@ -87,9 +87,9 @@ fn attach_context<C: MessageCodec>(at: &At<'_, C>, plan: Plan) -> Context
 }
 
 /// Its tunnels are there: the DU gets the context of epoch 1.
-#[tactic(auto, unfolding(unit_defs::specs::CpRows::attach_has_tunnels))]
+#[tactic(auto, unfolding(unit_defs::specs::CuCpRows::attach_has_tunnels))]
 pub fn attach_has_tunnels<C: MessageCodec>(
-    at: &At<'_, C>,
+    at: &Scope<'_, C>,
     uplinks: TunnelList,
     n3: TunnelList,
     terminal: &Terminal,
@@ -101,29 +101,29 @@ pub fn attach_has_tunnels<C: MessageCodec>(
         result }
 {
     attempt.n3 = n3;
-    let says = Items::one(at.alloc, du_setup(at, context, context.du, FIRST, uplinks));
-    let (says, attempt) = beside(says, attempt)?;
+    let actions = Items::one(at.alloc, du_setup(at, context, context.du, FIRST, uplinks));
+    let (actions, attempt) = beside(actions, attempt)?;
     let context = context.attempted(StateName::Attaching, attempt);
-    Ok(Row::keeps(terminal, says, context))
+    Ok(Row::keeps(terminal, actions, context))
 }
 
 /// The command of an attempt, and nothing else.
 pub(crate) fn only_command<C: MessageCodec>(
-    at: &At<'_, C>,
+    at: &Scope<'_, C>,
     context: &Context,
     attempt: &Attempt,
-) -> Result<Says, Memory>
-    ensures { IfOk result (λ says. map say_as says
-        ≡ say_command (octet_way C.codec) at.now context.now attempt.now ∷ []) }
+) -> Result<Actions, Memory>
+    ensures { IfOk result (λ actions. map action_as actions
+        ≡ command_action (octet_way C.codec) at.now context.now attempt.now ∷ []) }
 {
-    let command = say_command(at, context, attempt)?;
+    let command = command_action(at, context, attempt)?;
     Items::one(at.alloc, command)
 }
 
 /// The DU is ready: the command.
-#[tactic(auto, unfolding(unit_defs::specs::CpRows::attach_is_placed))]
+#[tactic(auto, unfolding(unit_defs::specs::CuCpRows::attach_is_placed))]
 pub fn attach_is_placed<C: MessageCodec>(
-    at: &At<'_, C>,
+    at: &Scope<'_, C>,
     downlinks: TunnelList,
     terminal: &Terminal,
     context: &Context,
@@ -134,20 +134,20 @@ pub fn attach_is_placed<C: MessageCodec>(
         result }
 {
     attempt.downlinks = downlinks;
-    let (says, attempt) = beside(only_command(at, context, &attempt), attempt)?;
+    let (actions, attempt) = beside(only_command(at, context, &attempt), attempt)?;
     let context = context.attempted(StateName::Commanded, attempt);
-    Ok(Row::keeps(terminal, says, context))
+    Ok(Row::keeps(terminal, actions, context))
 }
 
 /// The CU-UP could not set up the bearers.
-#[tactic(auto, unfolding(unit_defs::specs::CpRows::attach_fails))]
+#[tactic(auto, unfolding(unit_defs::specs::CuCpRows::attach_fails))]
 pub fn attach_fails<C: MessageCodec>(
-    at: &At<'_, C>,
+    at: &Scope<'_, C>,
     cause: CauseName,
     terminal: &Terminal,
 ) -> Result<Row, StepError>
     ensures { RowGives (attach_fails (octet_way C.codec) cause terminal.now) result }
 {
-    let says = Items::one(at.alloc, Say::Fail(cause))?;
-    Ok(Row::gives_up(terminal, says))
+    let actions = Items::one(at.alloc, Action::Fail(cause))?;
+    Ok(Row::gives_up(terminal, actions))
 }

@@ -1,14 +1,14 @@
 //! A handover between own DUs (TS 38.401, 8.2.1).
 
 ghost use Rattle.std.specs.Prelude.{◌≡◌};
-ghost use Rattle.unit_defs.specs.CpRows.{move_begins, move_has_uplinks, move_is_placed};
+ghost use Rattle.unit_defs.specs.CuCpRows.{move_begins, move_has_uplinks, move_is_placed};
 ghost use Rattle.unit_defs.specs.octet_defs.Codec.{octet_way};
-ghost use Rattle.cu_cp_records.specs.control_says.Rows.{RowGives};
+ghost use Rattle.cu_cp_records.specs.control_actions.Rows.{RowGives};
 
+use cu_cp_records::control_actions::actions::EPOCHS;
+use cu_cp_records::control_actions::{Row, Scope};
 use cu_cp_records::control_contexts::{Attempt, Context, Terminal};
-use cu_cp_records::control_requests::{du_setup, say_uplinks};
-use cu_cp_records::control_says::says::EPOCHS;
-use cu_cp_records::control_says::{At, Row};
+use cu_cp_records::control_requests::{du_setup, uplinks_action};
 use gnb_types::items::Items;
 use gnb_types::plans::{Plan, TunnelList};
 use gnb_types::results::beside;
@@ -17,9 +17,9 @@ use unit_messages::MessageCodec;
 use unit_messages::steps::StepError;
 
 /// It begins with further uplinks. The epoch is the one that was accepted last.
-#[tactic(auto, unfolding(unit_defs::specs::CpRows::move_begins))]
+#[tactic(auto, unfolding(unit_defs::specs::CuCpRows::move_begins))]
 pub fn move_begins<C: MessageCodec>(
-    at: &At<'_, C>,
+    at: &Scope<'_, C>,
     goal: Plan,
     epoch: u32,
     terminal: &Terminal,
@@ -28,17 +28,17 @@ pub fn move_begins<C: MessageCodec>(
     ensures { RowGives
         (move_begins (octet_way C.codec) at.now goal epoch terminal.now context.now) result }
 {
-    let says = Items::one(at.alloc, say_uplinks(at, context))?;
+    let actions = Items::one(at.alloc, uplinks_action(at, context))?;
     let next = u64::from(epoch) + 1;
     let attempt = Attempt::new(at.alloc, AttemptKind::BetweenDus, next, context.up, goal.du);
     let context = context.attempted(StateName::Preparing, attempt);
-    Ok(Row::keeps(terminal, says, context))
+    Ok(Row::keeps(terminal, actions, context))
 }
 
 /// Its uplinks are there: the target DU gets the context. Past the last epoch the counter is spent.
-#[tactic(auto, unfolding(unit_defs::specs::CpRows::move_has_uplinks))]
+#[tactic(auto, unfolding(unit_defs::specs::CuCpRows::move_has_uplinks))]
 pub fn move_has_uplinks<C: MessageCodec>(
-    at: &At<'_, C>,
+    at: &Scope<'_, C>,
     uplinks: TunnelList,
     terminal: &Terminal,
     context: &Context,
@@ -53,16 +53,16 @@ pub fn move_has_uplinks<C: MessageCodec>(
         return Err(StepError::Spent { counter: EPOCHS });
     }
     let epoch = attempt.epoch as u32;
-    let says = Items::one(at.alloc, du_setup(at, context, attempt.du, epoch, uplinks));
-    let (says, attempt) = beside(says, attempt)?;
+    let actions = Items::one(at.alloc, du_setup(at, context, attempt.du, epoch, uplinks));
+    let (actions, attempt) = beside(actions, attempt)?;
     let context = context.attempted(StateName::Preparing, attempt);
-    Ok(Row::keeps(terminal, says, context))
+    Ok(Row::keeps(terminal, actions, context))
 }
 
 /// The target DU is ready. Nothing was frozen, but the next step is the same.
-#[tactic(auto, unfolding(unit_defs::specs::CpRows::move_is_placed))]
+#[tactic(auto, unfolding(unit_defs::specs::CuCpRows::move_is_placed))]
 pub fn move_is_placed<C: MessageCodec>(
-    at: &At<'_, C>,
+    at: &Scope<'_, C>,
     downlinks: TunnelList,
     terminal: &Terminal,
     context: &Context,

@@ -2,8 +2,8 @@
 
 ghost use Rattle.std.specs.Prelude.{◌≡◌, IfOk};
 ghost use Rattle.unit_defs.specs.Messages.{are_bearers, statuses_of};
-ghost use Rattle.unit_defs.specs.CpRecords.{bearers_in};
-ghost use Rattle.unit_defs.specs.CpRows.{name_bearers};
+ghost use Rattle.unit_defs.specs.CuCpRecords.{bearers_in};
+ghost use Rattle.unit_defs.specs.CuCpRows.{name_bearers};
 
 use cu_cp_records::control_contexts::Context;
 use gnb_types::items::{Items, Memory};

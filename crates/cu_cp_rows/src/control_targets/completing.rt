@@ -1,16 +1,16 @@
 //! Tokens of a terminal by which it arrives at the target of an attach or of a handover between own DUs.
 
 ghost use Rattle.std.specs.Prelude.{◌≡◌, ◌∷◌, map, Some, false, IfOk};
-ghost use Rattle.unit_defs.specs.CpRecords.{attempted};
-ghost use Rattle.unit_defs.specs.CpRows.{leave_old, leave_old_again, opens_path, say_switch, completes, completes_again};
+ghost use Rattle.unit_defs.specs.CuCpRecords.{attempted};
+ghost use Rattle.unit_defs.specs.CuCpRows.{leave_old, leave_old_again, opens_path, switch_action, completes, completes_again};
 ghost use Rattle.unit_defs.specs.octet_defs.Codec.{octet_way};
-ghost use Rattle.cu_cp_records.specs.control_says.Rows.{say_as, RowGives};
+ghost use Rattle.cu_cp_records.specs.control_actions.Rows.{action_as, RowGives};
 
-use crate::control_targets::arriving::took;
+use crate::control_targets::returning::took;
+use cu_cp_records::control_actions::actions::{Action, Actions};
+use cu_cp_records::control_actions::{Row, Scope, two, with_first};
 use cu_cp_records::control_contexts::{Attempt, Context, Terminal, copy_tunnels};
-use cu_cp_records::control_requests::{du_modify, du_release, path_switch, say_switch};
-use cu_cp_records::control_says::says::{Say, Says};
-use cu_cp_records::control_says::{At, Row, two, with_first};
+use cu_cp_records::control_requests::{du_modify, du_release, path_switch, switch_action};
 use gnb_types::items::{Items, Memory};
 use gnb_types::plans::TunnelList;
 use gnb_types::results::beside;
@@ -19,7 +19,7 @@ use unit_messages::MessageCodec;
 use unit_messages::steps::StepError;
 
 /// Whether an attempt opens the path from the core.
-fn opens_path<C: MessageCodec>(_at: &At<'_, C>, kind: AttemptKind) -> bool
+fn opens_path<C: MessageCodec>(_at: &Scope<'_, C>, kind: AttemptKind) -> bool
     ensures { result ≡ opens_path (octet_way C.codec) kind }
 {
     match kind {
@@ -33,12 +33,12 @@ fn opens_path<C: MessageCodec>(_at: &At<'_, C>, kind: AttemptKind) -> bool
 
 /// An attach opens the path from the core; in a handover the old DU lets go.
 fn leave_old<C: MessageCodec>(
-    at: &At<'_, C>,
+    at: &Scope<'_, C>,
     old: &Context,
     epoch: u32,
     attempt: &Attempt,
-) -> Result<Says, Memory>
-    ensures { IfOk result (λ says. map say_as says
+) -> Result<Actions, Memory>
+    ensures { IfOk result (λ actions. map action_as actions
         ≡ leave_old (octet_way C.codec) at.now old.now
         (record old.now { du = attempt.now.du; epoch = Some epoch; finished = false }) attempt.now
         attempt.now.kind) }
@@ -57,28 +57,28 @@ fn leave_old<C: MessageCodec>(
 
 /// The switch of the bearers to this DU.
 fn say_switch_to<C: MessageCodec>(
-    at: &At<'_, C>,
+    at: &Scope<'_, C>,
     old: &Context,
     du: u8,
     downlinks: TunnelList,
-) -> Say
-    ensures { say_as result
-        ≡ say_switch (octet_way C.codec) at.now (record old.now { du = du }) downlinks }
+) -> Action
+    ensures { action_as result
+        ≡ switch_action (octet_way C.codec) at.now (record old.now { du = du }) downlinks }
 {
     let mut there = old.serving();
     there.du = du;
-    say_switch(at, &there, downlinks)
+    switch_action(at, &there, downlinks)
 }
 
 /// The bearers are switched to the DU of the attempt, and the old one lets go.
 fn says_of_completion<C: MessageCodec>(
-    at: &At<'_, C>,
+    at: &Scope<'_, C>,
     old: &Context,
     epoch: u32,
     attempt: &Attempt,
-) -> Result<Says, Memory>
-    ensures { IfOk result (λ says. map say_as says
-        ≡ say_switch (octet_way C.codec) at.now (record old.now { du = attempt.now.du })
+) -> Result<Actions, Memory>
+    ensures { IfOk result (λ actions. map action_as actions
+        ≡ switch_action (octet_way C.codec) at.now (record old.now { du = attempt.now.du })
         attempt.now.downlinks
         ∷ leave_old (octet_way C.codec) at.now old.now
         (record old.now { du = attempt.now.du; epoch = Some epoch; finished = false }) attempt.now
@@ -104,9 +104,9 @@ fn moved(old: &Context, state: StateName, attempt: Attempt) -> Context
 }
 
 /// It arrived: the bearers are switched, and the old DU lets go.
-#[tactic(auto, unfolding(unit_defs::specs::CpRows::completes))]
+#[tactic(auto, unfolding(unit_defs::specs::CuCpRows::completes))]
 pub fn completes<C: MessageCodec>(
-    at: &At<'_, C>,
+    at: &Scope<'_, C>,
     epoch: u32,
     terminal: &Terminal,
     context: &Context,
@@ -115,22 +115,22 @@ pub fn completes<C: MessageCodec>(
     ensures { RowGives
         (completes (octet_way C.codec) at.now epoch terminal.now context.now attempt) result }
 {
-    let says = says_of_completion(at, context, epoch, &attempt);
-    let (says, mut attempt) = beside(says, attempt)?;
+    let actions = says_of_completion(at, context, epoch, &attempt);
+    let (actions, mut attempt) = beside(actions, attempt)?;
     attempt.path_open = opens_path(at, attempt.kind);
     let mut there = moved(context, StateName::Completing, attempt);
     there.epoch = Some(epoch);
     there.finished = false;
-    Ok(took(at, terminal, epoch, says, there))
+    Ok(took(at, terminal, epoch, actions, there))
 }
 
 fn leave_old_again<C: MessageCodec>(
-    at: &At<'_, C>,
+    at: &Scope<'_, C>,
     old: &Context,
     epoch: u32,
     attempt: &Attempt,
-) -> Result<Says, Memory>
-    ensures { IfOk result (λ says. map say_as says
+) -> Result<Actions, Memory>
+    ensures { IfOk result (λ actions. map action_as actions
         ≡ leave_old_again (octet_way C.codec) at.now old.now
         (record old.now { du = attempt.now.du }) attempt.now attempt.now.kind epoch) }
 {
@@ -151,9 +151,9 @@ fn leave_old_again<C: MessageCodec>(
 }
 
 /// It arrived there, and lost its radio before that was known.
-#[tactic(auto, unfolding(unit_defs::specs::CpRows::completes_again))]
+#[tactic(auto, unfolding(unit_defs::specs::CuCpRows::completes_again))]
 pub fn completes_again<C: MessageCodec>(
-    at: &At<'_, C>,
+    at: &Scope<'_, C>,
     epoch: u32,
     terminal: &Terminal,
     context: &Context,
@@ -163,15 +163,15 @@ pub fn completes_again<C: MessageCodec>(
         (completes_again (octet_way C.codec) at.now epoch terminal.now context.now attempt)
         result }
 {
-    let says = leave_old_again(at, context, epoch, &attempt);
-    let (says, mut attempt) = beside(says, attempt)?;
+    let actions = leave_old_again(at, context, epoch, &attempt);
+    let (actions, mut attempt) = beside(actions, attempt)?;
     attempt.epoch = u64::from(epoch);
     attempt.path_open = opens_path(at, attempt.kind);
     Ok(took(
         at,
         terminal,
         epoch,
-        says,
+        actions,
         moved(context, StateName::Returning, attempt),
     ))
 }

@@ -1,17 +1,19 @@
 //! What the source of a handover says to its target after the offer (TS 38.423, 8.2.2, 8.2.3): the SN status, or that it is cancelled.
 
 ghost use Rattle.std.specs.Prelude.{◌≡◌, ◌&&◌, ◌++◌, [], ◌∷◌, map, true, false, Some, IfOk};
-ghost use Rattle.unit_defs.specs.CpRows.{takes_status, status, status_on, du_release_if, up_release as up_release_of, is_cancellable, offer_cancelled, xn_cancelled, xn_cancelled_of};
-ghost use Rattle.unit_defs.specs.CpRecords.{bearers_in};
+ghost use Rattle.unit_defs.specs.CuCpRows.{takes_status, status, status_on, du_release_if, cu_up_release as up_release_of, is_cancellable, offer_cancelled, xn_cancelled, xn_cancelled_of};
+ghost use Rattle.unit_defs.specs.CuCpRecords.{bearers_in};
 ghost use Rattle.unit_defs.specs.Messages.{are_bearers, statuses_of};
 ghost use Rattle.unit_defs.specs.octet_defs.Codec.{octet_way};
-ghost use Rattle.cu_cp_records.specs.control_says.Rows.{say_as, RowGives};
+ghost use Rattle.cu_cp_records.specs.control_actions.Rows.{action_as, RowGives};
 
 use crate::control_targets::bearers::statuses_name_bearers;
+use cu_cp_records::control_actions::actions::{Action, Actions};
+use cu_cp_records::control_actions::{Row, Scope, two, with_first};
 use cu_cp_records::control_contexts::{Attempt, Context, Terminal};
-use cu_cp_records::control_requests::{du_release, say_status, transport_confirm, up_release};
-use cu_cp_records::control_says::says::{Say, Says};
-use cu_cp_records::control_says::{At, Row, two, with_first};
+use cu_cp_records::control_requests::{
+    cu_up_release, du_release, status_action, transport_confirm,
+};
 use gnb_types::items::{Items, Memory};
 use gnb_types::names::NodeId;
 use gnb_types::plans::StatusList;
@@ -23,7 +25,7 @@ use unit_messages::steps::StepError;
 // ---- the SN status
 
 /// Whether a context is that of a target that is ready, or later.
-fn takes_status<C: MessageCodec>(_at: &At<'_, C>, context: &Context) -> bool
+fn takes_status<C: MessageCodec>(_at: &Scope<'_, C>, context: &Context) -> bool
     ensures { result ≡ takes_status (octet_way C.codec) context.now }
 {
     if !context.by_xn {
@@ -46,9 +48,9 @@ fn takes_status<C: MessageCodec>(_at: &At<'_, C>, context: &Context) -> bool
 }
 
 /// The SN status goes to the CU-UP of a target that is ready, or later.
-#[tactic(auto, unfolding(unit_defs::specs::CpRows::status))]
+#[tactic(auto, unfolding(unit_defs::specs::CuCpRows::status))]
 pub fn status<C: MessageCodec>(
-    at: &At<'_, C>,
+    at: &Scope<'_, C>,
     from: NodeId,
     instance: u32,
     statuses: StatusList,
@@ -65,7 +67,7 @@ pub fn status<C: MessageCodec>(
 
 /// Whether a context takes these statuses: they name its bearers.
 fn takes_these<C: MessageCodec>(
-    at: &At<'_, C>,
+    at: &Scope<'_, C>,
     context: &Context,
     statuses: &StatusList,
 ) -> Result<bool, Memory>
@@ -76,7 +78,7 @@ fn takes_these<C: MessageCodec>(
 }
 
 fn status_of<C: MessageCodec>(
-    at: &At<'_, C>,
+    at: &Scope<'_, C>,
     from: NodeId,
     instance: u32,
     statuses: StatusList,
@@ -91,15 +93,15 @@ fn status_of<C: MessageCodec>(
         return Row::ignores(at, terminal, DropReason::Unexpected);
     }
     let confirm = transport_confirm(at, from, instance);
-    let says = two(at.alloc, confirm, say_status(at, context, statuses))?;
-    let row = Row::stays(at.alloc, terminal, says)?;
+    let actions = two(at.alloc, confirm, status_action(at, context, statuses))?;
+    let row = Row::stays(at.alloc, terminal, actions)?;
     Ok(row)
 }
 
 // ---- a cancel
 
 /// Whether the target of a handover still awaits the terminal.
-fn is_cancellable<C: MessageCodec>(_at: &At<'_, C>, state: StateName) -> bool
+fn is_cancellable<C: MessageCodec>(_at: &Scope<'_, C>, state: StateName) -> bool
     ensures { result ≡ is_cancellable (octet_way C.codec) state }
 {
     match state {
@@ -119,15 +121,15 @@ fn is_cancellable<C: MessageCodec>(_at: &At<'_, C>, state: StateName) -> bool
 
 /// The units that an offer has begun are released for good: the DU, where it was asked, and the CU-UP.
 fn releases_of_offer<C: MessageCodec>(
-    at: &At<'_, C>,
+    at: &Scope<'_, C>,
     context: &Context,
     du_begun: bool,
-) -> Result<Says, Memory>
-    ensures { IfOk result (λ says. map say_as says
+) -> Result<Actions, Memory>
+    ensures { IfOk result (λ actions. map action_as actions
         ≡ du_release_if (octet_way C.codec) at.now context.now du_begun
         ++ up_release_of (octet_way C.codec) at.now context.now.up true false ∷ []) }
 {
-    let of_up = up_release(at, context.up, true, false);
+    let of_up = cu_up_release(at, context.up, true, false);
     if du_begun {
         return two(at.alloc, du_release(at, context.du, false), of_up);
     }
@@ -135,7 +137,7 @@ fn releases_of_offer<C: MessageCodec>(
 }
 
 fn offer_cancelled<C: MessageCodec>(
-    at: &At<'_, C>,
+    at: &Scope<'_, C>,
     from: NodeId,
     instance: u32,
     terminal: &Terminal,
@@ -148,14 +150,14 @@ fn offer_cancelled<C: MessageCodec>(
 {
     let releases = releases_of_offer(at, context, attempt.du_begun)?;
     let confirmed = with_first(at.alloc, transport_confirm(at, from, instance), releases)?;
-    let says = with_first(at.alloc, Say::Forget, confirmed)?;
-    Ok(Row::gives_up(terminal, says))
+    let actions = with_first(at.alloc, Action::Forget, confirmed)?;
+    Ok(Row::gives_up(terminal, actions))
 }
 
 /// The source cancels: the units that were begun are released; in any other state it is only confirmed.
-#[tactic(auto, unfolding(unit_defs::specs::CpRows::xn_cancelled))]
+#[tactic(auto, unfolding(unit_defs::specs::CuCpRows::xn_cancelled))]
 pub fn xn_cancelled<C: MessageCodec>(
-    at: &At<'_, C>,
+    at: &Scope<'_, C>,
     from: NodeId,
     instance: u32,
     terminal: &Terminal,
@@ -170,7 +172,7 @@ pub fn xn_cancelled<C: MessageCodec>(
 }
 
 fn xn_cancelled_of<C: MessageCodec>(
-    at: &At<'_, C>,
+    at: &Scope<'_, C>,
     from: NodeId,
     instance: u32,
     terminal: &Terminal,

@@ -6,23 +6,23 @@ use Rattle.gnb_types.specs.declared.outputs.Output.{Output}
 use Rattle.gnb_types.specs.declared.outputs.Output.TheVariants as outs
 use Rattle.pdcp_defs.specs.Receivers.{Receiver, Delivery, deliver as handed_up, deliver_from, with_packet}
 use Rattle.unit_defs.specs.Ways.{gives}
-use Rattle.unit_defs.specs.UpRecords.{UpBearer}
-use Rattle.unit_defs.specs.UpBearers.{delivered, deliver_stored}
+use Rattle.unit_defs.specs.CuUpRecords.{CuUpBearer}
+use Rattle.unit_defs.specs.CuUpBearers.{delivered, deliver_stored}
 use Rattle.unit_defs.specs.octet_defs.Codec.{Codec, octet_way}
 use Rattle.unit_defs.specs.octet_defs.Units.{OctetAnswer}
 use Rattle.unit_defs.specs.octet_defs.Writing.{outputs_of}
 use Rattle.unit_messages.specs.steps.Steps.{stepped, step_after}
-use Rattle.pdcp_bearers.specs.declared.ue_bearers.downlink.Delivered.{Delivered}
-use Rattle.pdcp_bearers.specs.ue_bearers.Downlinks.{DownlinkState, IsDelivered}
-use Rattle.cu_up_bearer.specs.declared.tunnels.at.At.{At}
+use Rattle.pdcp_bearers.specs.declared.ue_bearers.receiver.Delivered.{Delivered}
+use Rattle.pdcp_bearers.specs.ue_bearers.Receivers.{ReceiverState, IsDelivered}
+use Rattle.cu_up_bearer.specs.declared.tunnels.at.Scope.{Scope}
 use Rattle.cu_up_bearer.specs.tunnels.Tunnels.{at_as}
 use Rattle.cu_up_bearer.specs.bearers.Bearers.{with_receiver}
 
-module _ (codec : Codec) (a : At) (b : UpBearer) where
-  abbrev pub handing : Delivery (List ℕ) → OctetAnswer UpBearer
+module _ (codec : Codec) (a : Scope) (b : CuUpBearer) where
+  abbrev pub handing : Delivery (List ℕ) → OctetAnswer CuUpBearer
   handing d = gives (delivered (octet_way codec) (at_as a) d.packets) (record b { receiver = d.after })
 
-  pub delivers : (d : DownlinkState) → deliver_stored (octet_way codec) (at_as a) (with_receiver b d) ≡ handing (handed_up d.receiver)
+  pub delivers : (d : ReceiverState) → deliver_stored (octet_way codec) (at_as a) (with_receiver b d) ≡ handing (handed_up d.receiver)
   unfolding deliver_stored
   delivers d = refl
 
@@ -33,19 +33,19 @@ module _ (codec : Codec) (a : At) (b : UpBearer) where
       ∙ ap (λ (os : List Output). stepped os (record b { receiver = e.after }))
       (sym (append_assoc before (outs.Deliver a.ue a.bearer Ul count packet ∷ []) (outputs_of (delivered (octet_way codec) (at_as a) e.packets))))
 
-  pub delivers_none : (before : List Output) (r : DownlinkState) (d : Delivery (List ℕ)) → d ≡ record { packets = []; after = r.receiver }
+  pub delivers_none : (before : List Output) (r : ReceiverState) (d : Delivery (List ℕ)) → d ≡ record { packets = []; after = r.receiver }
       → step_after before (handing d) ≡ stepped before (with_receiver b r)
   delivers_none before r d is =
       ap (λ (x : Delivery (List ℕ)). step_after before (handing x)) is ∙ ap (λ (os : List Output). stepped os (with_receiver b r)) (append-nil before)
 
 -- ---- what the entity says of an answer that came
 
-pub delivered_facts : (old new : DownlinkState) (o : Option Delivered) (d : Delivered) → IsDelivered old new o → o ≡ Some d
+pub delivered_facts : (old new : ReceiverState) (o : Option Delivered) (d : Delivered) → IsDelivered old new o → o ≡ Some d
     → (new ≡ record old { receiver = new.receiver }) × (handed_up old.receiver ≡ with_packet (d.count, d.packet) (handed_up new.receiver))
     × (length new.receiver.stored < length old.receiver.stored)
 delivered_facts old new o d says is = subst (λ (x : Option Delivered). IsDelivered old new x) is says
 
-pub not_delivered : (old new : DownlinkState) (o : Option Delivered) → IsDelivered old new o → o ≡ None
+pub not_delivered : (old new : ReceiverState) (o : Option Delivered) → IsDelivered old new o → o ≡ None
     → (new ≡ old) × (handed_up old.receiver ≡ record { packets = []; after = old.receiver })
 not_delivered old new o says is = subst (λ (x : Option Delivered). IsDelivered old new x) is says
 

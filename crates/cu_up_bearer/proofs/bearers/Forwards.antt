@@ -8,26 +8,26 @@ use Rattle.gnb_types.specs.declared.outputs.Output.TheVariants as outs
 use Rattle.gnb_types.specs.declared.outputs.Tag.TheVariants.{Absent, Own}
 use Rattle.link_defs.specs.Layouts.{forwarded_numbered, forwarded_fresh}
 use Rattle.unit_defs.specs.Ways.{fresh, numbered, packet, ◌then◌, with_outputs}
-use Rattle.unit_defs.specs.UpRecords.{SourceHop, UpBearer}
-use Rattle.unit_defs.specs.UpBearers.{forward_numbered, forward_fresh, forward_late, forwarded_down, forwarded_up, put_down, put_up}
+use Rattle.unit_defs.specs.CuUpRecords.{SourceHop, CuUpBearer}
+use Rattle.unit_defs.specs.CuUpBearers.{forward_numbered, forward_fresh, forward_late, forwarded_down, forwarded_up, put_down, put_up}
 use Rattle.unit_defs.specs.octet_defs.Codec.{Codec, octet_way}
 use Rattle.unit_defs.specs.octet_defs.Units.{OctetAnswer}
 use Rattle.unit_defs.specs.octet_defs.Writing.{output_of}
 use Rattle.unit_messages.specs.steps.Steps.{stepped, step_after}
 use Rattle.unit_messages.proofs.steps.StepLaws.{OctetPut, step_with}
-use Rattle.pdcp_bearers.specs.ue_bearers.Uplinks.{from_on, IsPacket}
-use Rattle.cu_up_bearer.specs.declared.tunnels.at.At.{At}
+use Rattle.pdcp_bearers.specs.ue_bearers.Senders.{from_on, IsPacket}
+use Rattle.cu_up_bearer.specs.declared.tunnels.at.Scope.{Scope}
 use Rattle.cu_up_bearer.specs.declared.tunnels.hop.Hop.{Hop}
 use Rattle.cu_up_bearer.specs.tunnels.Tunnels.{at_as, hop_as, hop_teid}
 
-one_more : (start : List Output) (o : OctetPut) (more : OctetAnswer UpBearer) (b : UpBearer) (outputs : List Output)
+one_more : (start : List Output) (o : OctetPut) (more : OctetAnswer CuUpBearer) (b : CuUpBearer) (outputs : List Output)
     → ((before : List Output) → step_after before more ≡ stepped (before ++ outputs) b)
     → step_after start (with_outputs (o ∷ []) more) ≡ stepped (start ++ output_of o ∷ outputs) b
 one_more start o more b outputs is =
     step_with start (o ∷ []) more ∙ is (start ++ output_of o ∷ [])
     ∙ ap (λ (os : List Output). stepped os b) (append_assoc start (output_of o ∷ []) outputs)
 
-module _ (a : At) (h : Hop) where
+module _ (a : Scope) (h : Hop) where
   -- a packet on the hop, with its COUNT or without one
   abbrev pub counted_output : Dir → ℕ × List ℕ → Output
   counted_output dir e = outs.Packet h.peer (hop_teid h dir) a.ue a.bearer dir (Own e.0) (forwarded_numbered a.sn (hop_teid h dir) e.0 e.1)
@@ -56,7 +56,7 @@ module _ (a : At) (h : Hop) where
 
   -- ---- each row is these outputs
 
-  module _ (codec : Codec) (b : UpBearer) (hop_is : b.hop ≡ hop_as (Some h)) where
+  module _ (codec : Codec) (b : CuUpBearer) (hop_is : b.hop ≡ hop_as (Some h)) where
     pub downs : (es : List (ℕ × List ℕ)) (start : List Output)
         → step_after start (forward_numbered (octet_way codec) (at_as a) es b) ≡ stepped (start ++ counted_outputs Dl es) b
     unfolding forwarded_down

@@ -9,30 +9,30 @@ use Rattle.gnb_types.specs.declared.outputs.Tag.TheVariants.{Own}
 use Rattle.pdcp.specs.Near.{last_count}
 use Rattle.pdcp_defs.specs.Senders.{Sender, has_room, numbered}
 use Rattle.unit_defs.specs.Ways.{spent, ◌then◌, nothing, counts_spent}
-use Rattle.unit_defs.specs.UpRecords.{UpBearer}
-use Rattle.unit_defs.specs.UpBearers.{number_each, number_waiting, has_downlink, sent}
+use Rattle.unit_defs.specs.CuUpRecords.{CuUpBearer}
+use Rattle.unit_defs.specs.CuUpBearers.{number_each, number_waiting, has_downlink, sent}
 use Rattle.unit_defs.specs.octet_defs.Codec.{Codec, octet_way}
 use Rattle.unit_defs.specs.octet_defs.Units.{OctetAnswer}
 use Rattle.unit_messages.specs.declared.steps.StepError.{StepError}
 use Rattle.unit_messages.specs.declared.steps.StepError.TheVariants as errors
 use Rattle.unit_messages.specs.steps.Steps.{Step, IsStep, stopped}
-use Rattle.pdcp_bearers.specs.declared.ue_bearers.uplink.Counted.{Counted}
-use Rattle.pdcp_bearers.specs.ue_bearers.Uplinks.{UplinkState, Numbering, numbers, stays, ends, numbering, numbering_of, IsCounting, IsPacket}
-use Rattle.cu_up_bearer.specs.declared.tunnels.at.At.{At}
-use Rattle.cu_up_bearer.specs.declared.tunnels.frames.Downlink.{Downlink}
+use Rattle.pdcp_bearers.specs.declared.ue_bearers.sender.Counted.{Counted}
+use Rattle.pdcp_bearers.specs.ue_bearers.Senders.{SenderState, Numbering, numbers, stays, ends, numbering, numbering_of, IsCounting, IsPacket}
+use Rattle.cu_up_bearer.specs.declared.tunnels.at.Scope.{Scope}
+use Rattle.cu_up_bearer.specs.declared.tunnels.frames.DownlinkTunnel.{DownlinkTunnel}
 use Rattle.cu_up_bearer.specs.declared.tunnels.frames.Frames.{Frames}
 use Rattle.cu_up_bearer.specs.tunnels.Tunnels.{at_as, downlink_as}
 use Rattle.cu_up_bearer.specs.declared.downlink.down.DownSide.{DownSide}
 use Rattle.cu_up_bearer.specs.downlink.Downlinks.{with_down}
 
-abbrev pub uplink : SnBits → ℕ → Sender (List ℕ) → List (List ℕ) → UplinkState
+abbrev pub uplink : SnBits → ℕ → Sender (List ℕ) → List (List ℕ) → SenderState
 uplink sn quota sender waiting = record { sn = sn; quota = quota; sender = sender; waiting = waiting }
 
-abbrev pub side : UplinkState → Frames → DownSide
+abbrev pub side : SenderState → Frames → DownSide
 side u f = record { sending = u; frames = f }
 
 -- what a number leaves of the entity
-numbers_one_of : (d : UplinkState) (w : List (List ℕ)) (after : UplinkState) (count : ℕ) (packet : List ℕ) → numbering_of d w ≡ numbers count packet after
+numbers_one_of : (d : SenderState) (w : List (List ℕ)) (after : SenderState) (count : ℕ) (packet : List ℕ) → numbering_of d w ≡ numbers count packet after
     → (after.sn ≡ d.sn) × (after.quota ≡ d.quota) × (length after.waiting < length w)
 numbers_one_of d [] after count packet is = cc
 numbers_one_of d (x ∷ xs) after count packet is = by (has_room d.sn d.quota d.sender) (nat_lt last_count d.sender.next) is
@@ -43,21 +43,21 @@ numbers_one_of d (x ∷ xs) after count packet is = by (has_room d.sn d.quota d.
     by true true is = cc
     by true false is =
         let same : uplink d.sn d.quota (numbered d.sender x) xs ≡ after = cc in
-        let fewer : length xs ≡ length after.waiting = ap (λ (a : UplinkState). length a.waiting) same in
-        (sym (ap (λ (a : UplinkState). a.sn) same), sym (ap (λ (a : UplinkState). a.quota) same), omega (arith, fewer))
+        let fewer : length xs ≡ length after.waiting = ap (λ (a : SenderState). length a.waiting) same in
+        (sym (ap (λ (a : SenderState). a.sn) same), sym (ap (λ (a : SenderState). a.quota) same), omega (arith, fewer))
     by false l is = cc
 
-pub numbers_keeps : (d after : UplinkState) (count : ℕ) (packet : List ℕ) → numbering d ≡ numbers count packet after
+pub numbers_keeps : (d after : SenderState) (count : ℕ) (packet : List ℕ) → numbering d ≡ numbers count packet after
     → (after.sn ≡ d.sn) × (after.quota ≡ d.quota) × (length after.waiting < length d.waiting)
 numbers_keeps d after count packet is = numbers_one_of d d.waiting after count packet is
 
-module _ (codec : Codec) (a : At) (b : UpBearer) where
+module _ (codec : Codec) (a : Scope) (b : CuUpBearer) where
   -- what is numbered from here on
-  abbrev pub rest : DownSide → OctetAnswer UpBearer
+  abbrev pub rest : DownSide → OctetAnswer CuUpBearer
   rest d = number_each (octet_way codec) (at_as a) d.sending.waiting (with_down b d)
 
   module _ (f : Frames) where
-    abbrev pub Turn : OctetAnswer UpBearer → UplinkState → Numbering → Type 0
+    abbrev pub Turn : OctetAnswer CuUpBearer → SenderState → Numbering → Type 0
     Turn x u (numbers count packet after) =
         x ≡ (sent (octet_way codec) (at_as a) count packet (Own count) (with_down b (side after f)) then number_each (octet_way codec) (at_as a) after.waiting)
     Turn x u stays = x ≡ nothing (with_down b (side u f))
@@ -86,17 +86,17 @@ module _ (codec : Codec) (a : At) (b : UpBearer) where
         by false true l same = cc
 
     -- by what the entity gives
-    pub turn_of : (u : UplinkState) → u.sn ≡ a.sn → u.quota ≡ a.quota → (n : Numbering) → numbering u ≡ n → Turn (rest (side u f)) u n
+    pub turn_of : (u : SenderState) → u.sn ≡ a.sn → u.quota ≡ a.quota → (n : Numbering) → numbering u ≡ n → Turn (rest (side u f)) u n
     turn_of u sn_is quota_is n is =
         subst (λ (m : Numbering). Turn (rest (side u f)) u m) is (turn u.sn u.quota u.sender u.waiting sn_is quota_is)
 
   -- ---- only a bearer that has a tunnel, and is neither frozen nor released, numbers
 
   module _ (d : DownSide) where
-    abbrev pub serving : Bool → Bool → Bool → OctetAnswer UpBearer
+    abbrev pub serving : Bool → Bool → Bool → OctetAnswer CuUpBearer
     serving frozen released closed = cond (frozen || released || closed) (nothing (with_down b d)) (rest d)
 
-    abbrev pub waiting_row : OctetAnswer UpBearer
+    abbrev pub waiting_row : OctetAnswer CuUpBearer
     waiting_row = number_waiting (octet_way codec) (at_as a) (with_down b d)
 
     row_is : waiting_row ≡ serving a.flags.frozen a.flags.released (not (has_downlink (downlink_as d.frames.downlink)))
@@ -128,32 +128,32 @@ module _ (codec : Codec) (a : At) (b : UpBearer) where
 
     pub waits_closed : d.frames.downlink ≡ None → waiting_row ≡ nothing (with_down b d)
     waits_closed is =
-        row_is ∙ ap (λ (o : Option Downlink). serving a.flags.frozen a.flags.released (not (has_downlink (downlink_as o)))) is
+        row_is ∙ ap (λ (o : Option DownlinkTunnel). serving a.flags.frozen a.flags.released (not (has_downlink (downlink_as o)))) is
         ∙ any_closed a.flags.frozen a.flags.released
 
-    pub serves : (x : Downlink) → a.flags.frozen ≡ false → a.flags.released ≡ false → d.frames.downlink ≡ Some x → waiting_row ≡ rest d
+    pub serves : (x : DownlinkTunnel) → a.flags.frozen ≡ false → a.flags.released ≡ false → d.frames.downlink ≡ Some x → waiting_row ≡ rest d
     serves x thawed kept is =
-        let t = λ (o : Option Downlink). not (has_downlink (downlink_as o)) in
+        let t = λ (o : Option DownlinkTunnel). not (has_downlink (downlink_as o)) in
         row_is ∙ ap (λ (f : Bool). serving f a.flags.released (t d.frames.downlink)) thawed
         ∙ ap (λ (r : Bool). serving false r (t d.frames.downlink)) kept
-        ∙ ap (λ (o : Option Downlink). serving false false (t o)) is
+        ∙ ap (λ (o : Option DownlinkTunnel). serving false false (t o)) is
 
 -- ---- what the entity says of an answer that came
 
-pub counted_facts : (n : Numbering) (old new : UplinkState) (o : Option Counted) (d : Counted) → IsCounting n old new (Ok o) → o ≡ Some d
+pub counted_facts : (n : Numbering) (old new : SenderState) (o : Option Counted) (d : Counted) → IsCounting n old new (Ok o) → o ≡ Some d
     → (n ≡ numbers d.count d.packet new) × IsPacket d.packet
 counted_facts n old new o d says is = subst (λ (x : Option Counted). IsCounting n old new (Ok x)) is says
 
-pub not_counted : (n : Numbering) (old new : UplinkState) (o : Option Counted) → IsCounting n old new (Ok o) → o ≡ None
+pub not_counted : (n : Numbering) (old new : SenderState) (o : Option Counted) → IsCounting n old new (Ok o) → o ≡ None
     → (n ≡ stays) × (new ≡ old)
 not_counted n old new o says is = subst (λ (x : Option Counted). IsCounting n old new (Ok x)) is says
 
-fails_as : {R : Type 0} (X : Type 0) (n : Numbering) (old new : UplinkState) (e : StepError) → IsCounting n old new (Err e)
+fails_as : {R : Type 0} (X : Type 0) (n : Numbering) (old new : SenderState) (e : StepError) → IsCounting n old new (Err e)
     → (s : Step R) → (n ≡ ends → s ≡ stopped counts_spent) → (out : List Output) (b : R) → IsStep {X = X} s out b (Err e)
 fails_as X n old new (errors.Spent counter) says s spent_is out b = spent_is says.0 ∙ ap (λ (k : ℕ). stopped k) (sym says.1)
 fails_as X n old new errors.Memory says s spent_is out b = tt
 
-pub counts_fail : {X R : Type 0} (n : Numbering) (old new : UplinkState) (e : StepError) → IsCounting n old new (Err e)
+pub counts_fail : {X R : Type 0} (n : Numbering) (old new : SenderState) (e : StepError) → IsCounting n old new (Err e)
     → (s : Step R) → (n ≡ ends → s ≡ stopped counts_spent) → (out : List Output) (b : R) (result : Result X StepError)
     → IsErrAnd result (λ y. y ≡ e) → IsStep s out b result
 counts_fail {X} {R} n old new e says s spent_is out b result err =

@@ -3,12 +3,12 @@ use Rattle.std.proofs.Common.{◌≡◌, ℕ, ◌+◌, ◌<◌, Bool, true, fals
 use Rattle.std.proofs.lemmas.Bool.Decides.{nat_tests}
 use Rattle.gnb_types.specs.declared.outputs.Tag.TheVariants.{Own}
 use Rattle.unit_defs.specs.Ways.{◌then◌, nothing}
-use Rattle.unit_defs.specs.UpRecords.{UpBearer}
-use Rattle.unit_defs.specs.UpBearers.{sent, sent_again, is_one_of}
+use Rattle.unit_defs.specs.CuUpRecords.{CuUpBearer}
+use Rattle.unit_defs.specs.CuUpBearers.{sent, sent_again, is_one_of}
 use Rattle.unit_defs.specs.octet_defs.Codec.{Codec, octet_way}
 use Rattle.unit_defs.specs.octet_defs.Units.{OctetAnswer}
-use Rattle.pdcp_bearers.specs.ue_bearers.Uplinks.{from_on}
-use Rattle.cu_up_bearer.specs.declared.tunnels.at.At.{At}
+use Rattle.pdcp_bearers.specs.ue_bearers.Senders.{from_on}
+use Rattle.cu_up_bearer.specs.declared.tunnels.at.Scope.{Scope}
 use Rattle.cu_up_bearer.specs.tunnels.Tunnels.{at_as}
 use Rattle.cu_up_bearer.specs.downlink.Downlinks.{taken_of}
 
@@ -20,11 +20,11 @@ all_from (e ∷ es) =
     let here : nat_le 0 e.0 ≡ true = grind (arith, nat_tests) in
     ap (λ (b : Bool). cond b (e ∷ from_on 0 es) (from_on 0 es)) here ∙ ap (λ (xs : List (ℕ × List ℕ)). e ∷ xs) all
 
-module _ (codec : Codec) (a : At) (b : UpBearer) where
-  abbrev pub again : List (ℕ × List ℕ) → OctetAnswer UpBearer
+module _ (codec : Codec) (a : Scope) (b : CuUpBearer) where
+  abbrev pub again : List (ℕ × List ℕ) → OctetAnswer CuUpBearer
   again es = sent_again (octet_way codec) (at_as a) es b
 
-  abbrev pub one_then : ℕ → List ℕ → List (ℕ × List ℕ) → OctetAnswer UpBearer
+  abbrev pub one_then : ℕ → List ℕ → List (ℕ × List ℕ) → OctetAnswer CuUpBearer
   one_then count packet es = sent (octet_way codec) (at_as a) count packet (Own count) b then sent_again (octet_way codec) (at_as a) es
 
   pub again_none : (es : List (ℕ × List ℕ)) → es ≡ [] → again es ≡ nothing b

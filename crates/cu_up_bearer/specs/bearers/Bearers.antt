@@ -1,20 +1,20 @@
 -- A bearer of a CU-UP as the procedure tables see it.
 use Rattle.std.specs.Prelude.{◌≡◌}
 use Rattle.std.specs.List.{AllByRecursion}
-use Rattle.unit_defs.specs.UpRecords.{UpBearer}
-use Rattle.pdcp_bearers.specs.ue_bearers.Downlinks.{DownlinkState}
-use Rattle.pdcp_bearers.specs.ue_bearers.Uplinks.{IsPacket}
-use Rattle.cu_up_bearer.specs.declared.tunnels.at.At.{At}
+use Rattle.unit_defs.specs.CuUpRecords.{CuUpBearer}
+use Rattle.pdcp_bearers.specs.ue_bearers.Receivers.{ReceiverState}
+use Rattle.pdcp_bearers.specs.ue_bearers.Senders.{IsPacket}
+use Rattle.cu_up_bearer.specs.declared.tunnels.at.Scope.{Scope}
 use Rattle.cu_up_bearer.specs.tunnels.Tunnels.{downlink_as, hop_as}
 use Rattle.cu_up_bearer.specs.downlink.Downlinks.{IsDown}
 use Rattle.cu_up_bearer.specs.declared.bearers.bearer.Bearer.{Bearer}
 
 -- a bearer with this receiver, whatever else it keeps
-abbrev pub with_receiver : UpBearer → DownlinkState → UpBearer
+abbrev pub with_receiver : CuUpBearer → ReceiverState → CuUpBearer
 with_receiver b d = record b { receiver = d.receiver }
 
 -- what the tables keep of a bearer
-abbrev pub kept : Bearer → UpBearer
+abbrev pub kept : Bearer → CuUpBearer
 kept b = record {
   n3 = b.n3;
   uplinks = b.uplinks;
@@ -34,8 +34,8 @@ kept b = record {
 }
 
 -- the entities have the numbers and the quota of the context, and what is stored is packets
-abbrev pub IsUp : At → DownlinkState → Type 0
+abbrev pub IsUp : Scope → ReceiverState → Type 0
 IsUp a d = (d.sn ≡ a.sn) × (d.quota ≡ a.quota) × AllByRecursion (λ e. IsPacket e.1) d.receiver.stored
 
-abbrev pub IsOf : At → Bearer → Type 0
+abbrev pub IsOf : Scope → Bearer → Type 0
 IsOf a b = IsDown a b.down × IsUp a b.receiving

@@ -4,9 +4,9 @@ use Rattle.gnb_types.specs.declared.plans.SnStatus.{SnStatus}
 use Rattle.pdcp_defs.specs.Senders.{new_sender}
 use Rattle.pdcp_defs.specs.Receivers.{new_receiver}
 use Rattle.unit_defs.specs.Ways.{Way, Answer, ◌then◌}
-use Rattle.unit_defs.specs.UpRecords.{UpBearer, UpAt}
-use Rattle.unit_defs.specs.UpBearers.{forward_numbered, forward_fresh, forward_late}
-use Rattle.cu_up_bearer.specs.declared.tunnels.at.At.{At}
+use Rattle.unit_defs.specs.CuUpRecords.{CuUpBearer, CuUpScope}
+use Rattle.unit_defs.specs.CuUpBearers.{forward_numbered, forward_fresh, forward_late}
+use Rattle.cu_up_bearer.specs.declared.tunnels.at.Scope.{Scope}
 use Rattle.cu_up_bearer.specs.declared.downlink.down.DownSide.{DownSide}
 use Rattle.cu_up_bearer.specs.downlink.Downlinks.{taken_of}
 use Rattle.cu_up_bearer.specs.declared.bearers.bearer.Bearer.{Bearer}
@@ -16,7 +16,7 @@ abbrev pub IsEmpty : Bearer → Type 0
 IsEmpty b = (b.down.sending.sender.unconfirmed ≡ []) × (b.receiving.receiver.stored ≡ [])
 
 -- as in a context before the SN status
-abbrev pub IsIdle : At → Bearer → Type 0
+abbrev pub IsIdle : Scope → Bearer → Type 0
 IsIdle a b = a.flags.may_serve ≡ false → IsEmpty b
 
 -- nothing is frozen any more
@@ -32,7 +32,7 @@ status_bearer s b = record b {
 }
 
 -- all that is held, given to the target
-abbrev pub all_given : {M C P : Type 0} → Way M C P → UpAt → UpBearer → Answer M P UpBearer
+abbrev pub all_given : {M C P : Type 0} → Way M C P → CuUpScope → CuUpBearer → Answer M P CuUpBearer
 all_given way at b =
     forward_numbered way at b.sender.unconfirmed b
     then (λ c. forward_fresh way at c.waiting c)

@@ -1,15 +1,15 @@
 //! What a CU-UP keeps of a bearer.
 
 ghost use Rattle.std.specs.Prelude.{◌≡◌, ◌+◌, ◌≤◌, true, None, Some, if◌then◌else◌, IfOk};
-ghost use Rattle.unit_defs.specs.UpBearers.{made, teids_of_bearer};
+ghost use Rattle.unit_defs.specs.CuUpBearers.{made, teids_of_bearer};
 ghost use Rattle.cu_up_bearer.specs.bearers.Bearers.{kept, IsOf};
 
 use crate::downlink::DownSide;
-use crate::tunnels::{At, Frames, Hop};
+use crate::tunnels::{Frames, Hop, Scope};
 use gnb_types::items::{Items, Memory};
 use gnb_types::keys::EntityKey;
 use gnb_types::names::Dir;
-use pdcp_bearers::ue_bearers::{Downlink as Receiving, Uplink as Sending};
+use pdcp_bearers::ue_bearers::{Receiver as Receiving, Sender as Sending};
 use std::alloc::Global;
 
 /// What a CU-UP keeps of a bearer. Of the tunnels that end here N3 and the uplinks are there while they are open; the two of forwarding
@@ -44,8 +44,8 @@ fn forwarding_teid(target: bool, first: u32, after: u32) -> Option<u32>
 
 impl Bearer {
     /// A bearer of a new context, with TEIDs from `first` on: of a target four, else two. It takes the blocks for its packets.
-    #[tactic(auto, unfolding(unit_defs::specs::UpBearers::made))]
-    pub fn new(alloc: Global, at: &At, target: bool, first: u32) -> Result<Bearer, Memory>
+    #[tactic(auto, unfolding(unit_defs::specs::CuUpBearers::made))]
+    pub fn new(alloc: Global, at: &Scope, target: bool, first: u32) -> Result<Bearer, Memory>
         requires least { 4 ≤ at.now.quota }
         requires most { at.now.quota ≤ 4096 }
         requires teids { first + teids_of_bearer target ≤ 4294967296 }

@@ -1,17 +1,17 @@
 //! What a frozen bearer holds of its downlink goes to its target.
 
 ghost use Rattle.std.specs.Prelude.{◌≡◌, Some, OnOk};
-ghost use Rattle.unit_defs.specs.UpRecords.{UpBearer};
-ghost use Rattle.unit_defs.specs.UpBearers.{forward_numbered, forward_fresh};
+ghost use Rattle.unit_defs.specs.CuUpRecords.{CuUpBearer};
+ghost use Rattle.unit_defs.specs.CuUpBearers.{forward_numbered, forward_fresh};
 ghost use Rattle.unit_defs.specs.octet_defs.Codec.{Codec, octet_way};
 ghost use Rattle.unit_messages.specs.steps.Steps.{stepped, step_after};
 ghost use Rattle.cu_up_bearer.specs.tunnels.Tunnels.{at_as, hop_as};
 
-use crate::tunnels::{At, Hop, ShownCount};
+use crate::tunnels::{Hop, Scope, ShownCount};
 use gnb_types::items::Memory;
 use gnb_types::names::Dir;
 use gnb_types::outputs::{Outputs, Tag};
-use pdcp_bearers::ue_bearers::Uplink as Sending;
+use pdcp_bearers::ue_bearers::Sender as Sending;
 use std::alloc::Global;
 
 /// Downlink packets that nothing confirmed, each with its COUNT.
@@ -19,10 +19,10 @@ pub fn forward_unconfirmed(
     hop: Hop,
     sending: &Sending,
     alloc: Global,
-    at: &At,
+    at: &Scope,
     out: &mut Outputs,
 ) -> Result<(), Memory>
-    ensures { (codec : Codec) (b : UpBearer) → b.hop ≡ hop_as (Some hop) → OnOk result (step_after out.old
+    ensures { (codec : Codec) (b : CuUpBearer) → b.hop ≡ hop_as (Some hop) → OnOk result (step_after out.old
         (forward_numbered (octet_way codec) (at_as at.now) sending.now.sender.unconfirmed b) ≡ stepped out.new b) }
 {
     let mut from = 0;
@@ -42,10 +42,10 @@ pub fn forward_waiting(
     hop: Hop,
     sending: &Sending,
     alloc: Global,
-    at: &At,
+    at: &Scope,
     out: &mut Outputs,
 ) -> Result<(), Memory>
-    ensures { (codec : Codec) (b : UpBearer) → b.hop ≡ hop_as (Some hop) → OnOk result (step_after out.old
+    ensures { (codec : Codec) (b : CuUpBearer) → b.hop ≡ hop_as (Some hop) → OnOk result (step_after out.old
         (forward_fresh (octet_way codec) (at_as at.now) sending.now.waiting b) ≡ stepped out.new b) }
 {
     for packet in sending.waiting() {

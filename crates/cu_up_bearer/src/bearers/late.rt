@@ -1,18 +1,18 @@
 //! What a frozen bearer stores of its uplink goes to its target.
 
 ghost use Rattle.std.specs.Prelude.{◌≡◌, Some, OnOk};
-ghost use Rattle.unit_defs.specs.UpRecords.{UpBearer};
-ghost use Rattle.unit_defs.specs.UpBearers.{forward_late};
+ghost use Rattle.unit_defs.specs.CuUpRecords.{CuUpBearer};
+ghost use Rattle.unit_defs.specs.CuUpBearers.{forward_late};
 ghost use Rattle.unit_defs.specs.octet_defs.Codec.{Codec, octet_way};
 ghost use Rattle.unit_messages.specs.steps.Steps.{stepped, step_after};
 ghost use Rattle.cu_up_bearer.specs.tunnels.Tunnels.{at_as, hop_as};
 ghost use Rattle.cu_up_bearer.specs.bearers.Bearers.{IsUp};
 
-use crate::tunnels::{At, Hop, ShownCount};
+use crate::tunnels::{Hop, Scope, ShownCount};
 use gnb_types::items::Memory;
 use gnb_types::names::Dir;
 use gnb_types::outputs::{Outputs, Tag};
-use pdcp_bearers::ue_bearers::Downlink as Receiving;
+use pdcp_bearers::ue_bearers::Receiver as Receiving;
 use std::alloc::Global;
 
 /// Uplink packets that are stored, each with its COUNT.
@@ -20,11 +20,11 @@ pub fn forward_stored(
     hop: Hop,
     receiving: &Receiving,
     alloc: Global,
-    at: &At,
+    at: &Scope,
     out: &mut Outputs,
 ) -> Result<(), Memory>
     requires { IsUp at.now receiving.now }
-    ensures { (codec : Codec) (b : UpBearer) → b.hop ≡ hop_as (Some hop) → OnOk result (step_after out.old
+    ensures { (codec : Codec) (b : CuUpBearer) → b.hop ≡ hop_as (Some hop) → OnOk result (step_after out.old
         (forward_late (octet_way codec) (at_as at.now) receiving.now.receiver.stored b) ≡ stepped out.new b) }
 {
     let mut from = 0;

@@ -1,17 +1,17 @@
 //! The uplink of a bearer: packets are delivered in the order of their COUNTs (TS 38.323, 5.2.2).
 
 ghost use Rattle.std.specs.Prelude.{OnOk};
-ghost use Rattle.unit_defs.specs.UpRecords.{UpBearer};
-ghost use Rattle.unit_defs.specs.UpBearers.{deliver_stored};
+ghost use Rattle.unit_defs.specs.CuUpRecords.{CuUpBearer};
+ghost use Rattle.unit_defs.specs.CuUpBearers.{deliver_stored};
 ghost use Rattle.unit_defs.specs.octet_defs.Codec.{Codec, octet_way};
 ghost use Rattle.unit_messages.specs.steps.Steps.{IsStep, step_after};
 ghost use Rattle.cu_up_bearer.specs.tunnels.Tunnels.{at_as};
 ghost use Rattle.cu_up_bearer.specs.bearers.Bearers.{with_receiver, IsUp};
 
-use crate::tunnels::At;
+use crate::tunnels::Scope;
 use gnb_types::names::Dir;
 use gnb_types::outputs::{Output, Outputs};
-use pdcp_bearers::ue_bearers::{Delivered, Downlink as Receiving};
+use pdcp_bearers::ue_bearers::{Delivered, Receiver as Receiving};
 use std::alloc::Global;
 use unit_messages::steps::StepError;
 
@@ -19,11 +19,11 @@ use unit_messages::steps::StepError;
 pub fn deliver_stored(
     receiving: &mut Receiving,
     alloc: Global,
-    at: &At,
+    at: &Scope,
     out: &mut Outputs,
 ) -> Result<(), StepError>
     requires { IsUp at.now receiving.old }
-    ensures step { (codec : Codec) (b : UpBearer) → IsStep (step_after out.old
+    ensures step { (codec : Codec) (b : CuUpBearer) → IsStep (step_after out.old
         (deliver_stored (octet_way codec) (at_as at.now) (with_receiver b receiving.old)))
         out.new (with_receiver b receiving.new) result }
     ensures up { OnOk result (IsUp at.now receiving.new) }

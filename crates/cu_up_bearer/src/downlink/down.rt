@@ -1,16 +1,16 @@
 //! The downlink of a bearer: packets wait, get a COUNT, are sent in frames, and are held until they are confirmed (TS 38.323, 5.2.1).
 
 ghost use Rattle.std.specs.Prelude.{◌≡◌, OnOk};
-ghost use Rattle.unit_defs.specs.UpRecords.{UpBearer};
-ghost use Rattle.unit_defs.specs.UpBearers.{number_each, number_waiting, sent_again};
+ghost use Rattle.unit_defs.specs.CuUpRecords.{CuUpBearer};
+ghost use Rattle.unit_defs.specs.CuUpBearers.{number_each, number_waiting, sent_again};
 ghost use Rattle.unit_defs.specs.octet_defs.Codec.{Codec, octet_way};
 ghost use Rattle.unit_messages.specs.steps.Steps.{IsStep, step_after};
 ghost use Rattle.cu_up_bearer.specs.tunnels.Tunnels.{at_as};
 ghost use Rattle.cu_up_bearer.specs.downlink.Downlinks.{with_down, taken_of, IsDown};
 
-use crate::tunnels::{At, Frames};
+use crate::tunnels::{Frames, Scope};
 use gnb_types::outputs::{Outputs, Tag};
-use pdcp_bearers::ue_bearers::{Counted, Uplink as Sending};
+use pdcp_bearers::ue_bearers::{Counted, Sender as Sending};
 use std::alloc::Global;
 use unit_messages::steps::StepError;
 
@@ -24,9 +24,9 @@ pub struct DownSide {
 
 impl DownSide {
     /// Packets that wait get COUNTs while the window has room, and are sent.
-    fn number_each(&mut self, alloc: Global, at: &At, out: &mut Outputs) -> Result<(), StepError>
+    fn number_each(&mut self, alloc: Global, at: &Scope, out: &mut Outputs) -> Result<(), StepError>
         requires { IsDown at.now self.old }
-        ensures step { (codec : Codec) (b : UpBearer) → IsStep (step_after out.old
+        ensures step { (codec : Codec) (b : CuUpBearer) → IsStep (step_after out.old
             (number_each (octet_way codec) (at_as at.now) self.old.sending.waiting (with_down b self.old)))
             out.new (with_down b self.new) result }
         ensures of { OnOk result (IsDown at.now self.new) }
@@ -42,11 +42,11 @@ impl DownSide {
     pub fn number_waiting(
         &mut self,
         alloc: Global,
-        at: &At,
+        at: &Scope,
         out: &mut Outputs,
     ) -> Result<(), StepError>
         requires { IsDown at.now self.old }
-        ensures step { (codec : Codec) (b : UpBearer) → IsStep (step_after out.old
+        ensures step { (codec : Codec) (b : CuUpBearer) → IsStep (step_after out.old
             (number_waiting (octet_way codec) (at_as at.now) (with_down b self.old)))
             out.new (with_down b self.new) result }
         ensures of { OnOk result (IsDown at.now self.new) }
@@ -64,10 +64,10 @@ impl DownSide {
     pub fn send_unconfirmed(
         &mut self,
         alloc: Global,
-        at: &At,
+        at: &Scope,
         out: &mut Outputs,
     ) -> Result<(), StepError>
-        ensures step { (codec : Codec) (b : UpBearer) → IsStep (step_after out.old
+        ensures step { (codec : Codec) (b : CuUpBearer) → IsStep (step_after out.old
             (sent_again (octet_way codec) (at_as at.now) self.old.sending.sender.unconfirmed (with_down b self.old)))
             out.new (with_down b self.new) result }
         ensures sending { self.new.sending ≡ self.old.sending }
@@ -85,11 +85,11 @@ impl DownSide {
     pub fn send_these(
         &mut self,
         alloc: Global,
-        at: &At,
+        at: &Scope,
         counts: &[u32],
         out: &mut Outputs,
     ) -> Result<(), StepError>
-        ensures step { (codec : Codec) (b : UpBearer) → IsStep (step_after out.old
+        ensures step { (codec : Codec) (b : CuUpBearer) → IsStep (step_after out.old
             (sent_again (octet_way codec) (at_as at.now) (taken_of counts.now self.old.sending.sender.unconfirmed) (with_down b self.old)))
             out.new (with_down b self.new) result }
         ensures sending { self.new.sending ≡ self.old.sending }

@@ -1,10 +1,10 @@
 //! Freeze: all that is held goes to the target, and the SN status says where it is to go on. And release.
 
 ghost use Rattle.std.specs.Prelude.{◌≡◌, Some, false, IfOk, OnOk};
-ghost use Rattle.unit_defs.specs.UpBearers.{some_bits, status_of, frozen_to, released};
+ghost use Rattle.unit_defs.specs.CuUpBearers.{some_bits, status_of, frozen_to, released};
 ghost use Rattle.unit_defs.specs.octet_defs.Codec.{Codec, octet_way};
 ghost use Rattle.unit_messages.specs.steps.Steps.{IsStep, step_after, stepped};
-ghost use Rattle.cu_up_bearer.specs.declared.tunnels.at.At.{At};
+ghost use Rattle.cu_up_bearer.specs.declared.tunnels.at.Scope.{Scope};
 ghost use Rattle.cu_up_bearer.specs.tunnels.Tunnels.{at_as, hop_as};
 ghost use Rattle.cu_up_bearer.specs.bearers.Bearers.{kept, IsOf};
 ghost use Rattle.cu_up_bearer.specs.orders.Orders.{IsEmpty, all_given};
@@ -13,7 +13,7 @@ use crate::bearers::Bearer;
 use crate::bearers::forwarding::{forward_unconfirmed, forward_waiting};
 use crate::bearers::late::forward_stored;
 use crate::orders::serving::thaw;
-use crate::tunnels::{At, Hop};
+use crate::tunnels::{Hop, Scope};
 use gnb_types::bits::Bits;
 use gnb_types::items::Memory;
 use gnb_types::names::BearerId;
@@ -27,7 +27,7 @@ fn give_all(
     hop: Hop,
     bearer: &Bearer,
     alloc: Global,
-    at: &At,
+    at: &Scope,
     out: &mut Outputs,
 ) -> Result<(), Memory>
     requires { IsOf at.now bearer.now }
@@ -40,11 +40,11 @@ fn give_all(
 }
 
 /// All that is held goes to the target, and so does what comes from now on.
-#[tactic(auto, unfolding(unit_defs::specs::UpBearers::frozen_to))]
+#[tactic(auto, unfolding(unit_defs::specs::CuUpBearers::frozen_to))]
 pub fn freeze(
     bearer: &mut Bearer,
     alloc: Global,
-    at: &At,
+    at: &Scope,
     hop: Hop,
     out: &mut Outputs,
 ) -> Result<(), StepError>
@@ -85,7 +85,7 @@ pub fn status(bearer: &Bearer, alloc: Global, id: BearerId) -> Result<SnStatus, 
 /// No packet is kept any more.
 pub fn release(bearer: &mut Bearer, alloc: Global)
     ensures released { kept bearer.new ≡ released (kept bearer.old) }
-    ensures of { (a : At) → IsOf a bearer.old → IsOf a bearer.new }
+    ensures of { (a : Scope) → IsOf a bearer.old → IsOf a bearer.new }
     ensures empty { IsEmpty bearer.new }
 {
     bearer.down.sending.clear(alloc);

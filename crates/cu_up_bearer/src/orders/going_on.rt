@@ -1,8 +1,8 @@
 //! The SN status, with which a target goes on where the source stood; and resume, by which a frozen bearer goes on itself.
 
 ghost use Rattle.std.specs.Prelude.{◌≡◌, ◌≤◌, length, OnOk};
-ghost use Rattle.unit_defs.specs.UpRecords.{UpBearer};
-ghost use Rattle.unit_defs.specs.UpBearers.{bits_in, begin_downlink, begin_where_arrived, with_status, resumed, sent_again};
+ghost use Rattle.unit_defs.specs.CuUpRecords.{CuUpBearer};
+ghost use Rattle.unit_defs.specs.CuUpBearers.{bits_in, begin_downlink, begin_where_arrived, with_status, resumed, sent_again};
 ghost use Rattle.unit_defs.specs.octet_defs.Codec.{Codec, octet_way};
 ghost use Rattle.unit_messages.specs.steps.Steps.{IsStep, step_after};
 ghost use Rattle.cu_up_bearer.specs.tunnels.Tunnels.{at_as};
@@ -14,7 +14,7 @@ use crate::bearers::Bearer;
 use crate::bearers::uplink::deliver_stored;
 use crate::downlink::DownSide;
 use crate::orders::serving::{begin_downlink, thaw};
-use crate::tunnels::At;
+use crate::tunnels::Scope;
 use gnb_types::bits::Bits;
 use gnb_types::items::Memory;
 use gnb_types::outputs::Outputs;
@@ -36,13 +36,13 @@ fn go_on_at(bearer: &mut Bearer, alloc: Global, status: &SnStatus) -> Result<(),
 fn begin_with(
     down: &mut DownSide,
     alloc: Global,
-    at: &At,
+    at: &Scope,
     status: &SnStatus,
     out: &mut Outputs,
 ) -> Result<(), StepError>
     requires few { length (bits_in status.now.ul_received) ≤ 4096 }
     requires of { IsDown at.now down.old }
-    ensures step { (codec : Codec) (b : UpBearer) → IsStep (step_after out.old
+    ensures step { (codec : Codec) (b : CuUpBearer) → IsStep (step_after out.old
         (begin_downlink (octet_way codec) (at_as at.now) status.now.ul_first (bits_in status.now.ul_received) (with_down b down.old)))
         out.new (with_down b down.new) result }
     ensures of { OnOk result (IsDown at.now down.new) }
@@ -57,7 +57,7 @@ fn begin_with(
 fn begin_where_arrived(
     bearer: &mut Bearer,
     alloc: Global,
-    at: &At,
+    at: &Scope,
     status: &SnStatus,
     out: &mut Outputs,
 ) -> Result<(), StepError>
@@ -76,11 +76,11 @@ fn begin_where_arrived(
 }
 
 /// The entities go on where those of the source stand, and begin if the terminal arrived.
-#[tactic(auto, unfolding(unit_defs::specs::UpBearers::with_status))]
+#[tactic(auto, unfolding(unit_defs::specs::CuUpBearers::with_status))]
 pub fn take_status(
     bearer: &mut Bearer,
     alloc: Global,
-    at: &At,
+    at: &Scope,
     status: &SnStatus,
     out: &mut Outputs,
 ) -> Result<(), StepError>
@@ -101,12 +101,12 @@ pub fn take_status(
 fn send_owed(
     down: &mut DownSide,
     alloc: Global,
-    at: &At,
+    at: &Scope,
     loss: bool,
     came: &[u32],
     out: &mut Outputs,
 ) -> Result<(), StepError>
-    ensures step { (codec : Codec) (b : UpBearer) → IsStep (step_after out.old
+    ensures step { (codec : Codec) (b : CuUpBearer) → IsStep (step_after out.old
         (sent_again (octet_way codec) (at_as at.now) (owed_of loss came.now down.old.sending.sender.unconfirmed)
         (with_down b (marked loss down.old)))) out.new (with_down b down.new) result }
     ensures sending { down.new.sending ≡ down.old.sending }
@@ -119,11 +119,11 @@ fn send_owed(
 }
 
 /// A frozen bearer goes on.
-#[tactic(auto, unfolding(unit_defs::specs::UpBearers::resumed))]
+#[tactic(auto, unfolding(unit_defs::specs::CuUpBearers::resumed))]
 pub fn resume(
     bearer: &mut Bearer,
     alloc: Global,
-    at: &At,
+    at: &Scope,
     out: &mut Outputs,
 ) -> Result<(), StepError>
     requires { IsOf at.now bearer.old }

@@ -2,8 +2,8 @@
 
 ghost use Rattle.std.specs.Prelude.{◌≡◌, ◌≤◌, length, OnOk};
 ghost use Rattle.pdcp_defs.specs.Receivers.{received_bits};
-ghost use Rattle.unit_defs.specs.UpRecords.{UpBearer};
-ghost use Rattle.unit_defs.specs.UpBearers.{with_uplink, begin_downlink, switched};
+ghost use Rattle.unit_defs.specs.CuUpRecords.{CuUpBearer};
+ghost use Rattle.unit_defs.specs.CuUpBearers.{with_uplink, begin_downlink, switched};
 ghost use Rattle.unit_defs.specs.octet_defs.Codec.{Codec, octet_way};
 ghost use Rattle.unit_messages.specs.steps.Steps.{IsStep, step_after};
 ghost use Rattle.cu_up_bearer.specs.tunnels.Tunnels.{at_as};
@@ -14,7 +14,7 @@ ghost use Rattle.cu_up_bearer.specs.orders.Orders.{IsIdle, thawed_bearer};
 use crate::bearers::Bearer;
 use crate::bearers::uplink::deliver_stored;
 use crate::downlink::DownSide;
-use crate::tunnels::{At, Downlink, Frames};
+use crate::tunnels::{DownlinkTunnel, Frames, Scope};
 use gnb_types::bits::Bits;
 use gnb_types::items::Items;
 use gnb_types::names::NodeId;
@@ -23,7 +23,7 @@ use std::alloc::Global;
 use unit_messages::steps::StepError;
 
 /// One more uplink tunnel.
-#[tactic(auto, unfolding(unit_defs::specs::UpBearers::with_uplink))]
+#[tactic(auto, unfolding(unit_defs::specs::CuUpBearers::with_uplink))]
 pub fn add_uplink(bearer: &mut Bearer, teid: u32, out: &mut Outputs) -> Result<(), StepError>
     ensures step { (codec : Codec) → IsStep (step_after out.old
         (with_uplink (octet_way codec) teid (kept bearer.old))) out.new (kept bearer.new) result }
@@ -36,18 +36,18 @@ pub fn add_uplink(bearer: &mut Bearer, teid: u32, out: &mut Outputs) -> Result<(
 }
 
 /// A status report, all that nothing confirmed, and what waits.
-#[tactic(auto, unfolding(unit_defs::specs::UpBearers::begin_downlink))]
+#[tactic(auto, unfolding(unit_defs::specs::CuUpBearers::begin_downlink))]
 pub(crate) fn begin_downlink(
     down: &mut DownSide,
     alloc: Global,
-    at: &At,
+    at: &Scope,
     fmc: u32,
     bits: &Bits,
     out: &mut Outputs,
 ) -> Result<(), StepError>
     requires few { length bits.now ≤ 4096 }
     requires of { IsDown at.now down.old }
-    ensures step { (codec : Codec) (b : UpBearer) → IsStep (step_after out.old
+    ensures step { (codec : Codec) (b : CuUpBearer) → IsStep (step_after out.old
         (begin_downlink (octet_way codec) (at_as at.now) fmc bits.now (with_down b down.old)))
         out.new (with_down b down.new) result }
     ensures of { OnOk result (IsDown at.now down.new) }
@@ -61,7 +61,7 @@ pub(crate) fn begin_downlink(
 fn begin_known(
     bearer: &mut Bearer,
     alloc: Global,
-    at: &At,
+    at: &Scope,
     out: &mut Outputs,
 ) -> Result<(), StepError>
     requires { IsOf at.now bearer.old }
@@ -85,11 +85,11 @@ pub(crate) fn thaw(bearer: &mut Bearer, alloc: Global)
 }
 
 /// The frozen state ends, and the downlink goes to this tunnel from now on.
-#[tactic(auto, unfolding(unit_defs::specs::UpBearers::switched))]
+#[tactic(auto, unfolding(unit_defs::specs::CuUpBearers::switched))]
 pub fn switch(
     bearer: &mut Bearer,
     alloc: Global,
-    at: &At,
+    at: &Scope,
     du: NodeId,
     teid: u32,
     out: &mut Outputs,
@@ -104,7 +104,7 @@ pub fn switch(
 {
     thaw(bearer, alloc);
     bearer.down.frames = Frames {
-        downlink: Some(Downlink { du, teid, next: 0 }),
+        downlink: Some(DownlinkTunnel { du, teid, next: 0 }),
         restart: false,
     };
     if !at.flags.may_serve {

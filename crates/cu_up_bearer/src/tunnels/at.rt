@@ -15,7 +15,7 @@ pub struct Flags {
 
 /// Whose order a bearer carries out.
 #[derive(Clone, Copy)]
-pub struct At {
+pub struct Scope {
     pub ue: UeId,
     pub bearer: BearerId,
     pub sn: SnBits,

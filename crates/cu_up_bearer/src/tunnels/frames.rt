@@ -5,14 +5,14 @@ ghost use Rattle.gnb_types.specs.declared.outputs.Output.TheVariants as outs;
 ghost use Rattle.gnb_types.specs.declared.outputs.Tag.TheVariants.{Absent};
 ghost use Rattle.gnb_types.specs.declared.names.Dir.TheVariants.{Dl};
 ghost use Rattle.link_defs.specs.Decoding.{IsSized};
-ghost use Rattle.unit_defs.specs.UpRecords.{UpBearer};
-ghost use Rattle.unit_defs.specs.UpBearers.{sent, framed};
+ghost use Rattle.unit_defs.specs.CuUpRecords.{CuUpBearer};
+ghost use Rattle.unit_defs.specs.CuUpBearers.{sent, framed};
 ghost use Rattle.unit_defs.specs.Ways.{report_pdu};
 ghost use Rattle.unit_defs.specs.octet_defs.Codec.{Codec, octet_way};
 ghost use Rattle.unit_messages.specs.steps.Steps.{IsStep, step_after};
 ghost use Rattle.cu_up_bearer.specs.tunnels.Tunnels.{at_as, with_frames, frame_output, IsNumber, IsPut};
 
-use crate::tunnels::at::At;
+use crate::tunnels::at::Scope;
 use gnb_types::bits::Bits;
 use gnb_types::names::{Dir, NodeId};
 use gnb_types::octets::Octets;
@@ -29,7 +29,7 @@ const LAST_FRAME: u32 = 16_777_215;
 
 /// Where a bearer's downlink goes: the DU, its TEID, and the NR-U number of the next frame.
 #[derive(Clone, Copy)]
-pub struct Downlink {
+pub struct DownlinkTunnel {
     pub du: NodeId,
     pub teid: u32,
     pub next: u32,
@@ -39,11 +39,11 @@ pub struct Downlink {
 /// any more.
 #[derive(Clone, Copy)]
 pub struct Frames {
-    pub downlink: Option<Downlink>,
+    pub downlink: Option<DownlinkTunnel>,
     pub restart: bool,
 }
 
-impl Downlink {
+impl DownlinkTunnel {
     /// The number of the next frame.
     fn number(self) -> Result<u32, StepError>
         ensures { IsNumber self result }
@@ -55,7 +55,13 @@ impl Downlink {
     }
 
     /// A frame is put, and the next one has the next number.
-    fn put(self, at: &At, tag: Tag, bytes: Octets, out: &mut Outputs) -> Result<Downlink, StepError>
+    fn put(
+        self,
+        at: &Scope,
+        tag: Tag,
+        bytes: Octets,
+        out: &mut Outputs,
+    ) -> Result<DownlinkTunnel, StepError>
         requires { self.next ≤ 16777215 }
         ensures { IsPut self (frame_output self at.now tag bytes) out.old out.new result }
     {
@@ -68,7 +74,7 @@ impl Downlink {
             count: tag,
             bytes,
         })?;
-        Ok(Downlink {
+        Ok(DownlinkTunnel {
             du: self.du,
             teid: self.teid,
             next: self.next + 1,
@@ -81,14 +87,14 @@ impl Frames {
     pub fn send(
         &mut self,
         alloc: Global,
-        at: &At,
+        at: &Scope,
         count: u32,
         packet: &[u8],
         tag: Tag,
         out: &mut Outputs,
     ) -> Result<(), StepError>
         requires { IsSized packet.now }
-        ensures { (codec : Codec) (b : UpBearer) → IsStep (step_after out.old
+        ensures { (codec : Codec) (b : CuUpBearer) → IsStep (step_after out.old
             (sent (octet_way codec) (at_as at.now) count packet.now tag (with_frames b self.old)))
             out.new (with_frames b self.new) result }
     {
@@ -114,13 +120,13 @@ impl Frames {
     pub fn send_report(
         &mut self,
         alloc: Global,
-        at: &At,
+        at: &Scope,
         fmc: u32,
         bits: &Bits,
         out: &mut Outputs,
     ) -> Result<(), StepError>
         requires { length bits.now ≤ 4096 }
-        ensures { (codec : Codec) (b : UpBearer) → IsStep (step_after out.old
+        ensures { (codec : Codec) (b : CuUpBearer) → IsStep (step_after out.old
             (framed (octet_way codec) (at_as at.now) false false
             (Some ((octet_way codec).write at.now.sn (report_pdu fmc bits.now))) Absent
             (with_frames b self.old))) out.new (with_frames b self.new) result }
@@ -135,8 +141,8 @@ impl Frames {
     }
 
     /// A frame that asks for a delivery status.
-    pub fn poll(&mut self, alloc: Global, at: &At, out: &mut Outputs) -> Result<(), StepError>
-        ensures { (codec : Codec) (b : UpBearer) → IsStep (step_after out.old
+    pub fn poll(&mut self, alloc: Global, at: &Scope, out: &mut Outputs) -> Result<(), StepError>
+        ensures { (codec : Codec) (b : CuUpBearer) → IsStep (step_after out.old
             (framed (octet_way codec) (at_as at.now) true false None Absent (with_frames b self.old)))
             out.new (with_frames b self.new) result }
     {

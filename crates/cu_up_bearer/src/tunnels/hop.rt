@@ -8,7 +8,7 @@ ghost use Rattle.link_defs.specs.Decoding.{IsSized};
 ghost use Rattle.link_defs.specs.Layouts.{forwarded_numbered, forwarded_fresh, end_marker as end_octets};
 ghost use Rattle.cu_up_bearer.specs.tunnels.Tunnels.{hop_teid};
 
-use crate::tunnels::at::At;
+use crate::tunnels::at::Scope;
 use gnb_types::items::Memory;
 use gnb_types::names::{Dir, NodeId};
 use gnb_types::octets::Octets;
@@ -44,7 +44,7 @@ impl Hop {
 
     fn put(
         &self,
-        at: &At,
+        at: &Scope,
         dir: Dir,
         tag: Tag,
         bytes: Octets,
@@ -69,7 +69,7 @@ impl Hop {
     pub fn put_counted(
         &self,
         alloc: Global,
-        at: &At,
+        at: &Scope,
         dir: Dir,
         shown: ShownCount,
         packet: &[u8],
@@ -88,7 +88,7 @@ impl Hop {
     pub fn put_fresh(
         &self,
         alloc: Global,
-        at: &At,
+        at: &Scope,
         packet: &[u8],
         out: &mut Outputs,
     ) -> Result<(), Memory>
@@ -102,7 +102,13 @@ impl Hop {
     }
 
     /// The End Marker of a direction.
-    pub fn put_end(&self, alloc: Global, at: &At, dir: Dir, out: &mut Outputs) -> Result<(), Memory>
+    pub fn put_end(
+        &self,
+        alloc: Global,
+        at: &Scope,
+        dir: Dir,
+        out: &mut Outputs,
+    ) -> Result<(), Memory>
         ensures { OnOk result (out.new ≡ out.old
             ++ outs.Packet self.now.peer (hop_teid self.now dir) at.now.ue at.now.bearer dir Absent
             (end_octets (hop_teid self.now dir)) ∷ []) }

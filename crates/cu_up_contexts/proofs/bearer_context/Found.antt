@@ -6,7 +6,7 @@ use Rattle.gnb_types.specs.declared.names.BearerId.{BearerId}
 use Rattle.gnb_types.specs.declared.names.SnBits.{SnBits}
 use Rattle.gnb_types.specs.Orders.{bearer_cmp}
 use Rattle.tables.specs.Tables.{find}
-use Rattle.unit_defs.specs.UpRecords.{UpBearer, UpContext}
+use Rattle.unit_defs.specs.CuUpRecords.{CuUpBearer, CuUpContext}
 use Rattle.cu_up_bearer.specs.declared.tunnels.at.Flags.{Flags}
 use Rattle.cu_up_bearer.specs.bearers.Bearers.{kept}
 use Rattle.cu_up_bearer.specs.declared.bearers.bearer.Bearer.{Bearer}
@@ -15,7 +15,7 @@ use Rattle.cu_up_contexts.specs.bearer_context.Contexts.{with_one}
 use Rattle.cu_up_contexts.proofs.bearer_context.Numbered.{find_numbered, none_outside, put_numbered}
 
 module _ (instance : ℕ) (sn : SnBits) (quota : ℕ) (flags : Flags) (bs : List Bearer) (id : BearerId) where
-  abbrev pub whole : List Bearer → UpContext
+  abbrev pub whole : List Bearer → CuUpContext
   whole xs = context_as instance sn quota flags xs
 
   pub not_found : (count : ℕ) → count ≡ length bs → IsOutside id.0 count → find bearer_cmp (whole bs).bearers id ≡ None
@@ -29,7 +29,7 @@ module _ (instance : ℕ) (sn : SnBits) (quota : ℕ) (flags : Flags) (bs : List
     found = find_numbered b bs 1 i id within place ∙ ap (λ (x : Bearer). Some (kept x)) (sym at)
 
     pub with_there : (c : Bearer) → with_one (whole bs) id (kept c) ≡ whole (set bs i c)
-    with_there c = ap (λ (es : List (BearerId × UpBearer)). record (whole bs) { bearers = es }) (put_numbered c bs 1 i id within place)
+    with_there c = ap (λ (es : List (BearerId × CuUpBearer)). record (whole bs) { bearers = es }) (put_numbered c bs 1 i id within place)
 
     pub with_back : with_one (whole bs) id (kept b) ≡ whole bs
     with_back = with_there b ∙ ap whole (ap (λ (x : Bearer). set bs i x) at ∙ set-get_or bs i b)

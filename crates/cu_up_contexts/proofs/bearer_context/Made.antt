@@ -2,8 +2,8 @@
 use Rattle.std.proofs.Common.{◌≡◌, ℕ, zero, suc, ◌+◌, ◌-◌, ◌*◌, ◌^◌, ◌<◌, ◌≤◌, Bool, true, false, List, [], ◌∷◌, ◌++◌, length, sym, ap, ◌∙◌, arith}
 use Rattle.gnb_types.specs.declared.names.BearerId.{BearerId}
 use Rattle.gnb_types.specs.declared.names.SnBits.{SnBits}
-use Rattle.unit_defs.specs.UpRecords.{UpBearer}
-use Rattle.unit_defs.specs.UpBearers.{made, teids_of_bearer}
+use Rattle.unit_defs.specs.CuUpRecords.{CuUpBearer}
+use Rattle.unit_defs.specs.CuUpBearers.{made, teids_of_bearer}
 use Rattle.unit_defs.specs.CuUp.{bearers_from, bearers_made}
 use Rattle.cu_up_bearer.specs.declared.tunnels.at.Flags.{Flags}
 use Rattle.cu_up_bearer.specs.bearers.Bearers.{kept, IsOf}
@@ -12,7 +12,7 @@ use Rattle.cu_up_contexts.specs.bearer_context.Bearers.{numbered, shared, IsServ
 use Rattle.cu_up_contexts.proofs.bearer_context.Numbered.{numbered_push}
 
 abbrev Made : Type 0
-Made = List (BearerId × UpBearer)
+Made = List (BearerId × CuUpBearer)
 
 made_push : (target : Bool) (next i n : ℕ)
     → bearers_made target next (bearers_from i (suc n))
@@ -71,4 +71,4 @@ pub made_served : (sn : SnBits) (quota : ℕ) (flags : Flags) (b : Bearer) (targ
     → IsOf (shared sn quota flags) b → IsServed (shared sn quota flags) b
 unfolding made
 made_served sn quota flags b target teid is of =
-    (of, λ no. (ap (λ (x : UpBearer). x.sender.unconfirmed) is, ap (λ (x : UpBearer). x.receiver.stored) is))
+    (of, λ no. (ap (λ (x : CuUpBearer). x.sender.unconfirmed) is, ap (λ (x : CuUpBearer). x.receiver.stored) is))

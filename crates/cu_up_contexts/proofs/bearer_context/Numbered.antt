@@ -14,7 +14,7 @@ use Rattle.std.specs.BTreeMap.{is_at, insert_entry}
 use Rattle.gnb_types.specs.declared.names.BearerId.{BearerId}
 use Rattle.gnb_types.specs.Orders.{bearer_cmp}
 use Rattle.tables.specs.Tables.{find, put}
-use Rattle.unit_defs.specs.UpRecords.{UpBearer}
+use Rattle.unit_defs.specs.CuUpRecords.{CuUpBearer}
 use Rattle.cu_up_bearer.specs.bearers.Bearers.{kept}
 use Rattle.cu_up_bearer.specs.declared.bearers.bearer.Bearer.{Bearer}
 use Rattle.cu_up_contexts.specs.bearer_context.Bearers.{numbered, IsOutside}
@@ -61,16 +61,16 @@ pub put_numbered : (c : Bearer) (bs : List Bearer) (n i : ℕ) (id : BearerId) �
 unfolding put
 put_numbered c [] n i id h e = absurd (omega arith)
 put_numbered c (b ∷ bs) n zero id h e =
-    let es : List (BearerId × UpBearer) = numbered (n + 1) bs in
+    let es : List (BearerId × CuUpBearer) = numbered (n + 1) bs in
     let at : BearerId = record { 0 = n } in
     ap (λ (r : Ordering). match_ordering r ((id, kept c) ∷ (at, kept b) ∷ es) ((at, kept c) ∷ es) ((at, kept b) ∷ insert_entry bearer_cmp es id (kept c)))
     (equal id.0 n (omega arith))
 put_numbered c (b ∷ bs) n (suc i) id h e =
-    let es : List (BearerId × UpBearer) = numbered (n + 1) bs in
+    let es : List (BearerId × CuUpBearer) = numbered (n + 1) bs in
     let at : BearerId = record { 0 = n } in
     ap (λ (r : Ordering). match_ordering r ((id, kept c) ∷ (at, kept b) ∷ es) ((at, kept c) ∷ es) ((at, kept b) ∷ insert_entry bearer_cmp es id (kept c)))
     (greater id.0 n (omega arith))
-    ∙ ap (λ (xs : List (BearerId × UpBearer)). (at, kept b) ∷ xs) (put_numbered c bs (n + 1) i id (omega arith) (omega arith))
+    ∙ ap (λ (xs : List (BearerId × CuUpBearer)). (at, kept b) ∷ xs) (put_numbered c bs (n + 1) i id (omega arith) (omega arith))
 
 pub length-numbered : (n : ℕ) (bs : List Bearer) → length (numbered n bs) ≡ length bs
 length-numbered n [] = refl
@@ -84,7 +84,7 @@ numbered_push (x ∷ bs) b n i e =
     let at : BearerId = record { 0 = n } in
     let before : length bs ≡ i - 1 = omega (arith, e) in
     let same : i - 1 + (n + 1) ≡ i + n = omega (arith, e) in
-    ap (λ (xs : List (BearerId × UpBearer)). (at, kept x) ∷ xs)
+    ap (λ (xs : List (BearerId × CuUpBearer)). (at, kept x) ∷ xs)
     (numbered_push bs b (n + 1) (i - 1) before ∙ ap (λ (k : ℕ). numbered (n + 1) bs ++ (record { 0 = k }, kept b) ∷ []) same)
 
 -- what holds of each holds of the one at an index, and stays where another one that meets it is put there
@@ -116,15 +116,15 @@ from_turn bs d i n within =
     ap (λ (xs : List Bearer). numbered n xs) (drop-cons bs i d within ∙ ap (λ (k : ℕ). get_or bs i d ∷ drop k bs) next)
 
 -- what each of them says stands last
-pub said_turn : {X : Type 0} (f : BearerId × UpBearer → List X) (bs : List Bearer) (d : Bearer) (i n : ℕ) → i < length bs → (before after : List X)
+pub said_turn : {X : Type 0} (f : BearerId × CuUpBearer → List X) (bs : List Bearer) (d : Bearer) (i n : ℕ) → i < length bs → (before after : List X)
     → after ≡ before ++ f (record { 0 = n }, kept (get_or bs i d))
     → after ++ flat_map f (numbered (n + 1) (drop (i + 1) bs)) ≡ before ++ flat_map f (numbered n (drop i bs))
 said_turn {X} f bs d i n within before after is =
     ap (λ (xs : List X). xs ++ flat_map f (numbered (n + 1) (drop (i + 1) bs))) is
     ∙ append_assoc before (f (record { 0 = n }, kept (get_or bs i d))) (flat_map f (numbered (n + 1) (drop (i + 1) bs)))
-    ∙ ap (λ (es : List (BearerId × UpBearer)). before ++ flat_map f es) (sym (from_turn bs d i n within))
+    ∙ ap (λ (es : List (BearerId × CuUpBearer)). before ++ flat_map f es) (sym (from_turn bs d i n within))
 
-pub said_all : {X : Type 0} (f : BearerId × UpBearer → List X) (bs : List Bearer) (i n : ℕ) → length bs ≤ i → (said : List X)
+pub said_all : {X : Type 0} (f : BearerId × CuUpBearer → List X) (bs : List Bearer) (i n : ℕ) → length bs ≤ i → (said : List X)
     → said ++ flat_map f (numbered n (drop i bs)) ≡ flat_map f (numbered 1 bs) → said ≡ flat_map f (numbered 1 bs)
 said_all {X} f bs i n all said is =
     sym (append-nil said) ∙ ap (λ (xs : List Bearer). said ++ flat_map f (numbered n xs)) (sym (drop_all i bs all)) ∙ is

@@ -11,15 +11,15 @@ use Rattle.gnb_types.specs.declared.reasons.RefuseReason.TheVariants.{Empty, NoR
 use Rattle.gnb_types.specs.Orders.{bearer_cmp}
 use Rattle.tables.specs.Tables.{find}
 use Rattle.unit_defs.specs.Ways.{no, puts}
-use Rattle.unit_defs.specs.UpRecords.{UpBearer, UpContext}
-use Rattle.unit_defs.specs.UpBearers.{has_downlink, framed}
+use Rattle.unit_defs.specs.CuUpRecords.{CuUpBearer, CuUpContext}
+use Rattle.unit_defs.specs.CuUpBearers.{has_downlink, framed}
 use Rattle.unit_defs.specs.octet_defs.Codec.{Codec, octet_way}
 use Rattle.unit_defs.specs.octet_defs.Units.{OctetAnswer}
 use Rattle.unit_messages.specs.declared.steps.StepError.{StepError}
 use Rattle.unit_messages.specs.declared.steps.StepError.TheVariants as errors
 use Rattle.unit_messages.specs.steps.Steps.{step_after, IsStep}
-use Rattle.pdcp_bearers.specs.ue_bearers.Uplinks.{from_on, IsLeastFrom}
-use Rattle.cu_up_bearer.specs.declared.tunnels.at.At.{At}
+use Rattle.pdcp_bearers.specs.ue_bearers.Senders.{from_on, IsLeastFrom}
+use Rattle.cu_up_bearer.specs.declared.tunnels.at.Scope.{Scope}
 use Rattle.cu_up_bearer.specs.declared.tunnels.frames.Frames.{Frames}
 use Rattle.cu_up_bearer.specs.tunnels.Tunnels.{at_as, with_frames}
 use Rattle.cu_up_bearer.proofs.downlink.Resends.{all_from}
@@ -40,19 +40,19 @@ always : {X A : Type 0} (result : Result X StepError) → A → OnOk result A
 always (Ok x) a = a
 always (Err e) a = tt
 
-module _ (instance : ℕ) (bs : List Bearer) (a : At) (i : ℕ) (b : Bearer) (within : i < length bs) (number_is : i + 1 ≡ a.bearer.0)
+module _ (instance : ℕ) (bs : List Bearer) (a : Scope) (i : ℕ) (b : Bearer) (within : i < length bs) (number_is : i + 1 ≡ a.bearer.0)
     (at : b ≡ get_or bs i b) (codec : Codec) (before after : List Output) (result : Result (Unit {0}) StepError) where
-  abbrev pub whole : List Bearer → UpContext
+  abbrev pub whole : List Bearer → CuUpContext
   whole xs = context_as instance a.sn a.quota a.flags xs
 
-  abbrev polls : UpContext → OctetAnswer UpContext
+  abbrev polls : CuUpContext → OctetAnswer CuUpContext
   polls x = polled codec a.ue x a.bearer (find bearer_cmp x.bearers a.bearer)
 
-  abbrev polled_here : OctetAnswer UpContext
+  abbrev polled_here : OctetAnswer CuUpContext
   polled_here = polled codec a.ue (whole bs) a.bearer (Some (kept b))
 
   found_is : polls (whole bs) ≡ polled_here
-  found_is = ap (λ (o : Option UpBearer). polled codec a.ue (whole bs) a.bearer o) (found instance a.sn a.quota a.flags bs a.bearer i b within number_is at)
+  found_is = ap (λ (o : Option CuUpBearer). polled codec a.ue (whole bs) a.bearer o) (found instance a.sn a.quota a.flags bs a.bearer i b within number_is at)
 
   same_is : whole (set bs i b) ≡ whole bs
   same_is =
@@ -62,8 +62,8 @@ module _ (instance : ℕ) (bs : List Bearer) (a : At) (i : ℕ) (b : Bearer) (wi
   module _ (reason : RefuseReason) (out : OnOk result (after ≡ before ++ outs.No reason ∷ [])) (fails : IfErr result (λ e. e ≡ errors.Memory)) where
     refused_there : polled_here ≡ puts (no reason) (whole bs) → IsStep (step_after before (polls (whole bs))) after (whole (set bs i b)) result
     refused_there is =
-        subst (λ (x : OctetAnswer UpContext). IsStep (step_after before x) after (whole (set bs i b)) result) (sym (found_is ∙ is))
-        (subst (λ (d : UpContext). IsStep (step_after before (puts (no reason) (whole bs))) after d result) (sym same_is)
+        subst (λ (x : OctetAnswer CuUpContext). IsStep (step_after before x) after (whole (set bs i b)) result) (sym (found_is ∙ is))
+        (subst (λ (d : CuUpContext). IsStep (step_after before (puts (no reason) (whole bs))) after d result) (sym same_is)
         (refuses before after reason (whole bs) result out fails))
 
   pub polls_none : OnOk result (after ≡ before ++ outs.No Empty ∷ []) → IfErr result (λ e. e ≡ errors.Memory)
@@ -90,7 +90,7 @@ module _ (instance : ℕ) (bs : List Bearer) (a : At) (i : ℕ) (b : Bearer) (wi
         → IsStep (step_after before (polls (whole bs))) after (whole (set bs i (record b { down = record b.down { frames = f } }))) result
     polls_goes none f step =
         let next : Bearer = record b { down = record b.down { frames = f } } in
-        subst (λ (x : OctetAnswer UpContext). IsStep (step_after before x) after (whole (set bs i next)) result)
+        subst (λ (x : OctetAnswer CuUpContext). IsStep (step_after before x) after (whole (set bs i next)) result)
         (sym
         (found_is
         ∙ polled_served codec a.ue (whole bs) a.bearer (kept b) (e.0, e.1.now) (from_on (e.0 + 1) b.down.sending.sender.unconfirmed) some_is false (tested false none)))

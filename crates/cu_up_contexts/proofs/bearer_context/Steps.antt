@@ -6,7 +6,7 @@ use Rattle.std.proofs.lemmas.Result.{err_from_is_err_and}
 use Rattle.gnb_types.specs.declared.names.BearerId.{BearerId}
 use Rattle.gnb_types.specs.declared.outputs.Output.{Output}
 use Rattle.unit_defs.specs.Ways.{gives, spent}
-use Rattle.unit_defs.specs.UpRecords.{UpBearer, UpContext}
+use Rattle.unit_defs.specs.CuUpRecords.{CuUpBearer, CuUpContext}
 use Rattle.unit_defs.specs.CuUp.{UpStep, steps, stops, step_with}
 use Rattle.unit_defs.specs.octet_defs.Codec.{Codec, octet_way}
 use Rattle.unit_defs.specs.octet_defs.Units.{OctetAnswer}
@@ -51,10 +51,10 @@ module _ (codec : Codec) where
   Steps = UpStep (octet_way codec)
 
   abbrev pub Bearers : Type 0
-  Bearers = List (BearerId × UpBearer)
+  Bearers = List (BearerId × CuUpBearer)
 
   -- the first bearer's outputs, and the others after them
-  joined : (before : List Output) (id : BearerId) (outputs : List OctetPut) (b : UpBearer) (more : Steps)
+  joined : (before : List Output) (id : BearerId) (outputs : List OctetPut) (b : CuUpBearer) (more : Steps)
       → bearers_after codec before (step_with (octet_way codec) id (gives outputs b) more)
       ≡ map_step (λ (es : Bearers). (id, b) ∷ es) (bearers_after codec (before ++ outputs_of outputs) more)
   joined before id outputs b (steps os bs) =
@@ -62,13 +62,13 @@ module _ (codec : Codec) where
       (ap (λ (xs : List Output). before ++ xs) (outputs_append outputs os) ∙ sym (append_assoc before (outputs_of outputs) (outputs_of os)))
   joined before id outputs b (stops counter) = refl
 
-  module _ (before mid : List Output) (id : BearerId) (a : OctetAnswer UpBearer) (more : Steps) where
-    pub goes_on : {X : Type 0} (b : UpBearer) → step_after before a ≡ stepped mid b → (after : List Output) (es : Bearers) (result : Result X StepError)
+  module _ (before mid : List Output) (id : BearerId) (a : OctetAnswer CuUpBearer) (more : Steps) where
+    pub goes_on : {X : Type 0} (b : CuUpBearer) → step_after before a ≡ stepped mid b → (after : List Output) (es : Bearers) (result : Result X StepError)
         → IsStep (bearers_after codec mid more) after es result
         → IsStep (bearers_after codec before (step_with (octet_way codec) id a more)) after ((id, b) ∷ es) result
     goes_on {X} b first after es result rest = by a first
       where
-        by : (a : OctetAnswer UpBearer) → step_after before a ≡ stepped mid b
+        by : (a : OctetAnswer CuUpBearer) → step_after before a ≡ stepped mid b
             → IsStep (bearers_after codec before (step_with (octet_way codec) id a more)) after ((id, b) ∷ es) result
         by (gives outputs c) first =
             let out_is : before ++ outputs_of outputs ≡ mid = cc in
@@ -76,7 +76,7 @@ module _ (codec : Codec) where
             subst (λ (s : Step Bearers). IsStep s after ((id, b) ∷ es) result)
             (sym
             (joined before id outputs c more
-            ∙ ap (λ (x : UpBearer). map_step (λ (es : Bearers). (id, x) ∷ es) (bearers_after codec (before ++ outputs_of outputs) more)) c_is
+            ∙ ap (λ (x : CuUpBearer). map_step (λ (es : Bearers). (id, x) ∷ es) (bearers_after codec (before ++ outputs_of outputs) more)) c_is
             ∙ ap (λ (out : List Output). map_step (λ (es : Bearers). (id, b) ∷ es) (bearers_after codec out more)) out_is))
             (mapped (λ (es : Bearers). (id, b) ∷ es) (bearers_after codec mid more) after es result rest)
         by (spent counter) first = cc
@@ -84,12 +84,12 @@ module _ (codec : Codec) where
     ends : (counter : ℕ) → step_after before a ≡ stopped counter → bearers_after codec before (step_with (octet_way codec) id a more) ≡ stopped counter
     ends counter first = by a first
       where
-        by : (a : OctetAnswer UpBearer) → step_after before a ≡ stopped counter
+        by : (a : OctetAnswer CuUpBearer) → step_after before a ≡ stopped counter
             → bearers_after codec before (step_with (octet_way codec) id a more) ≡ stopped counter
         by (gives outputs c) first = cc
         by (spent n) first = cc
 
-    pub ends_with : (X Y : Type 0) (out : List Output) (b : UpBearer) (e : StepError) → IsStep {X = X} (step_after before a) out b (Err e)
+    pub ends_with : (X Y : Type 0) (out : List Output) (b : CuUpBearer) (e : StepError) → IsStep {X = X} (step_after before a) out b (Err e)
         → (after : List Output) (es : Bearers) (result : Result Y StepError) → IsErrAnd result (λ y. y ≡ e)
         → IsStep (bearers_after codec before (step_with (octet_way codec) id a more)) after es result
     ends_with X Y out b e first after es result err =
@@ -101,15 +101,15 @@ module _ (codec : Codec) where
         by errors.Memory first = tt
 
   -- the step of a context is that of its bearers
-  context_is : (before : List Output) (c : UpContext) (s : Steps)
+  context_is : (before : List Output) (c : CuUpContext) (s : Steps)
       → context_after codec before c s ≡ map_step (λ (es : Bearers). record c { bearers = es }) (bearers_after codec before s)
   context_is before c (steps outputs bearers) = refl
   context_is before c (stops counter) = refl
 
-  pub context_step : {X : Type 0} (before after : List Output) (c d : UpContext) (s : Steps) (es : Bearers) (result : Result X StepError)
+  pub context_step : {X : Type 0} (before after : List Output) (c d : CuUpContext) (s : Steps) (es : Bearers) (result : Result X StepError)
       → OnOk result (d ≡ record c { bearers = es }) → IsStep (bearers_after codec before s) after es result
       → IsStep (context_after codec before c s) after d result
   context_step before after c d s es result is step =
       after_as (context_after codec before c s) after (record c { bearers = es }) d result is
-      (subst (λ (t : Step UpContext). IsStep t after (record c { bearers = es }) result) (sym (context_is before c s))
+      (subst (λ (t : Step CuUpContext). IsStep t after (record c { bearers = es }) result) (sym (context_is before c s))
       (mapped (λ (es : Bearers). record c { bearers = es }) (bearers_after codec before s) after es result step))

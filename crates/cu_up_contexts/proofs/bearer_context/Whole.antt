@@ -3,16 +3,16 @@ use Rattle.std.proofs.Common.{◌≡◌, ℕ, ◌≤◌, length, List, sym, ap, 
 use Rattle.std.specs.Global.{Vec}
 use Rattle.std.specs.Vec.{with_items}
 use Rattle.gnb_types.specs.declared.names.SnBits.{SnBits}
-use Rattle.unit_defs.specs.UpRecords.{UpContext}
+use Rattle.unit_defs.specs.CuUpRecords.{CuUpContext}
 use Rattle.cu_up_bearer.specs.declared.tunnels.at.Flags.{Flags}
 use Rattle.cu_up_bearer.specs.declared.bearers.bearer.Bearer.{Bearer}
 use Rattle.cu_up_contexts.specs.bearer_context.Bearers.{shared, AreServed, IsContext, context_as}
 use Rattle.cu_up_contexts.proofs.bearer_context.Numbered.{length-numbered, with_all}
 
 -- how many there are
-pub seen_length : (instance : ℕ) (sn : SnBits) (quota : ℕ) (flags : Flags) (bs : List Bearer) (c : UpContext)
+pub seen_length : (instance : ℕ) (sn : SnBits) (quota : ℕ) (flags : Flags) (bs : List Bearer) (c : CuUpContext)
     → context_as instance sn quota flags bs ≡ c → length c.bearers ≡ length bs
-seen_length instance sn quota flags bs c seen = sym (ap (λ (x : UpContext). length x.bearers) seen) ∙ length-numbered 1 bs
+seen_length instance sn quota flags bs c seen = sym (ap (λ (x : CuUpContext). length x.bearers) seen) ∙ length-numbered 1 bs
 
 -- an order that keeps them served, where the flags that count are the same
 pub sound_with : (sn : SnBits) (quota : ℕ) (flags : Flags) (v : Vec Bearer) (slice ws : List Bearer) → slice ≡ v.items → length ws ≡ length slice

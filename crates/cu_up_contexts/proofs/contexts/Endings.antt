@@ -9,8 +9,8 @@ use Rattle.gnb_types.specs.declared.outputs.Output.TheVariants as outs
 use Rattle.gnb_types.specs.Orders.{ue_cmp}
 use Rattle.tables.specs.Tables.{find, put, without}
 use Rattle.unit_defs.specs.Ways.{closed, nothing}
-use Rattle.unit_defs.specs.UpRecords.{UpBearer, UpContext, UpTunnel}
-use Rattle.unit_defs.specs.UpBearers.{open_teids}
+use Rattle.unit_defs.specs.CuUpRecords.{CuUpBearer, CuUpContext, CuUpTunnel}
+use Rattle.unit_defs.specs.CuUpBearers.{open_teids}
 use Rattle.unit_defs.specs.Teids.{without_each}
 use Rattle.unit_defs.specs.CuUp.{ended, with_context, ended_if_over, end_where_over, as_released, released_on}
 use Rattle.unit_defs.specs.octet_defs.Codec.{Codec, octet_way}
@@ -20,7 +20,7 @@ use Rattle.unit_messages.specs.declared.steps.StepError.{StepError}
 use Rattle.unit_messages.specs.steps.Steps.{Step, stepped, step_after, IsStep}
 use Rattle.unit_messages.proofs.steps.StepLaws.{OctetPut, outputs_append}
 use Rattle.cu_up_contexts.specs.bearer_context.Contexts.{all_open, is_all_over}
-use Rattle.cu_up_contexts.specs.contexts.Tables.{OctetUp, UpTables, with_tables}
+use Rattle.cu_up_contexts.specs.contexts.Tables.{OctetUp, CuUpTables, with_tables}
 use Rattle.cu_up_contexts.specs.contexts.Rows.{ended_at}
 
 abbrev shown_closed : List ℕ → List Output
@@ -37,7 +37,7 @@ closed_append : (xs ys : List ℕ) → shown_closed (xs ++ ys) ≡ shown_closed 
 closed_append [] ys = refl
 closed_append (x ∷ xs) ys = ap (λ (os : List Output). outs.Closed x ∷ os) (closed_append xs ys)
 
-closings_are : (es : List (BearerId × UpBearer))
+closings_are : (es : List (BearerId × CuUpBearer))
     → outputs_of (flat_map (λ e. puts_closed (open_teids e.1)) es) ≡ shown_closed (flat_map (λ e. open_teids e.1) es)
 closings_are [] = refl
 closings_are (e ∷ es) =
@@ -46,7 +46,7 @@ closings_are (e ∷ es) =
     ∙ sym (closed_append (open_teids e.1) (flat_map (λ f. open_teids f.1) es))
 
 module _ (codec : Codec) (r : OctetUp) (ue : UeId) (before after : List Output) where
-  pub ended_step : (n : ℕ) (ts us : List (ℕ × UpTunnel)) (cs ds : List (UeId × UpContext)) (t : UpTables) (c : UpContext) (teids : List ℕ)
+  pub ended_step : (n : ℕ) (ts us : List (ℕ × CuUpTunnel)) (cs ds : List (UeId × CuUpContext)) (t : CuUpTables) (c : CuUpContext) (teids : List ℕ)
       → record { next_teid = n; tunnels = ts; contexts = cs } ≡ t → find ue_cmp cs ue ≡ Some c → teids ≡ all_open c
       → us ≡ without_each ts teids → after ≡ before ++ shown_closed teids → ds ≡ without ue_cmp cs ue
       → step_after before (ended_at codec ue (with_tables r t) (find ue_cmp t.contexts ue))
@@ -55,16 +55,16 @@ module _ (codec : Codec) (r : OctetUp) (ue : UeId) (before after : List Output) 
   ended_step n ts us cs ds t c teids seen found teids_are us_are after_is ds_are =
       let at : OctetUp → List Output → Step OctetUp = λ s os. stepped os s in
       sym
-      (ap (λ (u : UpTables). step_after before (ended_at codec ue (with_tables r u) (find ue_cmp u.contexts ue))) seen)
-      ∙ ap (λ (o : Option UpContext). step_after before (ended_at codec ue (with_tables r (record { next_teid = n; tunnels = ts; contexts = cs })) o)) found
+      (ap (λ (u : CuUpTables). step_after before (ended_at codec ue (with_tables r u) (find ue_cmp u.contexts ue))) seen)
+      ∙ ap (λ (o : Option CuUpContext). step_after before (ended_at codec ue (with_tables r (record { next_teid = n; tunnels = ts; contexts = cs })) o)) found
       ∙ ap (λ (os : List Output). stepped (before ++ os) (with_tables r (record { next_teid = n; tunnels = without_each ts (all_open c); contexts = without ue_cmp cs ue }))) (closings_are c.bearers)
       ∙ ap (λ (xs : List ℕ). stepped (before ++ shown_closed xs) (with_tables r (record { next_teid = n; tunnels = without_each ts xs; contexts = without ue_cmp cs ue }))) (sym teids_are)
       ∙ (λ k. stepped (sym after_is k) (with_tables r (record { next_teid = n; tunnels = sym us_are k; contexts = sym ds_are k })))
 
 -- ---- the end where nothing comes any more
 
-module _ (codec : Codec) (r : OctetUp) (ue : UeId) (before : List Output) (t : UpTables) where
-  abbrev ends : Option UpContext → Step OctetUp
+module _ (codec : Codec) (r : OctetUp) (ue : UeId) (before : List Output) (t : CuUpTables) where
+  abbrev ends : Option CuUpContext → Step OctetUp
   ends o = step_after before (ended_if_over (octet_way codec) ue (with_tables r t) o)
 
   abbrev goes_on : Step OctetUp
@@ -77,7 +77,7 @@ module _ (codec : Codec) (r : OctetUp) (ue : UeId) (before : List Output) (t : U
   unfolding end_where_over
   over_nowhere none = ap ends none ∙ nothing_put
 
-  module _ (c : UpContext) (found : find ue_cmp t.contexts ue ≡ Some c) where
+  module _ (c : CuUpContext) (found : find ue_cmp t.contexts ue ≡ Some c) where
     abbrev ends_by : Bool → Step OctetUp
     ends_by over = step_after before (cond over (ended (octet_way codec) (with_tables r t) ue c) (nothing (with_tables r t)))
 
@@ -91,33 +91,33 @@ module _ (codec : Codec) (r : OctetUp) (ue : UeId) (before : List Output) (t : U
     unfolding end_where_over
     over_now over after s result step =
         let same : step_after before (ended_at codec ue (with_tables r t) (find ue_cmp t.contexts ue)) ≡ ends (find ue_cmp t.contexts ue) =
-        ap (λ (o : Option UpContext). step_after before (ended_at codec ue (with_tables r t) o)) found ∙ sym (ap ends found ∙ ap ends_by over) in
+        ap (λ (o : Option CuUpContext). step_after before (ended_at codec ue (with_tables r t) o)) found ∙ sym (ap ends found ∙ ap ends_by over) in
         subst (λ (x : Step OctetUp). IsStep x after s result) same step
 
 -- ---- a release
 
 module _ {X : Type 0} (codec : Codec) (r : OctetUp) (ue : UeId) (before after : List Output) (s : OctetUp) (result : Result X StepError) where
-  at_once : (is_final : Bool) → is_final ≡ true → (q : OctetUp) (o : Option UpContext) → ended_at codec ue q o ≡ released_on (octet_way codec) ue is_final q o
+  at_once : (is_final : Bool) → is_final ≡ true → (q : OctetUp) (o : Option CuUpContext) → ended_at codec ue q o ≡ released_on (octet_way codec) ue is_final q o
   at_once is_final final q None = refl
   at_once is_final final q (Some c) =
       ap (λ (b : Bool). cond b (ended (octet_way codec) q ue c) (end_where_over (octet_way codec) ue (with_context ue q (as_released (octet_way codec) c)))) (sym final)
 
-  pub released_at_once : (is_final : Bool) → is_final ≡ true → (t : UpTables)
+  pub released_at_once : (is_final : Bool) → is_final ≡ true → (t : CuUpTables)
       → IsStep (step_after before (ended_at codec ue (with_tables r t) (find ue_cmp t.contexts ue))) after s result
       → IsStep (step_after before (released_on (octet_way codec) ue is_final (with_tables r t) (find ue_cmp t.contexts ue))) after s result
   released_at_once is_final final t step =
       subst (λ (a : OctetAnswer OctetUp). IsStep (step_after before a) after s result) (at_once is_final final (with_tables r t) (find ue_cmp t.contexts ue)) step
 
-  pub released_later : (is_final : Bool) → is_final ≡ false → (n : ℕ) (ts : List (ℕ × UpTunnel)) (cs : List (UeId × UpContext)) (t : UpTables) (c d : UpContext)
+  pub released_later : (is_final : Bool) → is_final ≡ false → (n : ℕ) (ts : List (ℕ × CuUpTunnel)) (cs : List (UeId × CuUpContext)) (t : CuUpTables) (c d : CuUpContext)
       → record { next_teid = n; tunnels = ts; contexts = cs } ≡ t → find ue_cmp cs ue ≡ Some c → d ≡ as_released (octet_way codec) c
       → IsStep (step_after before (end_where_over (octet_way codec) ue (with_tables r (record { next_teid = n; tunnels = ts; contexts = put ue_cmp cs ue d })))) after s result
       → IsStep (step_after before (released_on (octet_way codec) ue is_final (with_tables r t) (find ue_cmp t.contexts ue))) after s result
   released_later is_final later n ts cs t c d seen found d_is step =
       let whole : OctetUp = with_tables r (record { next_teid = n; tunnels = ts; contexts = cs }) in
-      let over : UpContext → OctetAnswer OctetUp = λ x. end_where_over (octet_way codec) ue (with_context ue whole x) in
+      let over : CuUpContext → OctetAnswer OctetUp = λ x. end_where_over (octet_way codec) ue (with_context ue whole x) in
       let row : over d ≡ released_on (octet_way codec) ue is_final whole (find ue_cmp cs ue) =
       ap over d_is
       ∙ ap (λ (b : Bool). cond b (ended (octet_way codec) whole ue c) (over (as_released (octet_way codec) c))) (sym later)
-      ∙ ap (λ (o : Option UpContext). released_on (octet_way codec) ue is_final whole o) (sym found) in
-      subst (λ (u : UpTables). IsStep (step_after before (released_on (octet_way codec) ue is_final (with_tables r u) (find ue_cmp u.contexts ue))) after s result) seen
+      ∙ ap (λ (o : Option CuUpContext). released_on (octet_way codec) ue is_final whole o) (sym found) in
+      subst (λ (u : CuUpTables). IsStep (step_after before (released_on (octet_way codec) ue is_final (with_tables r u) (find ue_cmp u.contexts ue))) after s result) seen
       (subst (λ (a : OctetAnswer OctetUp). IsStep (step_after before a) after s result) row step)

@@ -12,8 +12,8 @@ use Rattle.gnb_types.specs.declared.plans.Tunnel.{Tunnel}
 use Rattle.tables.specs.Tables.{find, put}
 use Rattle.unit_defs.specs.Ways.{opened, spent, teids_spent}
 use Rattle.unit_defs.specs.Teids.{teids_are_left, teid_after}
-use Rattle.unit_defs.specs.UpRecords.{UpBearer, UpContext, UpTunnel}
-use Rattle.unit_defs.specs.UpBearers.{teids_of_bearer}
+use Rattle.unit_defs.specs.CuUpRecords.{CuUpBearer, CuUpContext, CuUpTunnel}
+use Rattle.unit_defs.specs.CuUpBearers.{teids_of_bearer}
 use Rattle.unit_defs.specs.CuUp.{entries_of, opened_of, with_entries, with_new, makes, answer_with, with_context, teids_from, uplinks_from, uplink_entries, uplinks_given}
 use Rattle.unit_defs.specs.octet_defs.Codec.{Codec, octet_way}
 use Rattle.unit_defs.specs.octet_defs.Writing.{outputs_of}
@@ -26,12 +26,12 @@ use Rattle.cu_up_contexts.specs.declared.bearer_context.context.ContextSetup.{Co
 use Rattle.cu_up_contexts.specs.declared.bearer_context.answers.Opening.{Opening}
 use Rattle.cu_up_contexts.specs.bearer_context.Orders.{context_after}
 use Rattle.cu_up_contexts.proofs.bearer_context.Steps.{error_as}
-use Rattle.cu_up_contexts.specs.contexts.Tables.{OctetUp, UpTables, with_tables}
+use Rattle.cu_up_contexts.specs.contexts.Tables.{OctetUp, CuUpTables, with_tables}
 use Rattle.cu_up_contexts.specs.contexts.Rows.{added_at, uplinks_at}
 use Rattle.cu_up_contexts.proofs.contexts.Steps.{answered}
 
 abbrev Entries : Type 0
-Entries = List (ℕ × UpTunnel)
+Entries = List (ℕ × CuUpTunnel)
 
 abbrev shown : Entries → List Output
 shown ts = map (λ t. outs.Opened t.0) ts
@@ -53,7 +53,7 @@ put_shown : (ts : Entries) → outputs_of (map (λ t. opened t.0) ts) ≡ shown 
 put_shown [] = refl
 put_shown (t ∷ ts) = ap (λ (os : List Output). outs.Opened t.0 ∷ os) (put_shown ts)
 
-opened_are : (codec : Codec) (es : List (BearerId × UpBearer))
+opened_are : (codec : Codec) (es : List (BearerId × CuUpBearer))
     → outputs_of (flat_map (opened_of (octet_way codec)) es) ≡ shown (flat_map (entries_of nobody 0) es)
 opened_are codec [] = refl
 opened_are codec (e ∷ es) =
@@ -66,14 +66,14 @@ openings_shown [] = refl
 openings_shown (o ∷ os) = ap (λ (xs : List Output). outs.Opened o.teid ∷ xs) (openings_shown os)
 
 -- the tunnels that are shown are those that are opened
-pub shows : (codec : Codec) (before after : List Output) (os : List Opening) (es : List (BearerId × UpBearer))
+pub shows : (codec : Codec) (before after : List Output) (os : List Opening) (es : List (BearerId × CuUpBearer))
     → map (entry_as nobody 0) os ≡ flat_map (entries_of nobody 0) es
     → after ≡ before ++ map (λ o. outs.Opened o.teid) os
     → after ≡ before ++ outputs_of (flat_map (opened_of (octet_way codec)) es)
 shows codec before after os es are is =
     is ∙ ap (λ (xs : List Output). before ++ xs) (openings_shown os ∙ ap (λ (ts : Entries). shown ts) are ∙ sym (opened_are codec es))
 
-module _ (codec : Codec) (r : OctetUp) (ue : UeId) (before : List Output) (t : UpTables) (setup : ContextSetup) where
+module _ (codec : Codec) (r : OctetUp) (ue : UeId) (before : List Output) (t : CuUpTables) (setup : ContextSetup) where
   abbrev makes_there : Bool → Step OctetUp
   makes_there left =
       step_after before (cond left
@@ -81,7 +81,7 @@ module _ (codec : Codec) (r : OctetUp) (ue : UeId) (before : List Output) (t : U
       (spent teids_spent))
 
   -- a context is made
-  pub made_step : (after : List Output) (u : UpTables) (teids : ℕ) (c : UpContext) → teids ≡ setup.count * teids_of_bearer setup.target
+  pub made_step : (after : List Output) (u : CuUpTables) (teids : ℕ) (c : CuUpContext) → teids ≡ setup.count * teids_of_bearer setup.target
       → teids_are_left t.next_teid teids ≡ true → c ≡ made_from t.next_teid setup
       → after ≡ before ++ outputs_of (flat_map (opened_of (octet_way codec)) c.bearers)
       → u ≡ record t {
@@ -94,26 +94,26 @@ module _ (codec : Codec) (r : OctetUp) (ue : UeId) (before : List Output) (t : U
   made_step after u teids c teids_are left c_is after_is u_is =
       ap (λ (b : Bool). makes_there b) (ap (λ (n : ℕ). teids_are_left t.next_teid n) (sym teids_are) ∙ left)
       ∙ ap (λ (n : ℕ). step_after before (with_new (octet_way codec) ue (with_tables r t) n (made_from t.next_teid setup))) (sym teids_are)
-      ∙ ap (λ (d : UpContext). step_after before (with_new (octet_way codec) ue (with_tables r t) teids d)) (sym c_is)
+      ∙ ap (λ (d : CuUpContext). step_after before (with_new (octet_way codec) ue (with_tables r t) teids d)) (sym c_is)
       ∙ (λ k. stepped (sym after_is k) (with_tables r (sym u_is k)))
 
 -- ---- further uplinks
 
-length_teids : (codec : Codec) (n : ℕ) (es : List (BearerId × UpBearer)) → length (teids_from (octet_way codec) n es) ≡ length es
+length_teids : (codec : Codec) (n : ℕ) (es : List (BearerId × CuUpBearer)) → length (teids_from (octet_way codec) n es) ≡ length es
 length_teids codec n [] = refl
 length_teids codec n (e ∷ es) = ap suc (length_teids codec (n + 1) es)
 
 -- their TEIDs
-pub uplinks_are : (codec : Codec) (ue : UeId) (n : ℕ) (ts : Entries) (cs : List (UeId × UpContext)) (t : UpTables) (c : UpContext) (uplinks : List Tunnel)
+pub uplinks_are : (codec : Codec) (ue : UeId) (n : ℕ) (ts : Entries) (cs : List (UeId × CuUpContext)) (t : CuUpTables) (c : CuUpContext) (uplinks : List Tunnel)
     → record { next_teid = n; tunnels = ts; contexts = cs } ≡ t → find ue_cmp cs ue ≡ Some c
     → uplinks ≡ teids_from (octet_way codec) n c.bearers → uplinks ≡ uplinks_at codec t.next_teid (find ue_cmp t.contexts ue)
 uplinks_are codec ue n ts cs t c uplinks seen found is =
     is
-    ∙ sym (ap (λ (o : Option UpContext). uplinks_at codec n o) found)
-    ∙ ap (λ (u : UpTables). uplinks_at codec u.next_teid (find ue_cmp u.contexts ue)) seen
+    ∙ sym (ap (λ (o : Option CuUpContext). uplinks_at codec n o) found)
+    ∙ ap (λ (u : CuUpTables). uplinks_at codec u.next_teid (find ue_cmp u.contexts ue)) seen
 
-module _ (codec : Codec) (r : OctetUp) (ue : UeId) (before after : List Output) (n count : ℕ) (ts : Entries) (cs : List (UeId × UpContext)) (t : UpTables)
-    (c : UpContext) (seen : record { next_teid = n; tunnels = ts; contexts = cs } ≡ t) (found : find ue_cmp cs ue ≡ Some c)
+module _ (codec : Codec) (r : OctetUp) (ue : UeId) (before after : List Output) (n count : ℕ) (ts : Entries) (cs : List (UeId × CuUpContext)) (t : CuUpTables)
+    (c : CuUpContext) (seen : record { next_teid = n; tunnels = ts; contexts = cs } ≡ t) (found : find ue_cmp cs ue ≡ Some c)
     (count_is : count ≡ length c.bearers) where
   abbrev whole : OctetUp
   whole = with_tables r (record { next_teid = n; tunnels = ts; contexts = cs })
@@ -127,11 +127,11 @@ module _ (codec : Codec) (r : OctetUp) (ue : UeId) (before after : List Output) 
 
   row : teids_are_left n count ≡ true → step_after before (added_at codec ue (with_tables r t) (find ue_cmp t.contexts ue)) ≡ adds true
   row left =
-      sym (ap (λ (u : UpTables). step_after before (added_at codec ue (with_tables r u) (find ue_cmp u.contexts ue))) seen)
-      ∙ ap (λ (o : Option UpContext). step_after before (added_at codec ue whole o)) found
+      sym (ap (λ (u : CuUpTables). step_after before (added_at codec ue (with_tables r u) (find ue_cmp u.contexts ue))) seen)
+      ∙ ap (λ (o : Option CuUpContext). step_after before (added_at codec ue whole o)) found
       ∙ ap (λ (b : Bool). adds b) (ap (λ (k : ℕ). teids_are_left n k) (sym count_is) ∙ left)
 
-  module _ (left : teids_are_left n count ≡ true) (d : UpContext) where
+  module _ (left : teids_are_left n count ≡ true) (d : CuUpContext) where
     -- each bearer of a context gets one more uplink
     pub added_step : (next instance : ℕ) (us : Entries) (uplinks : List Tunnel) → uplinks ≡ teids_from (octet_way codec) n c.bearers
         → instance ≡ c.instance → us ≡ with_entries ts (uplink_entries (octet_way codec) ue instance uplinks) → next ≡ teid_after n count

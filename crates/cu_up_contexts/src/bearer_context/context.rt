@@ -3,14 +3,14 @@
 ghost use Rattle.std.specs.Prelude.{◌≡◌, ◌+◌, ◌*◌, ◌<◌, ◌≤◌, ◌^◌, length, Some, IfOk, IfSome, IfNone};
 ghost use Rattle.unit_defs.specs.Accessors.{is_unconfirmed_of, up_context_rests};
 ghost use Rattle.unit_defs.specs.CuUp.{bearers_from, bearers_made};
-ghost use Rattle.unit_defs.specs.UpBearers.{teids_of_bearer};
+ghost use Rattle.unit_defs.specs.CuUpBearers.{teids_of_bearer};
 ghost use Rattle.cu_up_bearer.specs.tunnels.Tunnels.{flags_as};
 ghost use Rattle.cu_up_contexts.specs.bearer_context.Bearers.{numbered, shared, AreServed, IsOutside};
 ghost use Rattle.cu_up_contexts.specs.bearer_context.Contexts.{made_from, flags_at_first, at_in};
 
 use crate::bearer_context::ending::rests;
 use cu_up_bearer::bearers::Bearer;
-use cu_up_bearer::tunnels::{At, Flags};
+use cu_up_bearer::tunnels::{Flags, Scope};
 use gnb_types::items::Memory;
 use gnb_types::names::{BearerId, SnBits, UeId};
 use std::alloc::Global;
@@ -40,10 +40,10 @@ pub struct Context {
 }
 
 impl Model for Context {
-    ghost use Rattle.unit_defs.specs.UpRecords.{UpContext};
+    ghost use Rattle.unit_defs.specs.CuUpRecords.{CuUpContext};
     ghost use Rattle.cu_up_contexts.specs.bearer_context.Bearers.{context_as, IsContext};
 
-    ghost Value = { UpContext };
+    ghost Value = { CuUpContext };
 
     ghost view = { λ c. context_as c.instance c.sn c.quota c.flags c.bearers.items };
 
@@ -84,7 +84,7 @@ impl ContextSetup {
         let mut bearers = Vec::new(alloc);
         let mut teid = u64::from(first);
         for index in 0..self.count {
-            let at = At {
+            let at = Scope {
                 ue,
                 bearer: BearerId(index + 1),
                 sn: self.sn,

@@ -2,9 +2,9 @@
 
 ghost use Rattle.std.specs.Prelude.{◌≡◌, ℕ, ◌++◌, ◌&&◌, length, map, IfOk, OnOk};
 ghost use Rattle.unit_defs.specs.CuUp.{as_released};
-ghost use Rattle.unit_defs.specs.UpBearers.{released, is_closed, no_uplink, hop_is_done, is_over, teid_in, open_teids};
+ghost use Rattle.unit_defs.specs.CuUpBearers.{released, is_closed, no_uplink, hop_is_done, is_over, teid_in, open_teids};
 ghost use Rattle.unit_defs.specs.octet_defs.Codec.{Codec, octet_way};
-ghost use Rattle.cu_up_bearer.specs.declared.tunnels.at.At.{At as Place};
+ghost use Rattle.cu_up_bearer.specs.declared.tunnels.at.Scope.{Scope as Place};
 ghost use Rattle.cu_up_bearer.specs.tunnels.Tunnels.{flags_as};
 ghost use Rattle.cu_up_bearer.specs.bearers.Bearers.{kept};
 ghost use Rattle.cu_up_contexts.specs.bearer_context.Bearers.{numbered, AreServed};

@@ -4,18 +4,18 @@ ghost use Rattle.std.specs.Prelude.{◌≡◌, not, ◌||◌, ◌∷◌, [], ◌
 ghost use Rattle.gnb_types.specs.declared.outputs.Output.TheVariants as outs;
 ghost use Rattle.gnb_types.specs.Orders.{bearer_cmp};
 ghost use Rattle.tables.specs.Tables.{find};
-ghost use Rattle.unit_defs.specs.UpBearers.{has_downlink};
+ghost use Rattle.unit_defs.specs.CuUpBearers.{has_downlink};
 ghost use Rattle.cu_up_bearer.specs.bearers.Bearers.{kept};
 ghost use Rattle.unit_defs.specs.codec_defs.Reading.{ReadsItems};
 ghost use Rattle.unit_defs.specs.octet_defs.Codec.{Codec};
 ghost use Rattle.unit_messages.specs.steps.Steps.{IsStep, step_after};
 ghost use Rattle.unit_messages.specs.declared.steps.StepError.TheVariants as errors;
-ghost use Rattle.cu_up_contexts.specs.bearer_context.Items.{came_in, polled, IsCameIn};
+ghost use Rattle.cu_up_contexts.specs.bearer_context.Items.{came_in, polled, IsReceivedIn};
 
 use crate::bearer_context::context::{Context, index_of};
 use crate::bearer_context::orders::forget_if;
 use cu_up_bearer::bearers::Bearer;
-use cu_up_bearer::tunnels::{At, Flags};
+use cu_up_bearer::tunnels::{Flags, Scope};
 use cu_up_items::items::Kind;
 use cu_up_items::items::coming::come;
 use gnb_types::names::{BearerId, UeId};
@@ -56,7 +56,7 @@ impl Context {
         octets: &[u8],
         out: &mut Outputs,
     ) -> Result<bool, StepError>
-        ensures { (codec : Codec) → ReadsItems codec → IsCameIn
+        ensures { (codec : Codec) → ReadsItems codec → IsReceivedIn
             (came_in codec ue self.old bearer kind teid octets.now (find bearer_cmp self.old.bearers bearer))
             bearer out.old out.new self.old self.new result }
     {
@@ -64,7 +64,7 @@ impl Context {
             out.push(Output::Drop(DropReason::NoContext))?;
             return Ok(false);
         };
-        let at = At {
+        let at = Scope {
             ue,
             bearer,
             sn: self.sn,
@@ -92,7 +92,7 @@ impl Context {
         let Some(index) = index_of(bearer, self.bearers.len()) else {
             return refuse(RefuseReason::Empty, out);
         };
-        let at = At {
+        let at = Scope {
             ue,
             bearer,
             sn: self.sn,

@@ -6,13 +6,13 @@ ghost use Rattle.gnb_types.specs.declared.names.Gnb.{Gnb as GnbName};
 ghost use Rattle.gnb_types.specs.declared.names.NodeId.TheVariants.{Du};
 ghost use Rattle.unit_defs.specs.Messages.{teid_of};
 ghost use Rattle.unit_defs.specs.Static.{with_downlinks};
-ghost use Rattle.unit_defs.specs.UpRecords.{UpBearer, up_at};
+ghost use Rattle.unit_defs.specs.CuUpRecords.{CuUpBearer, cu_up_scope};
 ghost use Rattle.unit_defs.specs.CuUp.{each_bearer, uplinks_from, status_each, as_switched, as_frozen, as_known, as_resumed};
 ghost use Rattle.unit_defs.specs.octet_defs.Codec.{Codec, octet_way};
 ghost use Rattle.unit_messages.specs.steps.Steps.{IsStep, step_after};
 ghost use Rattle.cu_up_bearer.specs.tunnels.Tunnels.{at_as};
 ghost use Rattle.cu_up_bearer.specs.bearers.Bearers.{kept};
-ghost use Rattle.cu_up_bearer.specs.declared.tunnels.at.At.{At as Place};
+ghost use Rattle.cu_up_bearer.specs.declared.tunnels.at.Scope.{Scope as Place};
 ghost use Rattle.cu_up_contexts.specs.bearer_context.Bearers.{numbered, IsServed, AreServed, AreEmpty};
 ghost use Rattle.cu_up_contexts.specs.bearer_context.Orders.{bearers_after, context_after, row_of, at_bearer, holder, switched_each, frozen_each, resumed_each, IsAllowed, AreShort};
 
@@ -21,7 +21,7 @@ use cu_up_bearer::bearers::Bearer;
 use cu_up_bearer::orders::freezing::freeze;
 use cu_up_bearer::orders::going_on::{resume, take_status};
 use cu_up_bearer::orders::serving::{add_uplink, switch};
-use cu_up_bearer::tunnels::{At, Downlink, Hop};
+use cu_up_bearer::tunnels::{DownlinkTunnel, Hop, Scope};
 use gnb_types::names::{BearerId, Gnb, NodeId, UeId};
 use gnb_types::outputs::Outputs;
 use gnb_types::plans::{SnStatus, Tunnel};
@@ -61,7 +61,7 @@ fn teid_of(tunnels: &[Tunnel], bearer: BearerId) -> u32
 fn carry_out(
     order: BearerOrder<'_>,
     alloc: Global,
-    at: &At,
+    at: &Scope,
     bearer: &mut Bearer,
     out: &mut Outputs,
 ) -> Result<(), StepError>
@@ -92,7 +92,7 @@ fn carry_out(
 fn each(
     order: BearerOrder<'_>,
     alloc: Global,
-    at: At,
+    at: Scope,
     bearers: &mut [Bearer],
     out: &mut Outputs,
 ) -> Result<(), StepError>
@@ -131,7 +131,7 @@ fn add_each(next: u64, bearers: &mut [Bearer], out: &mut Outputs) -> Result<(), 
 fn go_on_each(
     statuses: &[SnStatus],
     alloc: Global,
-    at: At,
+    at: Scope,
     bearers: &mut [Bearer],
     out: &mut Outputs,
 ) -> Result<(), StepError>
@@ -139,7 +139,7 @@ fn go_on_each(
     requires known { at.flags.may_serve ≡ true }
     requires few { at.bearer.0 + length bearers.old ≤ 255 }
     requires empty { AreEmpty at bearers.old }
-    ensures step { (codec : Codec) (instance : ℕ) (others : List (Id × UpBearer)) → IsStep (bearers_after codec out.old
+    ensures step { (codec : Codec) (instance : ℕ) (others : List (Id × CuUpBearer)) → IsStep (bearers_after codec out.old
         (status_each (octet_way codec) at.ue (holder instance at others) statuses.now (numbered at.bearer.0 bearers.old)))
         out.new (numbered at.bearer.0 bearers.new) result }
     ensures served { OnOk result (AreServed at bearers.new) }
@@ -167,7 +167,7 @@ fn begin_each(du: NodeId, next: u64, bearers: &mut [Bearer])
     let Some((first, rest)) = bearers.split_first_mut() else {
         return;
     };
-    first.down.frames.downlink = Some(Downlink {
+    first.down.frames.downlink = Some(DownlinkTunnel {
         du,
         teid: next as u32,
         next: 0,
@@ -196,9 +196,9 @@ impl Context {
     ) -> Result<(), StepError>
         requires { IsAllowed order self.old.flags.may_serve }
         ensures { (codec : Codec) → IsStep (context_after codec out.old self.old (each_bearer (octet_way codec)
-            (λ id b. row_of codec order.entry (up_at ue self.old id) b) self.old.bearers)) out.new self.new result }
+            (λ id b. row_of codec order.entry (cu_up_scope ue self.old id) b) self.old.bearers)) out.new self.new result }
     {
-        let at = At {
+        let at = Scope {
             ue,
             bearer: BearerId(1),
             sn: self.sn,
@@ -269,7 +269,7 @@ impl Context {
             (status_each (octet_way codec) ue (as_known (octet_way codec) self.old) statuses.now self.old.bearers)) out.new self.new result }
     {
         self.flags.may_serve = true;
-        let at = At {
+        let at = Scope {
             ue,
             bearer: BearerId(1),
             sn: self.sn,

@@ -3,7 +3,7 @@
 ghost use Rattle.std.specs.Prelude.{◌≡◌, ◌*◌, ◌<◌, ◌^◌, option_copied};
 ghost use Rattle.gnb_types.specs.Orders.{ue_cmp};
 ghost use Rattle.tables.specs.Tables.{find};
-ghost use Rattle.unit_defs.specs.Accessors.{up_has_context, is_unconfirmed, up_rests};
+ghost use Rattle.unit_defs.specs.Accessors.{cu_up_has_context, is_unconfirmed, cu_up_rests};
 ghost use Rattle.unit_defs.specs.CuUp.{fits};
 ghost use Rattle.unit_defs.specs.octet_defs.Codec.{Codec, octet_way};
 ghost use Rattle.cu_up_contexts.specs.contexts.Tables.{OctetUp, with_tables, no_tables};
@@ -20,18 +20,18 @@ const POOL_BLOCKS: u64 = 8_192;
 
 /// Whose a tunnel is that ends at the CU-UP: the terminal and bearer, its kind, and the instance of the context.
 #[derive(Drop)]
-pub(crate) struct UpTunnel {
+pub(crate) struct CuUpTunnel {
     pub(crate) ue: UeId,
     pub(crate) bearer: BearerId,
     pub(crate) kind: Kind,
     pub(crate) context: u32,
 }
 
-impl Model for UpTunnel {
-    ghost use Rattle.unit_defs.specs.UpRecords.{UpTunnel};
+impl Model for CuUpTunnel {
+    ghost use Rattle.unit_defs.specs.CuUpRecords.{CuUpTunnel};
     ghost use Rattle.cu_up_items.specs.items.Items.{kind_as};
 
-    ghost Value = { UpTunnel };
+    ghost Value = { CuUpTunnel };
 
     ghost view = { λ t. record { ue = t.ue; bearer = t.bearer; kind = kind_as t.kind; context = t.context } };
 }
@@ -41,14 +41,14 @@ impl Model for UpTunnel {
 pub struct Contexts {
     /// 0 where all were given.
     pub(crate) next_teid: u32,
-    pub(crate) tunnels: Table<u32, UpTunnel>,
+    pub(crate) tunnels: Table<u32, CuUpTunnel>,
     pub(crate) contexts: Table<UeId, Context>,
 }
 
 impl Model for Contexts {
-    ghost use Rattle.cu_up_contexts.specs.contexts.Tables.{UpTables};
+    ghost use Rattle.cu_up_contexts.specs.contexts.Tables.{CuUpTables};
 
-    ghost Value = { UpTables };
+    ghost Value = { CuUpTables };
 
     ghost view = { λ c. record { next_teid = c.next_teid; tunnels = c.tunnels; contexts = c.contexts } };
 }
@@ -89,7 +89,7 @@ impl Contexts {
 
     /// Whether it has a context of this terminal.
     pub fn has(&self, ue: UeId) -> bool
-        ensures { (r : OctetUp) → result ≡ up_has_context (with_tables r self.now) ue }
+        ensures { (r : OctetUp) → result ≡ cu_up_has_context (with_tables r self.now) ue }
     {
         self.contexts.has(&ue)
     }
@@ -106,7 +106,7 @@ impl Contexts {
 
     /// Whether nothing of this bearer is unconfirmed or waits, and no End Marker is awaited for it.
     pub fn rests(&self, ue: UeId, bearer: BearerId) -> bool
-        ensures { (r : OctetUp) → result ≡ up_rests (with_tables r self.now) ue bearer }
+        ensures { (r : OctetUp) → result ≡ cu_up_rests (with_tables r self.now) ue bearer }
     {
         match self.contexts.get(&ue) {
             Some(context) => context.rests(bearer),
@@ -115,7 +115,7 @@ impl Contexts {
     }
 
     /// Whether there are blocks for a context of so many bearers with this quota.
-    #[tactic(auto, unfolding(unit_defs::specs::CuUp::fits, unit_defs::specs::UpRecords::reserved))]
+    #[tactic(auto, unfolding(unit_defs::specs::CuUp::fits, unit_defs::specs::CuUpRecords::reserved))]
     pub fn fits(&self, count: u8, quota: u16) -> bool
         ensures { (codec : Codec) (r : OctetUp) → result ≡ fits (octet_way codec) count quota (with_tables r self.now) }
     {

@@ -13,7 +13,7 @@ ghost use Rattle.cu_up_contexts.specs.contexts.Tables.{OctetUp, with_tables};
 ghost use Rattle.cu_up_contexts.specs.contexts.Rows.{added_at, uplinks_at};
 
 use crate::bearer_context::{Context, ContextSetup};
-use crate::contexts::contexts::{Contexts, UpTunnel};
+use crate::contexts::contexts::{Contexts, CuUpTunnel};
 use crate::contexts::tunnels::{
     TEIDS, open_each, open_uplinks, show_opened, teid_after, teids_are_left,
 };
@@ -39,7 +39,7 @@ fn open_context(
     alloc: Global,
     ue: UeId,
     context: &Context,
-    tunnels: &mut Table<u32, UpTunnel>,
+    tunnels: &mut Table<u32, CuUpTunnel>,
 ) -> Result<(), Memory>
     ensures { OnOk result
         (tunnels.new ≡ with_entries tunnels.old (flat_map (entries_of ue context.now.instance) context.now.bearers)) }

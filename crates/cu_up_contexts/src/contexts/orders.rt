@@ -3,7 +3,7 @@
 ghost use Rattle.std.specs.Prelude.{◌≡◌, true, false, Some};
 ghost use Rattle.gnb_types.specs.Orders.{ue_cmp};
 ghost use Rattle.tables.specs.Tables.{find};
-ghost use Rattle.unit_defs.specs.UpRecords.{UpContext};
+ghost use Rattle.unit_defs.specs.CuUpRecords.{CuUpContext};
 ghost use Rattle.unit_defs.specs.octet_defs.Codec.{Codec};
 ghost use Rattle.unit_messages.specs.steps.Steps.{IsStep, step_after};
 ghost use Rattle.cu_up_contexts.specs.bearer_context.Orders.{AreShort};
@@ -47,7 +47,7 @@ impl Contexts {
         up: &[Tunnel],
         out: &mut Outputs,
     ) -> Result<(), StepError>
-        requires { (c : UpContext) → find ue_cmp self.old.contexts ue ≡ Some c → c.flags.may_serve ≡ true }
+        requires { (c : CuUpContext) → find ue_cmp self.old.contexts ue ≡ Some c → c.flags.may_serve ≡ true }
         ensures { (codec : Codec) (r : OctetUp) → IsStep
             (step_after out.old (frozen_at codec ue peer down.now up.now (with_tables r self.old) (find ue_cmp self.old.contexts ue)))
             out.new (with_tables r self.new) result }
@@ -66,7 +66,7 @@ impl Contexts {
         statuses: &[SnStatus],
         out: &mut Outputs,
     ) -> Result<(), StepError>
-        requires new { (c : UpContext) → find ue_cmp self.old.contexts ue ≡ Some c → c.flags.may_serve ≡ false }
+        requires new { (c : CuUpContext) → find ue_cmp self.old.contexts ue ≡ Some c → c.flags.may_serve ≡ false }
         requires short { AreShort statuses.now }
         ensures { (codec : Codec) (r : OctetUp) → IsStep
             (step_after out.old (known_at codec ue statuses.now (with_tables r self.old) (find ue_cmp self.old.contexts ue)))
@@ -80,7 +80,7 @@ impl Contexts {
 
     /// The frozen state ends, and the bearers go on.
     pub fn resume(&mut self, alloc: Global, ue: UeId, out: &mut Outputs) -> Result<(), StepError>
-        requires { (c : UpContext) → find ue_cmp self.old.contexts ue ≡ Some c → c.flags.frozen ≡ true }
+        requires { (c : CuUpContext) → find ue_cmp self.old.contexts ue ≡ Some c → c.flags.frozen ≡ true }
         ensures { (codec : Codec) (r : OctetUp) → IsStep
             (step_after out.old (resumed_at codec ue (with_tables r self.old) (find ue_cmp self.old.contexts ue)))
             out.new (with_tables r self.new) result }

@@ -12,7 +12,7 @@ ghost use Rattle.unit_defs.specs.octet_defs.Reading.{up_link};
 ghost use Rattle.unit_defs.specs.octet_defs.Units.{cu_up_steps};
 ghost use Rattle.unit_messages.specs.steps.Steps.{IsStep, step_after};
 ghost use Rattle.cu_up_contexts.specs.contexts.Tables.{OctetUp, with_tables};
-ghost use Rattle.cu_up_contexts.specs.contexts.Comings.{IsPlaceOf, HasCome};
+ghost use Rattle.cu_up_contexts.specs.contexts.Comings.{IsPlaceOf, HasReceived};
 
 use crate::contexts::contexts::Contexts;
 use crate::contexts::tunnels::close_shown;
@@ -66,7 +66,7 @@ impl Contexts {
         out: &mut Outputs,
     ) -> Result<bool, StepError>
         ensures { (codec : Codec) → ReadsItems codec
-            → HasCome codec place teid octets.now out.old out.new self.old self.new result }
+            → HasReceived codec place teid octets.now out.old out.new self.old self.new result }
     {
         let Some(context) = self.contexts.get_mut(&place.ue) else {
             out.push(Output::Drop(DropReason::NoContext))?;

@@ -3,14 +3,14 @@
 ghost use Rattle.std.specs.Prelude.{◌≡◌, ◌+◌, ◌≤◌, ◌^◌, ◌++◌, map, true, Some, IsTrue, OnOk};
 ghost use Rattle.std.specs.List.{flat_map};
 ghost use Rattle.unit_defs.specs.Teids.{teids_are_left, teid_after, without_each};
-ghost use Rattle.unit_defs.specs.UpRecords.{f1u_uplink};
+ghost use Rattle.unit_defs.specs.CuUpRecords.{f1u_uplink};
 ghost use Rattle.unit_defs.specs.CuUp.{entries, with_entries};
 ghost use Rattle.gnb_types.specs.declared.outputs.Output.TheVariants as outs;
 ghost use Rattle.cu_up_contexts.specs.bearer_context.Answers.{entry_as};
 ghost use Rattle.cu_up_contexts.specs.contexts.Rows.{closed_of};
 
 use crate::bearer_context::answers::Opening;
-use crate::contexts::contexts::{Contexts, UpTunnel};
+use crate::contexts::contexts::{Contexts, CuUpTunnel};
 use cu_up_items::items::Kind;
 use gnb_types::items::Memory;
 use gnb_types::names::UeId;
@@ -26,12 +26,12 @@ pub(crate) fn open_each(
     ue: UeId,
     context: u32,
     openings: &[Opening],
-    tunnels: &mut Table<u32, UpTunnel>,
+    tunnels: &mut Table<u32, CuUpTunnel>,
 ) -> Result<(), Memory>
     ensures { OnOk result (tunnels.new ≡ with_entries tunnels.old (map (entry_as ue context) openings.now)) }
 {
     for opening in openings {
-        let tunnel = UpTunnel {
+        let tunnel = CuUpTunnel {
             ue,
             bearer: opening.bearer,
             kind: opening.kind,
@@ -47,13 +47,13 @@ pub(crate) fn open_uplinks(
     ue: UeId,
     context: u32,
     uplinks: &[Tunnel],
-    tunnels: &mut Table<u32, UpTunnel>,
+    tunnels: &mut Table<u32, CuUpTunnel>,
 ) -> Result<(), Memory>
     ensures { OnOk result (tunnels.new ≡ with_entries tunnels.old
         (flat_map (λ t. entries ue t.bearer context f1u_uplink (Some t.teid)) uplinks.now)) }
 {
     for uplink in uplinks {
-        let tunnel = UpTunnel {
+        let tunnel = CuUpTunnel {
             ue,
             bearer: uplink.bearer,
             kind: Kind::F1uUplink,
@@ -77,7 +77,7 @@ pub(crate) fn show_opened(openings: &[Opening], out: &mut Outputs) -> Result<(),
 /// These tunnels are closed, and the run shows it.
 pub(crate) fn close_each(
     teids: &[u32],
-    tunnels: &mut Table<u32, UpTunnel>,
+    tunnels: &mut Table<u32, CuUpTunnel>,
     out: &mut Outputs,
 ) -> Result<(), Memory>
     ensures tunnels { OnOk result (tunnels.new ≡ without_each tunnels.old teids.now) }
@@ -91,7 +91,7 @@ pub(crate) fn close_each(
 }
 
 /// The TEIDs that these outputs close are given back.
-pub(crate) fn close_shown(tunnels: &mut Table<u32, UpTunnel>, out: &[Output])
+pub(crate) fn close_shown(tunnels: &mut Table<u32, CuUpTunnel>, out: &[Output])
     ensures { tunnels.new ≡ without_each tunnels.old (flat_map closed_of out.now) }
 {
     for output in out {

@@ -4,23 +4,23 @@ use Rattle.gnb_types.specs.declared.names.Dir.TheVariants.{Dl}
 use Rattle.gnb_types.specs.declared.outputs.Tag.TheVariants.{Absent}
 use Rattle.gnb_types.specs.declared.reasons.DropReason.TheVariants.{Unexpected}
 use Rattle.unit_defs.specs.Ways.{drops, end_marker, ◌then◌}
-use Rattle.unit_defs.specs.UpRecords.{UpBearer}
-use Rattle.unit_defs.specs.UpItems.{n3_ended, closed_n3}
+use Rattle.unit_defs.specs.CuUpRecords.{CuUpBearer}
+use Rattle.unit_defs.specs.CuUpItems.{n3_ended, closed_n3}
 use Rattle.unit_defs.specs.octet_defs.Codec.{Codec, octet_way}
 use Rattle.unit_defs.specs.octet_defs.Units.{OctetAnswer}
-use Rattle.cu_up_bearer.specs.declared.tunnels.at.At.{At}
+use Rattle.cu_up_bearer.specs.declared.tunnels.at.Scope.{Scope}
 use Rattle.cu_up_bearer.specs.declared.tunnels.hop.Hop.{Hop}
 use Rattle.cu_up_bearer.specs.tunnels.Tunnels.{at_as, hop_as}
 use Rattle.cu_up_items.specs.packets.Passing.{passed_on}
 
-module _ (codec : Codec) (a : At) (b : UpBearer) (o : Option Hop) where
-  abbrev pub end_row : OctetAnswer UpBearer
+module _ (codec : Codec) (a : Scope) (b : CuUpBearer) (o : Option Hop) where
+  abbrev pub end_row : OctetAnswer CuUpBearer
   end_row = n3_ended (octet_way codec) (at_as a) b (hop_as o)
 
-  abbrev pub closes : UpBearer → OctetAnswer UpBearer
+  abbrev pub closes : CuUpBearer → OctetAnswer CuUpBearer
   closes c = closed_n3 (octet_way codec) c c.n3
 
-  abbrev pub marker : OctetAnswer UpBearer
+  abbrev pub marker : OctetAnswer CuUpBearer
   marker = passed_on (octet_way codec) Dl (at_as a) Absent end_marker b
 
   pub ends_nothing : o ≡ None → end_row ≡ drops Unexpected b

@@ -8,14 +8,14 @@ use Rattle.gnb_types.specs.declared.outputs.Output.TheVariants as outs
 use Rattle.gnb_types.specs.declared.outputs.Tag.TheVariants.{Absent}
 use Rattle.gnb_types.specs.declared.reasons.DropReason.TheVariants.{Unexpected}
 use Rattle.unit_defs.specs.Ways.{nothing, drops, closed, end_marker}
-use Rattle.unit_defs.specs.UpRecords.{UpBearer}
-use Rattle.unit_defs.specs.UpBearers.{no_uplink}
-use Rattle.unit_defs.specs.UpItems.{up_hop_ends_if, uplink_ended, up_ended}
+use Rattle.unit_defs.specs.CuUpRecords.{CuUpBearer}
+use Rattle.unit_defs.specs.CuUpBearers.{no_uplink}
+use Rattle.unit_defs.specs.CuUpItems.{up_hop_ends_if, uplink_ended, up_ended}
 use Rattle.unit_defs.specs.octet_defs.Codec.{Codec, octet_way}
 use Rattle.unit_defs.specs.octet_defs.Units.{OctetAnswer}
 use Rattle.unit_messages.specs.steps.Steps.{step_after}
 use Rattle.unit_messages.proofs.steps.StepLaws.{step_with}
-use Rattle.cu_up_bearer.specs.declared.tunnels.at.At.{At}
+use Rattle.cu_up_bearer.specs.declared.tunnels.at.Scope.{Scope}
 use Rattle.cu_up_bearer.specs.declared.tunnels.hop.Hop.{Hop}
 use Rattle.cu_up_bearer.specs.tunnels.Tunnels.{at_as, hop_as}
 use Rattle.cu_up_items.specs.packets.Passing.{passed_on}
@@ -29,8 +29,8 @@ none_left (t ∷ ts) =
 
 -- ---- the hop to the target
 
-module _ (codec : Codec) (a : At) (b : UpBearer) (o : Option Hop) where
-  abbrev pub hop_row : OctetAnswer UpBearer
+module _ (codec : Codec) (a : Scope) (b : CuUpBearer) (o : Option Hop) where
+  abbrev pub hop_row : OctetAnswer CuUpBearer
   hop_row = up_hop_ends_if (octet_way codec) (at_as a) (hop_as o) b
 
   pub hop_none : o ≡ None → hop_row ≡ nothing b
@@ -40,10 +40,10 @@ module _ (codec : Codec) (a : At) (b : UpBearer) (o : Option Hop) where
     abbrev pub due : Bool
     due = not h.up_ended && no_uplink b.uplinks && (not a.flags.target || b.up_ended)
 
-    abbrev pub with_end : UpBearer
+    abbrev pub with_end : CuUpBearer
     with_end = record b { hop = hop_as (Some (record h { up_ended = true })) }
 
-    abbrev pub marker : OctetAnswer UpBearer
+    abbrev pub marker : OctetAnswer CuUpBearer
     marker = passed_on (octet_way codec) Ul (at_as a) Absent end_marker with_end
 
     hop_is : hop_row ≡ cond due marker (nothing b)
@@ -57,8 +57,8 @@ module _ (codec : Codec) (a : At) (b : UpBearer) (o : Option Hop) where
 
 -- ---- each end
 
-module _ (codec : Codec) (a : At) (b : UpBearer) where
-  abbrev pub hop_after : UpBearer → OctetAnswer UpBearer
+module _ (codec : Codec) (a : Scope) (b : CuUpBearer) where
+  abbrev pub hop_after : CuUpBearer → OctetAnswer CuUpBearer
   hop_after c = up_hop_ends_if (octet_way codec) (at_as a) c.hop c
 
   pub up_twice : b.up_ended ≡ true → up_ended (octet_way codec) (at_as a) b ≡ drops Unexpected b

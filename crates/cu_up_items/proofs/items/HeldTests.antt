@@ -5,9 +5,9 @@ use Rattle.gnb_types.specs.declared.reasons.HeldReason.{HeldReason}
 use Rattle.gnb_types.specs.declared.reasons.HeldReason.TheVariants.{NoStatus, NotArrived, Early, Quota, Ahead}
 use Rattle.pdcp_defs.specs.Receivers.{is_ahead}
 use Rattle.unit_defs.specs.Ways.{Taken}
-use Rattle.unit_defs.specs.UpRecords.{UpBearer, UpAt, TunnelKind}
-use Rattle.unit_defs.specs.UpBearers.{used_downlink}
-use Rattle.unit_defs.specs.UpItems.{first_held, held_as_target, held_downlink, held_uplink, held_item, held_by_room, held_reason, is_n3, is_ahead_if}
+use Rattle.unit_defs.specs.CuUpRecords.{CuUpBearer, CuUpScope, TunnelKind}
+use Rattle.unit_defs.specs.CuUpBearers.{used_downlink}
+use Rattle.unit_defs.specs.CuUpItems.{first_held, held_as_target, held_downlink, held_uplink, held_item, held_by_room, held_reason, is_n3, is_ahead_if}
 
 abbrev pub Tests : Type 0
 Tests = List (Bool × HeldReason)
@@ -43,7 +43,7 @@ later_none (x ∷ xs) ys is = by x.0 (λ h. later_none xs ys h) is
     by false later is = later is
 
 -- an uplink packet that isn't held isn't ahead
-pub near_of : (a : UpAt) (b : UpBearer) (count : Option ℕ) → first_held (held_uplink a b count) ≡ None → is_ahead_if a b count ≡ false
+pub near_of : (a : CuUpScope) (b : CuUpBearer) (count : Option ℕ) → first_held (held_uplink a b count) ≡ None → is_ahead_if a b count ≡ false
 near_of a b count none = by (nat_le a.quota (length b.receiver.stored)) (is_ahead_if a b count) none
   where
     by : (s t : Bool) → by_test s Quota (by_test t Ahead None) ≡ None → t ≡ false
@@ -52,7 +52,7 @@ near_of a b count none = by (nat_le a.quota (length b.receiver.stored)) (is_ahea
     by false false none = refl
 
 -- the two tests of an uplink packet whose COUNT was found
-pub held_up_is : (a : UpAt) (b : UpBearer) (o : Option ℕ) (count : ℕ) (s t : Bool) → o ≡ Some count → nat_le a.quota (length b.receiver.stored) ≡ s
+pub held_up_is : (a : CuUpScope) (b : CuUpBearer) (o : Option ℕ) (count : ℕ) (s t : Bool) → o ≡ Some count → nat_le a.quota (length b.receiver.stored) ≡ s
     → nat_le (b.receiver.deliv + a.quota) count ≡ t → first_held (held_uplink a b o) ≡ by_test s Quota (by_test t Ahead None)
 unfolding is_ahead
 held_up_is a b o count s t found few ahead =
@@ -69,7 +69,7 @@ sum_holds d q n x y z xd yq zn most = let l : d + q ≤ n = omega (arith, xd, yq
 pub sum_fails : (d q n x y z : ℕ) → x ≡ d → y ≡ q → z ≡ n → z < x + y → nat_le (d + q) n ≡ false
 sum_fails d q n x y z xd yq zn less = let l : n < d + q = omega (arith, xd, yq, zn, less) in grind (arith, nat_tests)
 
-module _ {P : Type 0} (a : UpAt) (b : UpBearer) (kind : TunnelKind) (item : Taken P) (free : held_reason a b kind item ≡ None) (lives : a.flags.released ≡ false) where
+module _ {P : Type 0} (a : CuUpScope) (b : CuUpBearer) (kind : TunnelKind) (item : Taken P) (free : held_reason a b kind item ≡ None) (lives : a.flags.released ≡ false) where
   pub has_room : first_held (held_item a b kind item) ≡ None
   unfolding held_reason
   has_room =
@@ -87,7 +87,7 @@ module _ {P : Type 0} (a : UpAt) (b : UpBearer) (kind : TunnelKind) (item : Take
   room_up count is = near_of a b count (ap first_held (sym is) ∙ has_room)
 
 -- before the SN status each item is held
-pub held_unknown : {P : Type 0} (a : UpAt) (b : UpBearer) (kind : TunnelKind) (t : Taken P) → a.flags.may_serve ≡ false
+pub held_unknown : {P : Type 0} (a : CuUpScope) (b : CuUpBearer) (kind : TunnelKind) (t : Taken P) → a.flags.may_serve ≡ false
     → held_reason a b kind t ≡ None → ⊥
 unfolding held_reason
 held_unknown a b kind t unknown none = by a.flags.may_serve unknown none

@@ -6,17 +6,17 @@ use Rattle.gnb_types.specs.declared.outputs.Output.{Output}
 use Rattle.gnb_types.specs.declared.outputs.Output.TheVariants as outs
 use Rattle.gnb_types.specs.declared.outputs.Tag.{Tag}
 use Rattle.unit_defs.specs.Ways.{Load}
-use Rattle.unit_defs.specs.UpRecords.{SourceHop, UpBearer}
-use Rattle.unit_defs.specs.UpBearers.{forwarded_down, forwarded_up, put_down, put_up}
+use Rattle.unit_defs.specs.CuUpRecords.{SourceHop, CuUpBearer}
+use Rattle.unit_defs.specs.CuUpBearers.{forwarded_down, forwarded_up, put_down, put_up}
 use Rattle.unit_defs.specs.octet_defs.Codec.{Codec, octet_way}
 use Rattle.unit_defs.specs.octet_defs.Writing.{load_octets}
 use Rattle.unit_messages.specs.steps.Steps.{stepped, step_after}
-use Rattle.cu_up_bearer.specs.declared.tunnels.at.At.{At}
+use Rattle.cu_up_bearer.specs.declared.tunnels.at.Scope.{Scope}
 use Rattle.cu_up_bearer.specs.declared.tunnels.hop.Hop.{Hop}
 use Rattle.cu_up_bearer.specs.tunnels.Tunnels.{at_as, hop_as, hop_teid}
 use Rattle.cu_up_items.specs.packets.Passing.{passed_on}
 
-module _ (codec : Codec) (a : At) (tag : Tag) (load : Load (List ℕ)) (b : UpBearer) (before : List Output) (o : Option Hop) (same : b.hop ≡ hop_as o) where
+module _ (codec : Codec) (a : Scope) (tag : Tag) (load : Load (List ℕ)) (b : CuUpBearer) (before : List Output) (o : Option Hop) (same : b.hop ≡ hop_as o) where
   pub passes_nothing : (dir : Dir) → o ≡ None → step_after before (passed_on (octet_way codec) dir (at_as a) tag load b) ≡ stepped before b
   unfolding forwarded_down forwarded_up
   passes_nothing Dl is =

@@ -9,15 +9,15 @@ use Rattle.gnb_types.specs.declared.outputs.Tag.TheVariants.{Absent, Same}
 use Rattle.gnb_types.specs.declared.reasons.DropReason.TheVariants.{Duplicate}
 use Rattle.pdcp_defs.specs.Senders.{may_restore, restored}
 use Rattle.unit_defs.specs.Ways.{fresh, numbered, drops}
-use Rattle.unit_defs.specs.UpRecords.{UpBearer}
-use Rattle.unit_defs.specs.UpBearers.{sent, number_waiting}
-use Rattle.unit_defs.specs.UpItems.{took_fresh, took_numbered, restored_at}
+use Rattle.unit_defs.specs.CuUpRecords.{CuUpBearer}
+use Rattle.unit_defs.specs.CuUpBearers.{sent, number_waiting}
+use Rattle.unit_defs.specs.CuUpItems.{took_fresh, took_numbered, restored_at}
 use Rattle.unit_defs.specs.octet_defs.Codec.{Codec, octet_way}
 use Rattle.unit_defs.specs.octet_defs.Units.{OctetAnswer}
 use Rattle.unit_messages.specs.declared.steps.StepError.{StepError}
 use Rattle.unit_messages.specs.declared.steps.StepError.TheVariants as errors
 use Rattle.unit_messages.specs.steps.Steps.{Step, IsStep}
-use Rattle.cu_up_bearer.specs.declared.tunnels.at.At.{At}
+use Rattle.cu_up_bearer.specs.declared.tunnels.at.Scope.{Scope}
 use Rattle.cu_up_bearer.specs.tunnels.Tunnels.{at_as}
 use Rattle.cu_up_items.specs.packets.Passing.{passed_on}
 
@@ -34,17 +34,17 @@ fails_alike {R} X Y s out r e is after t result err =
     subst (λ (x : Result Y StepError). IsStep s after t x) (sym q.1)
     (subst (λ (y : StepError). IsStep {X = Y} s after t (Err y)) (sym q.2) (fails_by X Y s out r e is after t))
 
-module _ (codec : Codec) (a : At) (b : UpBearer) (p : List ℕ) where
-  abbrev pub waits : UpBearer
+module _ (codec : Codec) (a : Scope) (b : CuUpBearer) (p : List ℕ) where
+  abbrev pub waits : CuUpBearer
   waits = record b { waiting = b.waiting ++ p ∷ [] }
 
-  abbrev pub fresh_row : OctetAnswer UpBearer
+  abbrev pub fresh_row : OctetAnswer CuUpBearer
   fresh_row = took_fresh (octet_way codec) (at_as a) p b
 
-  abbrev pub fresh_passed : UpBearer → OctetAnswer UpBearer
+  abbrev pub fresh_passed : CuUpBearer → OctetAnswer CuUpBearer
   fresh_passed c = passed_on (octet_way codec) Dl (at_as a) Absent (fresh p) c
 
-  abbrev pub fresh_by : Bool → Bool → OctetAnswer UpBearer
+  abbrev pub fresh_by : Bool → Bool → OctetAnswer CuUpBearer
   fresh_by released frozen = cond released (fresh_passed b) (cond frozen (fresh_passed waits) (number_waiting (octet_way codec) (at_as a) waits))
 
   fresh_is : fresh_row ≡ fresh_by a.flags.released a.flags.frozen
@@ -62,7 +62,7 @@ module _ (codec : Codec) (a : At) (b : UpBearer) (p : List ℕ) where
 
   -- ---- with a number
 
-  abbrev pub numbered_row : Option ℕ → OctetAnswer UpBearer
+  abbrev pub numbered_row : Option ℕ → OctetAnswer CuUpBearer
   numbered_row o = took_numbered (octet_way codec) (at_as a) o p b
 
   pub numbered_none : (o : Option ℕ) → o ≡ None → numbered_row o ≡ drops Duplicate b
@@ -70,16 +70,16 @@ module _ (codec : Codec) (a : At) (b : UpBearer) (p : List ℕ) where
   numbered_none o is = ap (λ (x : Option ℕ). numbered_row x) is
 
   module _ (o : Option ℕ) (count : ℕ) (found : o ≡ Some count) where
-    abbrev pub holds : UpBearer
+    abbrev pub holds : CuUpBearer
     holds = record b { sender = restored b.sender count p }
 
-    abbrev pub came : UpBearer
+    abbrev pub came : CuUpBearer
     came = record b { sender = restored b.sender count p; taken_while_frozen = b.taken_while_frozen ++ count ∷ [] }
 
-    abbrev pub numbered_passed : UpBearer → OctetAnswer UpBearer
+    abbrev pub numbered_passed : CuUpBearer → OctetAnswer CuUpBearer
     numbered_passed c = passed_on (octet_way codec) Dl (at_as a) Same (numbered a.sn count p) c
 
-    abbrev pub numbered_by : Bool → Bool → Bool → OctetAnswer UpBearer
+    abbrev pub numbered_by : Bool → Bool → Bool → OctetAnswer CuUpBearer
     numbered_by released may frozen =
         cond released (numbered_passed b)
         (cond may (cond frozen (numbered_passed came) (sent (octet_way codec) (at_as a) count p Same holds)) (drops Duplicate b))

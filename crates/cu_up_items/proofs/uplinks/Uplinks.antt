@@ -5,26 +5,26 @@ use Rattle.gnb_types.specs.declared.outputs.Tag.TheVariants.{Same}
 use Rattle.gnb_types.specs.declared.reasons.DropReason.TheVariants.{Duplicate}
 use Rattle.pdcp_defs.specs.Receivers.{Receiver, is_duplicate, is_ahead, stored}
 use Rattle.unit_defs.specs.Ways.{numbered, drops}
-use Rattle.unit_defs.specs.UpRecords.{UpBearer}
-use Rattle.unit_defs.specs.UpBearers.{forwarded_up, deliver_stored}
-use Rattle.unit_defs.specs.UpItems.{took_uplink, passed_up}
+use Rattle.unit_defs.specs.CuUpRecords.{CuUpBearer}
+use Rattle.unit_defs.specs.CuUpBearers.{forwarded_up, deliver_stored}
+use Rattle.unit_defs.specs.CuUpItems.{took_uplink, passed_up}
 use Rattle.unit_defs.specs.octet_defs.Codec.{Codec, octet_way}
 use Rattle.unit_defs.specs.octet_defs.Units.{OctetAnswer}
-use Rattle.pdcp_bearers.specs.declared.ue_bearers.downlink.Reception.{Reception}
-use Rattle.pdcp_bearers.specs.declared.ue_bearers.downlink.Reception.TheVariants as receptions
-use Rattle.pdcp_bearers.specs.ue_bearers.Downlinks.{DownlinkState, received}
-use Rattle.pdcp_bearers.specs.ue_bearers.Uplinks.{IsPacket}
+use Rattle.pdcp_bearers.specs.declared.ue_bearers.receiver.Reception.{Reception}
+use Rattle.pdcp_bearers.specs.declared.ue_bearers.receiver.Reception.TheVariants as receptions
+use Rattle.pdcp_bearers.specs.ue_bearers.Receivers.{ReceiverState, received}
+use Rattle.pdcp_bearers.specs.ue_bearers.Senders.{IsPacket}
 use Rattle.pdcp_bearers.proofs.ue_bearers.StoredLemmas.{all_put}
-use Rattle.cu_up_bearer.specs.declared.tunnels.at.At.{At}
+use Rattle.cu_up_bearer.specs.declared.tunnels.at.Scope.{Scope}
 use Rattle.cu_up_bearer.specs.tunnels.Tunnels.{at_as}
 use Rattle.cu_up_bearer.specs.bearers.Bearers.{IsUp}
 use Rattle.cu_up_items.specs.uplinks.Storing.{kept_at}
 
-module _ (codec : Codec) (a : At) (b : UpBearer) (p : List ℕ) where
-  abbrev pub passed_row : ℕ → OctetAnswer UpBearer
+module _ (codec : Codec) (a : Scope) (b : CuUpBearer) (p : List ℕ) where
+  abbrev pub passed_row : ℕ → OctetAnswer CuUpBearer
   passed_row count = passed_up (octet_way codec) (at_as a) count p b
 
-  abbrev pub up_row : ℕ → OctetAnswer UpBearer
+  abbrev pub up_row : ℕ → OctetAnswer CuUpBearer
   up_row count = forwarded_up (octet_way codec) (at_as a) Same (numbered a.sn count p) b
 
   pub passes_before : (count deliv : ℕ) → deliv ≡ b.receiver.deliv → count < deliv → passed_row count ≡ drops Duplicate b
@@ -37,7 +37,7 @@ module _ (codec : Codec) (a : At) (b : UpBearer) (p : List ℕ) where
       let after : nat_lt count b.receiver.deliv ≡ false = grind (arith, nat_tests) in
       ap (λ (t : Bool). cond t (drops Duplicate b) (up_row count)) after
 
-  abbrev pub kept_row : ℕ → OctetAnswer UpBearer
+  abbrev pub kept_row : ℕ → OctetAnswer CuUpBearer
   kept_row count = kept_at (octet_way codec) (at_as a) count p b
 
   pub keeps_frozen : (count : ℕ) → a.flags.frozen ≡ true → kept_row count ≡ up_row count
@@ -48,7 +48,7 @@ module _ (codec : Codec) (a : At) (b : UpBearer) (p : List ℕ) where
 
   -- ---- the row
 
-  abbrev pub uplink_row : Option ℕ → OctetAnswer UpBearer
+  abbrev pub uplink_row : Option ℕ → OctetAnswer CuUpBearer
   uplink_row o = took_uplink (octet_way codec) (at_as a) o p b
 
   pub uplink_none : (o : Option ℕ) → o ≡ None → uplink_row o ≡ drops Duplicate b
@@ -56,10 +56,10 @@ module _ (codec : Codec) (a : At) (b : UpBearer) (p : List ℕ) where
   uplink_none o is = ap (λ (x : Option ℕ). uplink_row x) is
 
   module _ (o : Option ℕ) (count : ℕ) (found : o ≡ Some count) where
-    abbrev pub stores : UpBearer
+    abbrev pub stores : CuUpBearer
     stores = record b { receiver = stored b.receiver count p }
 
-    abbrev pub uplink_by : Bool → Bool → OctetAnswer UpBearer
+    abbrev pub uplink_by : Bool → Bool → OctetAnswer CuUpBearer
     uplink_by released duplicate =
         cond released (passed_row count) (cond duplicate (drops Duplicate b) (kept_at (octet_way codec) (at_as a) count p stores))
 
@@ -81,11 +81,11 @@ module _ (codec : Codec) (a : At) (b : UpBearer) (p : List ℕ) where
 
 -- ---- what the entity says of a packet that isn't ahead
 
-abbrev pub with_state : Reception → DownlinkState → Reception × DownlinkState
+abbrev pub with_state : Reception → ReceiverState → Reception × ReceiverState
 with_state r d = (r, d)
 
-module _ (old new : DownlinkState) (count : ℕ) (p : List ℕ) where
-  abbrev pub keeps : DownlinkState
+module _ (old new : ReceiverState) (count : ℕ) (p : List ℕ) where
+  abbrev pub keeps : ReceiverState
   keeps = record old { receiver = stored old.receiver count p }
 
   abbrev pub Facts : Reception → Type 0
@@ -93,24 +93,24 @@ module _ (old new : DownlinkState) (count : ℕ) (p : List ℕ) where
   Facts receptions.Duplicate = (is_duplicate old.receiver count ≡ true) × (new ≡ old)
   Facts receptions.Ahead = ⊥
 
-  abbrev pub outcome : Bool → Bool → Reception × DownlinkState
+  abbrev pub outcome : Bool → Bool → Reception × ReceiverState
   outcome f g = cond f (with_state receptions.Duplicate old) (cond g (with_state receptions.Ahead old) (with_state receptions.Stored keeps))
 
   facts_by : (f g : Bool) → is_duplicate old.receiver count ≡ f → g ≡ false → (r : Reception) → with_state r new ≡ outcome f g → Facts r
-  facts_by true g fe ge receptions.Duplicate is = (fe, ap (λ (x : Reception × DownlinkState). x.1) is)
-  facts_by true g fe ge receptions.Stored is = let first : receptions.Stored ≡ receptions.Duplicate = ap (λ (x : Reception × DownlinkState). x.0) is in absurd cc
-  facts_by true g fe ge receptions.Ahead is = let first : receptions.Ahead ≡ receptions.Duplicate = ap (λ (x : Reception × DownlinkState). x.0) is in absurd cc
+  facts_by true g fe ge receptions.Duplicate is = (fe, ap (λ (x : Reception × ReceiverState). x.1) is)
+  facts_by true g fe ge receptions.Stored is = let first : receptions.Stored ≡ receptions.Duplicate = ap (λ (x : Reception × ReceiverState). x.0) is in absurd cc
+  facts_by true g fe ge receptions.Ahead is = let first : receptions.Ahead ≡ receptions.Duplicate = ap (λ (x : Reception × ReceiverState). x.0) is in absurd cc
   facts_by false true fe ge r is = absurd cc
-  facts_by false false fe ge receptions.Stored is = (fe, ap (λ (x : Reception × DownlinkState). x.1) is)
-  facts_by false false fe ge receptions.Duplicate is = let first : receptions.Duplicate ≡ receptions.Stored = ap (λ (x : Reception × DownlinkState). x.0) is in absurd cc
-  facts_by false false fe ge receptions.Ahead is = let first : receptions.Ahead ≡ receptions.Stored = ap (λ (x : Reception × DownlinkState). x.0) is in absurd cc
+  facts_by false false fe ge receptions.Stored is = (fe, ap (λ (x : Reception × ReceiverState). x.1) is)
+  facts_by false false fe ge receptions.Duplicate is = let first : receptions.Duplicate ≡ receptions.Stored = ap (λ (x : Reception × ReceiverState). x.0) is in absurd cc
+  facts_by false false fe ge receptions.Ahead is = let first : receptions.Ahead ≡ receptions.Stored = ap (λ (x : Reception × ReceiverState). x.0) is in absurd cc
 
   pub facts : (r : Reception) → with_state r new ≡ received old (Some count) p → is_ahead old.quota old.receiver count ≡ false → Facts r
   facts r is near = facts_by (is_duplicate old.receiver count) (is_ahead old.quota old.receiver count) refl near r is
 
   -- it is one packet more
-  pub kept_up : (a : At) → IsUp a old → IsPacket p → new ≡ keeps → IsUp a new
+  pub kept_up : (a : Scope) → IsUp a old → IsPacket p → new ≡ keeps → IsUp a new
   unfolding stored
   kept_up a up packet is =
-      subst (λ (d : DownlinkState). IsUp a d) (sym is)
+      subst (λ (d : ReceiverState). IsUp a d) (sym is)
       (up.0, up.1, all_put (λ e. IsPacket e.1) old.receiver.stored count p up.2 (λ key same. packet) packet)

@@ -2,8 +2,8 @@
 use Rattle.std.specs.Prelude.{ℕ, List, if◌then◌else◌}
 use Rattle.gnb_types.specs.declared.outputs.Tag.TheVariants.{Same}
 use Rattle.unit_defs.specs.Ways.{Way, Answer, numbered}
-use Rattle.unit_defs.specs.UpRecords.{UpBearer, UpAt}
-use Rattle.unit_defs.specs.UpBearers.{deliver_stored, forwarded_up}
+use Rattle.unit_defs.specs.CuUpRecords.{CuUpBearer, CuUpScope}
+use Rattle.unit_defs.specs.CuUpBearers.{deliver_stored, forwarded_up}
 
-abbrev pub kept_at : {M C P : Type 0} → Way M C P → UpAt → ℕ → List ℕ → UpBearer → Answer M P UpBearer
+abbrev pub kept_at : {M C P : Type 0} → Way M C P → CuUpScope → ℕ → List ℕ → CuUpBearer → Answer M P CuUpBearer
 kept_at way at count p b = if at.flags.frozen then forwarded_up way at Same (numbered at.sn count p) b else deliver_stored way at b

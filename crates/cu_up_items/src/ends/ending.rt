@@ -2,8 +2,8 @@
 
 ghost use Rattle.std.specs.Prelude.{◌≡◌, Some};
 ghost use Rattle.gnb_types.specs.declared.outputs.Tag.TheVariants.{Absent};
-ghost use Rattle.unit_defs.specs.UpRecords.{UpBearer};
-ghost use Rattle.unit_defs.specs.UpItems.{n3_ended, closed_n3};
+ghost use Rattle.unit_defs.specs.CuUpRecords.{CuUpBearer};
+ghost use Rattle.unit_defs.specs.CuUpItems.{n3_ended, closed_n3};
 ghost use Rattle.unit_defs.specs.Ways.{end_marker};
 ghost use Rattle.unit_defs.specs.octet_defs.Codec.{Codec, octet_way};
 ghost use Rattle.unit_messages.specs.steps.Steps.{IsStep, step_after};
@@ -13,7 +13,7 @@ ghost use Rattle.cu_up_items.specs.packets.Passing.{passed_on};
 
 use crate::packets::passing::drop_item;
 use cu_up_bearer::bearers::Bearer;
-use cu_up_bearer::tunnels::{At, Hop};
+use cu_up_bearer::tunnels::{Hop, Scope};
 use gnb_types::names::Dir;
 use gnb_types::outputs::{Output, Outputs};
 use gnb_types::reasons::DropReason;
@@ -24,11 +24,11 @@ use unit_messages::steps::StepError;
 pub(crate) fn pass_end(
     hop: Hop,
     alloc: Global,
-    at: &At,
+    at: &Scope,
     dir: Dir,
     out: &mut Outputs,
 ) -> Result<(), StepError>
-    ensures { (codec : Codec) (b : UpBearer) → b.hop ≡ hop_as (Some hop) → IsStep (step_after out.old
+    ensures { (codec : Codec) (b : CuUpBearer) → b.hop ≡ hop_as (Some hop) → IsStep (step_after out.old
         (passed_on (octet_way codec) dir (at_as at.now) Absent end_marker b)) out.new b result }
 {
     hop.put_end(alloc, at, dir, out)?;
@@ -54,7 +54,7 @@ fn close_n3(bearer: &mut Bearer, out: &mut Outputs) -> Result<(), StepError>
 pub fn end_n3(
     bearer: &mut Bearer,
     alloc: Global,
-    at: &At,
+    at: &Scope,
     out: &mut Outputs,
 ) -> Result<(), StepError>
     ensures step { (codec : Codec) → IsStep (step_after out.old

@@ -1,8 +1,8 @@
 //! The ends of uplinks, and of the hop's uplink from the source: the end of the hop to the target waits for both.
 
 ghost use Rattle.std.specs.Prelude.{◌≡◌, ◌==◌, not, ◌&&◌, ◌||◌, filter, IfOk};
-ghost use Rattle.unit_defs.specs.UpBearers.{no_uplink};
-ghost use Rattle.unit_defs.specs.UpItems.{up_hop_ends_if, uplink_ended, up_ended};
+ghost use Rattle.unit_defs.specs.CuUpBearers.{no_uplink};
+ghost use Rattle.unit_defs.specs.CuUpItems.{up_hop_ends_if, uplink_ended, up_ended};
 ghost use Rattle.unit_defs.specs.octet_defs.Codec.{Codec, octet_way};
 ghost use Rattle.unit_messages.specs.steps.Steps.{IsStep, step_after};
 ghost use Rattle.cu_up_bearer.specs.tunnels.Tunnels.{at_as};
@@ -11,7 +11,7 @@ ghost use Rattle.cu_up_bearer.specs.bearers.Bearers.{kept};
 use crate::ends::ending::pass_end;
 use crate::packets::passing::drop_item;
 use cu_up_bearer::bearers::Bearer;
-use cu_up_bearer::tunnels::{At, Hop};
+use cu_up_bearer::tunnels::{Hop, Scope};
 use gnb_types::items::{Items, Memory};
 use gnb_types::names::Dir;
 use gnb_types::outputs::{Output, Outputs};
@@ -22,7 +22,7 @@ use unit_messages::steps::StepError;
 /// Whether the end of the hop to the target is due: all uplinks are closed, the own hop from the source has ended, and it wasn't put
 /// yet.
 #[tactic(auto, using(crate::proofs::ends::UplinkEnds::none_left))]
-fn is_due(bearer: &Bearer, at: &At, hop: Hop) -> bool
+fn is_due(bearer: &Bearer, at: &Scope, hop: Hop) -> bool
     ensures { result ≡ (not hop.up_ended && no_uplink bearer.now.uplinks
         && (not at.now.flags.target || bearer.now.up_ended)) }
 {
@@ -33,7 +33,7 @@ fn is_due(bearer: &Bearer, at: &At, hop: Hop) -> bool
 fn end_hop_up(
     bearer: &mut Bearer,
     alloc: Global,
-    at: &At,
+    at: &Scope,
     out: &mut Outputs,
 ) -> Result<(), StepError>
     ensures step { (codec : Codec) → IsStep (step_after out.old
@@ -75,7 +75,7 @@ fn without(alloc: Global, teids: &[u32], teid: u32) -> Result<Items<u32>, Memory
 pub fn end_uplink(
     bearer: &mut Bearer,
     alloc: Global,
-    at: &At,
+    at: &Scope,
     teid: u32,
     out: &mut Outputs,
 ) -> Result<(), StepError>
@@ -94,7 +94,7 @@ pub fn end_uplink(
 pub fn end_up(
     bearer: &mut Bearer,
     alloc: Global,
-    at: &At,
+    at: &Scope,
     out: &mut Outputs,
 ) -> Result<(), StepError>
     ensures step { (codec : Codec) → IsStep (step_after out.old

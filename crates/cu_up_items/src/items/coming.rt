@@ -4,14 +4,14 @@ ghost use Rattle.unit_defs.specs.codec_defs.Reading.{ReadsItems};
 ghost use Rattle.unit_defs.specs.octet_defs.Codec.{Codec};
 ghost use Rattle.cu_up_bearer.specs.bearers.Bearers.{kept, IsOf};
 ghost use Rattle.cu_up_items.specs.items.Items.{item_as, IsSizedItem};
-ghost use Rattle.cu_up_items.specs.items.Coming.{came, came_as, IsCame};
+ghost use Rattle.cu_up_items.specs.items.Coming.{came, came_as, IsReceived};
 ghost use Rattle.std.specs.Prelude.{◌≡◌, false, OnOk};
 
 use crate::items::holding::held_reason;
-use crate::items::items::{Kind, UpItem, read_item};
+use crate::items::items::{CuUpItem, Kind, read_item};
 use crate::items::taking::take;
 use cu_up_bearer::bearers::Bearer;
-use cu_up_bearer::tunnels::At;
+use cu_up_bearer::tunnels::Scope;
 use gnb_types::outputs::{Output, Outputs};
 use gnb_types::reasons::DropReason;
 use std::alloc::Global;
@@ -21,15 +21,15 @@ use unit_messages::steps::StepError;
 fn come_as(
     bearer: &mut Bearer,
     alloc: Global,
-    at: &At,
+    at: &Scope,
     kind: Kind,
     teid: u32,
-    item: &UpItem<'_>,
+    item: &CuUpItem<'_>,
     out: &mut Outputs,
 ) -> Result<bool, StepError>
     requires sized { IsSizedItem (item_as item.now) }
     requires of { IsOf at.now bearer.old }
-    ensures came { (codec : Codec) → IsCame (came_as codec at.now kind teid item.now (kept bearer.old))
+    ensures came { (codec : Codec) → IsReceived (came_as codec at.now kind teid item.now (kept bearer.old))
         out.old out.new (kept bearer.old) (kept bearer.new) result }
     ensures of { OnOk result (IsOf at.now bearer.new) }
     ensures idle { at.now.flags.may_serve ≡ false → bearer.new ≡ bearer.old }
@@ -46,14 +46,14 @@ fn come_as(
 pub fn come(
     bearer: &mut Bearer,
     alloc: Global,
-    at: &At,
+    at: &Scope,
     kind: Kind,
     teid: u32,
     octets: &[u8],
     out: &mut Outputs,
 ) -> Result<bool, StepError>
     requires { IsOf at.now bearer.old }
-    ensures came { (codec : Codec) → ReadsItems codec → IsCame (came codec at.now kind teid octets.now (kept bearer.old))
+    ensures came { (codec : Codec) → ReadsItems codec → IsReceived (came codec at.now kind teid octets.now (kept bearer.old))
         out.old out.new (kept bearer.old) (kept bearer.new) result }
     ensures of { OnOk result (IsOf at.now bearer.new) }
     ensures idle { at.now.flags.may_serve ≡ false → bearer.new ≡ bearer.old }

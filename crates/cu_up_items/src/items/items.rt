@@ -28,7 +28,7 @@ pub enum Kind {
 
 /// What an item of a tunnel says.
 #[derive(Drop)]
-pub enum UpItem<'a> {
+pub enum CuUpItem<'a> {
     /// A packet without a number.
     Fresh(&'a [u8]),
     /// A packet and its PDCP sequence number.
@@ -50,44 +50,44 @@ pub enum UpItem<'a> {
     End,
 }
 
-fn of_n3<'a>(item: N3<'a>) -> UpItem<'a>
+fn of_n3<'a>(item: N3<'a>) -> CuUpItem<'a>
     ensures { item_as result ≡ n3_item item.entry }
 {
     match item {
-        N3::Packet(packet) => UpItem::Fresh(packet),
-        N3::End => UpItem::End,
+        N3::Packet(packet) => CuUpItem::Fresh(packet),
+        N3::End => CuUpItem::End,
     }
 }
 
-fn of_uplink<'a>(item: F1uUplink<'a>) -> UpItem<'a>
+fn of_uplink<'a>(item: F1uUplink<'a>) -> CuUpItem<'a>
     ensures { item_as result ≡ uplink_item item.entry }
 {
     match item {
-        F1uUplink::Pdu { content, octets } => UpItem::Pdu { content, octets },
+        F1uUplink::Pdu { content, octets } => CuUpItem::Pdu { content, octets },
         F1uUplink::Status {
             room,
             lost,
             delivered,
-        } => UpItem::Status {
+        } => CuUpItem::Status {
             room,
             lost,
             delivered,
         },
-        F1uUplink::End => UpItem::End,
+        F1uUplink::End => CuUpItem::End,
     }
 }
 
-fn of_forwarded<'a>(item: Forwarded<'a>) -> UpItem<'a>
+fn of_forwarded<'a>(item: Forwarded<'a>) -> CuUpItem<'a>
     ensures { item_as result ≡ forwarded_item item.entry }
 {
     match item {
-        Forwarded::Fresh(packet) => UpItem::Fresh(packet),
-        Forwarded::Numbered { number, packet } => UpItem::Numbered { number, packet },
-        Forwarded::End => UpItem::End,
+        Forwarded::Fresh(packet) => CuUpItem::Fresh(packet),
+        Forwarded::Numbered { number, packet } => CuUpItem::Numbered { number, packet },
+        Forwarded::End => CuUpItem::End,
     }
 }
 
-fn read_on_n3(octets: &[u8]) -> Option<UpItem<'_>>
+fn read_on_n3(octets: &[u8]) -> Option<CuUpItem<'_>>
     ensures item { (codec : Codec) (sn : Bits) → ReadsItems codec → codec.read_item n3 sn octets.now ≡ option_map item_as result }
     ensures sized { IfSome result (λ item. IsSizedItem (item_as item)) }
 {
@@ -97,7 +97,7 @@ fn read_on_n3(octets: &[u8]) -> Option<UpItem<'_>>
     }
 }
 
-fn read_on_uplink(sn: SnBits, octets: &[u8]) -> Option<UpItem<'_>>
+fn read_on_uplink(sn: SnBits, octets: &[u8]) -> Option<CuUpItem<'_>>
     ensures item { (codec : Codec) → ReadsItems codec → codec.read_item f1u_uplink sn octets.now ≡ option_map item_as result }
     ensures sized { IfSome result (λ item. IsSizedItem (item_as item)) }
 {
@@ -107,7 +107,7 @@ fn read_on_uplink(sn: SnBits, octets: &[u8]) -> Option<UpItem<'_>>
     }
 }
 
-fn read_on_forwarding_down(sn: SnBits, octets: &[u8]) -> Option<UpItem<'_>>
+fn read_on_forwarding_down(sn: SnBits, octets: &[u8]) -> Option<CuUpItem<'_>>
     ensures item { (codec : Codec) → ReadsItems codec → codec.read_item forwarding_down sn octets.now ≡ option_map item_as result }
     ensures sized { IfSome result (λ item. IsSizedItem (item_as item)) }
 {
@@ -117,7 +117,7 @@ fn read_on_forwarding_down(sn: SnBits, octets: &[u8]) -> Option<UpItem<'_>>
     }
 }
 
-fn read_on_forwarding_up(sn: SnBits, octets: &[u8]) -> Option<UpItem<'_>>
+fn read_on_forwarding_up(sn: SnBits, octets: &[u8]) -> Option<CuUpItem<'_>>
     ensures item { (codec : Codec) → ReadsItems codec → codec.read_item forwarding_up sn octets.now ≡ option_map item_as result }
     ensures sized { IfSome result (λ item. IsSizedItem (item_as item)) }
 {
@@ -128,7 +128,7 @@ fn read_on_forwarding_up(sn: SnBits, octets: &[u8]) -> Option<UpItem<'_>>
 }
 
 /// Reads an item of a tunnel of this kind; None where the octets decode to none.
-pub fn read_item(kind: Kind, sn: SnBits, octets: &[u8]) -> Option<UpItem<'_>>
+pub fn read_item(kind: Kind, sn: SnBits, octets: &[u8]) -> Option<CuUpItem<'_>>
     ensures item { (codec : Codec) → ReadsItems codec
         → codec.read_item (link_of (kind_as kind)) sn octets.now ≡ option_map item_as result }
     ensures sized { IfSome result (λ item. IsSizedItem (item_as item)) }

@@ -3,8 +3,8 @@
 ghost use Rattle.std.specs.Prelude.{◌≡◌, None, false, OnOk};
 ghost use Rattle.pdcp.specs.Pdus.{content_of};
 ghost use Rattle.pdcp_defs.specs.Counts.{near_count, count_below};
-ghost use Rattle.unit_defs.specs.UpRecords.{n3, f1u_uplink, forwarding_down, forwarding_up};
-ghost use Rattle.unit_defs.specs.UpItems.{took, took_content, first_held, held_content};
+ghost use Rattle.unit_defs.specs.CuUpRecords.{n3, f1u_uplink, forwarding_down, forwarding_up};
+ghost use Rattle.unit_defs.specs.CuUpItems.{took, took_content, first_held, held_content};
 ghost use Rattle.unit_defs.specs.octet_defs.Codec.{Codec, octet_way};
 ghost use Rattle.unit_defs.specs.octet_defs.Reading.{content_by};
 ghost use Rattle.unit_messages.specs.steps.Steps.{IsStep, step_after};
@@ -16,13 +16,13 @@ ghost use Rattle.cu_up_items.specs.items.Coming.{said, held_of};
 
 use crate::ends::ending::end_n3;
 use crate::ends::uplinks::{end_up, end_uplink};
-use crate::items::items::{Kind, UpItem};
+use crate::items::items::{CuUpItem, Kind};
 use crate::packets::confirming::{take_delivery_status, take_report};
 use crate::packets::passing::drop_item;
 use crate::packets::taking::{end_down, take_fresh, take_numbered};
 use crate::uplinks::taking::take_uplink;
 use cu_up_bearer::bearers::Bearer;
-use cu_up_bearer::tunnels::At;
+use cu_up_bearer::tunnels::Scope;
 use forwarding::TargetHop;
 use gnb_types::names::SnBits;
 use gnb_types::octets::Octets;
@@ -36,9 +36,9 @@ use unit_messages::steps::StepError;
 fn take_n3(
     bearer: &mut Bearer,
     alloc: Global,
-    at: &At,
+    at: &Scope,
     teid: u32,
-    item: &UpItem<'_>,
+    item: &CuUpItem<'_>,
     out: &mut Outputs,
 ) -> Result<(), StepError>
     requires sized { IsSizedItem (item_as item.now) }
@@ -50,14 +50,14 @@ fn take_n3(
     ensures of { OnOk result (IsOf at.now bearer.new) }
 {
     match item {
-        UpItem::Fresh(packet) => {
+        CuUpItem::Fresh(packet) => {
             let packet = Octets::from_slice(alloc, packet)?;
             take_fresh(bearer, alloc, at, packet, out)
         }
-        UpItem::End => end_n3(bearer, alloc, at, out),
-        UpItem::Numbered { .. } => drop_item(out, DropReason::Unexpected),
-        UpItem::Pdu { .. } => drop_item(out, DropReason::Unexpected),
-        UpItem::Status { .. } => drop_item(out, DropReason::Unexpected),
+        CuUpItem::End => end_n3(bearer, alloc, at, out),
+        CuUpItem::Numbered { .. } => drop_item(out, DropReason::Unexpected),
+        CuUpItem::Pdu { .. } => drop_item(out, DropReason::Unexpected),
+        CuUpItem::Status { .. } => drop_item(out, DropReason::Unexpected),
     }
 }
 
@@ -74,9 +74,9 @@ fn count_forwarded(sn: SnBits, next: u32, number: u32) -> Option<u32>
 fn take_forwarded_down(
     bearer: &mut Bearer,
     alloc: Global,
-    at: &At,
+    at: &Scope,
     teid: u32,
-    item: &UpItem<'_>,
+    item: &CuUpItem<'_>,
     out: &mut Outputs,
 ) -> Result<(), StepError>
     requires sized { IsSizedItem (item_as item.now) }
@@ -88,17 +88,17 @@ fn take_forwarded_down(
     ensures of { OnOk result (IsOf at.now bearer.new) }
 {
     match item {
-        UpItem::Fresh(packet) => {
+        CuUpItem::Fresh(packet) => {
             let packet = Octets::from_slice(alloc, packet)?;
             take_fresh(bearer, alloc, at, packet, out)
         }
-        UpItem::Numbered { number, packet } => {
+        CuUpItem::Numbered { number, packet } => {
             let count = count_forwarded(at.sn, bearer.dl_next, *number);
             take_numbered(bearer, alloc, at, count, packet, out)
         }
-        UpItem::End => end_down(bearer, out),
-        UpItem::Pdu { .. } => drop_item(out, DropReason::Unexpected),
-        UpItem::Status { .. } => drop_item(out, DropReason::Unexpected),
+        CuUpItem::End => end_down(bearer, out),
+        CuUpItem::Pdu { .. } => drop_item(out, DropReason::Unexpected),
+        CuUpItem::Status { .. } => drop_item(out, DropReason::Unexpected),
     }
 }
 
@@ -106,9 +106,9 @@ fn take_forwarded_down(
 fn take_forwarded_up(
     bearer: &mut Bearer,
     alloc: Global,
-    at: &At,
+    at: &Scope,
     teid: u32,
-    item: &UpItem<'_>,
+    item: &CuUpItem<'_>,
     out: &mut Outputs,
 ) -> Result<(), StepError>
     requires sized { IsSizedItem (item_as item.now) }
@@ -120,13 +120,13 @@ fn take_forwarded_up(
     ensures of { OnOk result (IsOf at.now bearer.new) }
 {
     match item {
-        UpItem::Numbered { number, packet } => {
+        CuUpItem::Numbered { number, packet } => {
             take_uplink(bearer, alloc, at, *number, packet, out)
         }
-        UpItem::End => end_up(bearer, alloc, at, out),
-        UpItem::Fresh(_) => drop_item(out, DropReason::Unexpected),
-        UpItem::Pdu { .. } => drop_item(out, DropReason::Unexpected),
-        UpItem::Status { .. } => drop_item(out, DropReason::Unexpected),
+        CuUpItem::End => end_up(bearer, alloc, at, out),
+        CuUpItem::Fresh(_) => drop_item(out, DropReason::Unexpected),
+        CuUpItem::Pdu { .. } => drop_item(out, DropReason::Unexpected),
+        CuUpItem::Status { .. } => drop_item(out, DropReason::Unexpected),
     }
 }
 
@@ -134,7 +134,7 @@ fn take_forwarded_up(
 fn take_pdu(
     bearer: &mut Bearer,
     alloc: Global,
-    at: &At,
+    at: &Scope,
     content: Pdu<'_>,
     out: &mut Outputs,
 ) -> Result<(), StepError>
@@ -158,9 +158,9 @@ fn take_pdu(
 fn take_f1u(
     bearer: &mut Bearer,
     alloc: Global,
-    at: &At,
+    at: &Scope,
     teid: u32,
-    item: &UpItem<'_>,
+    item: &CuUpItem<'_>,
     out: &mut Outputs,
 ) -> Result<(), StepError>
     requires sized { IsSizedItem (item_as item.now) }
@@ -172,15 +172,15 @@ fn take_f1u(
     ensures of { OnOk result (IsOf at.now bearer.new) }
 {
     match item {
-        UpItem::Pdu { content, .. } => take_pdu(bearer, alloc, at, *content, out),
-        UpItem::Status {
+        CuUpItem::Pdu { content, .. } => take_pdu(bearer, alloc, at, *content, out),
+        CuUpItem::Status {
             lost,
             delivered,
             ..
         } => take_delivery_status(bearer, alloc, at, lost.as_slice(), *delivered, out),
-        UpItem::End => end_uplink(bearer, alloc, at, teid, out),
-        UpItem::Fresh(_) => drop_item(out, DropReason::Unexpected),
-        UpItem::Numbered { .. } => drop_item(out, DropReason::Unexpected),
+        CuUpItem::End => end_uplink(bearer, alloc, at, teid, out),
+        CuUpItem::Fresh(_) => drop_item(out, DropReason::Unexpected),
+        CuUpItem::Numbered { .. } => drop_item(out, DropReason::Unexpected),
     }
 }
 
@@ -188,10 +188,10 @@ fn take_f1u(
 pub fn take(
     bearer: &mut Bearer,
     alloc: Global,
-    at: &At,
+    at: &Scope,
     kind: Kind,
     teid: u32,
-    item: &UpItem<'_>,
+    item: &CuUpItem<'_>,
     out: &mut Outputs,
 ) -> Result<(), StepError>
     requires sized { IsSizedItem (item_as item.now) }

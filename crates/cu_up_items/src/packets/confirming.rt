@@ -2,8 +2,8 @@
 
 ghost use Rattle.std.specs.Prelude.{◌≡◌, OnOk};
 ghost use Rattle.gnb_types.specs.declared.names.SnBits.{SnBits};
-ghost use Rattle.unit_defs.specs.UpRecords.{UpBearer};
-ghost use Rattle.unit_defs.specs.UpItems.{took_report, took_delivery_status, lost_frames, confirmed_if};
+ghost use Rattle.unit_defs.specs.CuUpRecords.{CuUpBearer};
+ghost use Rattle.unit_defs.specs.CuUpItems.{took_report, took_delivery_status, lost_frames, confirmed_if};
 ghost use Rattle.unit_defs.specs.octet_defs.Codec.{Codec, octet_way};
 ghost use Rattle.unit_defs.specs.octet_defs.Reading.{bits_of, count_confirmed};
 ghost use Rattle.unit_messages.specs.steps.Steps.{IsStep, step_after};
@@ -13,7 +13,7 @@ ghost use Rattle.cu_up_bearer.specs.bearers.Bearers.{kept, IsOf};
 
 use cu_up_bearer::bearers::Bearer;
 use cu_up_bearer::downlink::DownSide;
-use cu_up_bearer::tunnels::At;
+use cu_up_bearer::tunnels::Scope;
 use gnb_types::outputs::Outputs;
 use std::alloc::Global;
 use unit_messages::steps::StepError;
@@ -22,7 +22,7 @@ use unit_messages::steps::StepError;
 pub fn take_report(
     bearer: &mut Bearer,
     alloc: Global,
-    at: &At,
+    at: &Scope,
     fmc: u32,
     bitmap: &[u8],
     out: &mut Outputs,
@@ -41,7 +41,7 @@ pub fn take_report(
 fn lose_frames(
     bearer: &mut Bearer,
     alloc: Global,
-    at: &At,
+    at: &Scope,
     lost: &[(u32, u32)],
     out: &mut Outputs,
 ) -> Result<(), StepError>
@@ -64,7 +64,7 @@ fn lose_frames(
 
 /// All up to this number are confirmed, if there is one.
 fn confirm_to(down: &mut DownSide, delivered: Option<u32>)
-    ensures confirms { (codec : Codec) (sn : SnBits) (b : UpBearer) → down.old.sending.sn ≡ sn
+    ensures confirms { (codec : Codec) (sn : SnBits) (b : CuUpBearer) → down.old.sending.sn ≡ sn
         → with_down b down.new ≡ confirmed_if (octet_way codec)
         (count_confirmed sn (with_down b down.old) delivered) (with_down b down.old) }
     ensures sn { down.new.sending.sn ≡ down.old.sending.sn }
@@ -80,7 +80,7 @@ fn confirm_to(down: &mut DownSide, delivered: Option<u32>)
 pub fn take_delivery_status(
     bearer: &mut Bearer,
     alloc: Global,
-    at: &At,
+    at: &Scope,
     lost: &[(u32, u32)],
     delivered: Option<u32>,
     out: &mut Outputs,

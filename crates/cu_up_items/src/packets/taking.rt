@@ -1,8 +1,8 @@
 //! Packets down: items of N3 and of the hop's downlink tunnel.
 
 ghost use Rattle.std.specs.Prelude.{◌≡◌, ◌<◌, false, OnOk};
-ghost use Rattle.pdcp_bearers.specs.ue_bearers.Uplinks.{used, IsPacket};
-ghost use Rattle.unit_defs.specs.UpItems.{took_fresh, took_numbered, down_ended};
+ghost use Rattle.pdcp_bearers.specs.ue_bearers.Senders.{used, IsPacket};
+ghost use Rattle.unit_defs.specs.CuUpItems.{took_fresh, took_numbered, down_ended};
 ghost use Rattle.unit_defs.specs.octet_defs.Codec.{Codec, octet_way};
 ghost use Rattle.unit_messages.specs.steps.Steps.{IsStep, step_after};
 ghost use Rattle.cu_up_bearer.specs.tunnels.Tunnels.{at_as};
@@ -10,7 +10,7 @@ ghost use Rattle.cu_up_bearer.specs.bearers.Bearers.{kept, IsOf};
 
 use crate::packets::passing::{drop_item, pass_counted, pass_fresh};
 use cu_up_bearer::bearers::Bearer;
-use cu_up_bearer::tunnels::{At, ShownCount};
+use cu_up_bearer::tunnels::{Scope, ShownCount};
 use gnb_types::names::Dir;
 use gnb_types::octets::Octets;
 use gnb_types::outputs::{Outputs, Tag};
@@ -23,7 +23,7 @@ use unit_messages::steps::StepError;
 pub fn take_fresh(
     bearer: &mut Bearer,
     alloc: Global,
-    at: &At,
+    at: &Scope,
     packet: Octets,
     out: &mut Outputs,
 ) -> Result<(), StepError>
@@ -53,7 +53,7 @@ pub fn take_fresh(
 pub fn take_numbered(
     bearer: &mut Bearer,
     alloc: Global,
-    at: &At,
+    at: &Scope,
     count: Option<u32>,
     packet: &[u8],
     out: &mut Outputs,

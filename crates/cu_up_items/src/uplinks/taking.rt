@@ -2,8 +2,8 @@
 
 ghost use Rattle.std.specs.Prelude.{◌≡◌, false, OnOk};
 ghost use Rattle.pdcp_defs.specs.Counts.{near_count};
-ghost use Rattle.pdcp_bearers.specs.ue_bearers.Uplinks.{IsPacket};
-ghost use Rattle.unit_defs.specs.UpItems.{took_uplink, passed_up, is_ahead_if};
+ghost use Rattle.pdcp_bearers.specs.ue_bearers.Senders.{IsPacket};
+ghost use Rattle.unit_defs.specs.CuUpItems.{took_uplink, passed_up, is_ahead_if};
 ghost use Rattle.unit_defs.specs.octet_defs.Codec.{Codec, octet_way};
 ghost use Rattle.unit_messages.specs.steps.Steps.{IsStep, step_after};
 ghost use Rattle.cu_up_bearer.specs.tunnels.Tunnels.{at_as};
@@ -13,7 +13,7 @@ ghost use Rattle.cu_up_items.specs.uplinks.Storing.{kept_at};
 use crate::packets::passing::{drop_item, pass_counted};
 use cu_up_bearer::bearers::Bearer;
 use cu_up_bearer::bearers::uplink::deliver_stored;
-use cu_up_bearer::tunnels::{At, ShownCount};
+use cu_up_bearer::tunnels::{Scope, ShownCount};
 use gnb_types::names::Dir;
 use gnb_types::outputs::{Outputs, Tag};
 use gnb_types::reasons::DropReason;
@@ -25,7 +25,7 @@ use unit_messages::steps::StepError;
 fn pass_up(
     bearer: &Bearer,
     alloc: Global,
-    at: &At,
+    at: &Scope,
     count: u32,
     packet: &[u8],
     out: &mut Outputs,
@@ -49,7 +49,7 @@ fn pass_up(
 fn keep(
     bearer: &mut Bearer,
     alloc: Global,
-    at: &At,
+    at: &Scope,
     count: u32,
     packet: &[u8],
     out: &mut Outputs,
@@ -76,7 +76,7 @@ fn keep(
 pub fn take_uplink(
     bearer: &mut Bearer,
     alloc: Global,
-    at: &At,
+    at: &Scope,
     number: u32,
     packet: &[u8],
     out: &mut Outputs,

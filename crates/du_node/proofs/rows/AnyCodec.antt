@@ -5,7 +5,7 @@ use Rattle.unit_defs.specs.octet_defs.Codec.{Codec}
 
 abbrev pub any_codec : Codec
 any_codec = record {
-  spell = λ message. [];
+  encode = λ message. [];
   read = λ from to octets. Err Unexpected;
   read_token = λ octets. None;
   read_item = λ link sn octets. None;

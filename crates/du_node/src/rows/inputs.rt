@@ -31,7 +31,7 @@ impl DuRecord {
             (step_after outputs.old (du_steps C.codec self.old input.now)) outputs.new self.new result }
     {
         match input {
-            Input::Control { from, bytes } => self.control_came(
+            Input::Control { from, bytes } => self.control_received(
                 alloc,
                 codec,
                 *from,

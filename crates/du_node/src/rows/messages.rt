@@ -5,7 +5,7 @@ ghost use Rattle.gnb_types.specs.declared.inputs.Input.TheVariants as ins;
 ghost use Rattle.unit_defs.specs.Ways.{f1, rrc};
 ghost use Rattle.unit_defs.specs.Messages.{is_same_gnb, shares_interface};
 ghost use Rattle.unit_defs.specs.Transactions.{kind_of, on_request, on_reply};
-ghost use Rattle.unit_defs.specs.Du.{du_node, with_transactions, token_ue, asked, transferred, set_up, of_cp, of_terminal, control_came};
+ghost use Rattle.unit_defs.specs.Du.{du_node, with_transactions, token_ue, asked, transferred, set_up, of_cu_cp, of_terminal, control_received};
 ghost use Rattle.unit_defs.specs.octet_defs.Codec.{octet_way};
 ghost use Rattle.unit_defs.specs.octet_defs.Units.{du_steps};
 ghost use Rattle.unit_messages.specs.Messages.{message_as};
@@ -48,7 +48,7 @@ fn token_ue<C: MessageCodec>(_codec: &C, token: &Token) -> UeId
 
 impl DuRecord {
     /// Whether the DU shares an interface with this node: with the CU-CP of its gNB, and with each terminal.
-    fn hears(&self, from: NodeId) -> bool
+    fn receives(&self, from: NodeId) -> bool
         ensures { result ≡ shares_interface (du_node self.now) from }
     {
         match from {
@@ -60,7 +60,7 @@ impl DuRecord {
 
     /// A control message, in octets.
     #[tactic(auto, unfolding(unit_defs::specs::octet_defs::Units::du_steps, unit_defs::specs::octet_defs::Reading::read_at_du))]
-    pub fn control_came<C: MessageCodec>(
+    pub fn control_received<C: MessageCodec>(
         &mut self,
         alloc: Global,
         codec: &C,
@@ -71,7 +71,7 @@ impl DuRecord {
         ensures { IsStep
             (step_after outputs.old (du_steps C.codec self.old (ins.Control from octets.now))) outputs.new self.new result }
     {
-        if !self.hears(from) {
+        if !self.receives(from) {
             return put(outputs, Output::Drop(DropReason::Unexpected));
         }
         let own = self.node();
@@ -85,7 +85,7 @@ impl DuRecord {
         }
     }
 
-    #[tactic(auto, unfolding(unit_defs::specs::Du::control_came))]
+    #[tactic(auto, unfolding(unit_defs::specs::Du::control_received))]
     fn message_came<C: MessageCodec>(
         &mut self,
         alloc: Global,
@@ -95,12 +95,12 @@ impl DuRecord {
         outputs: &mut Outputs,
     ) -> Result<(), StepError>
         ensures { IsStep
-            (step_after outputs.old (control_came (octet_way C.codec) from (message_as message.now) self.old)) outputs.new self.new result }
+            (step_after outputs.old (control_received (octet_way C.codec) from (message_as message.now) self.old)) outputs.new self.new result }
     {
         match from {
             NodeId::CuCp(gnb) => {
                 if is_same_gnb(gnb, self.gnb) {
-                    return self.of_cp(alloc, codec, from, message, outputs);
+                    return self.of_cu_cp(alloc, codec, from, message, outputs);
                 }
                 put(outputs, Output::Drop(DropReason::Unexpected))
             }
@@ -113,7 +113,7 @@ impl DuRecord {
     }
 
     /// A message of the CU-CP, by its kind.
-    fn of_cp<C: MessageCodec>(
+    fn of_cu_cp<C: MessageCodec>(
         &mut self,
         alloc: Global,
         codec: &C,
@@ -122,7 +122,7 @@ impl DuRecord {
         outputs: &mut Outputs,
     ) -> Result<(), StepError>
         ensures { IsStep
-            (step_after outputs.old (of_cp (octet_way C.codec) from (message_as message.now) self.old (kind_of (message_as message.now))))
+            (step_after outputs.old (of_cu_cp (octet_way C.codec) from (message_as message.now) self.old (kind_of (message_as message.now))))
             outputs.new self.new result }
     {
         match message.kind() {
@@ -132,7 +132,7 @@ impl DuRecord {
             }
             Kind::Reply { ue, instance } => {
                 let channel = Channel { ue, peer: from };
-                self.reply_came(alloc, codec, channel, instance, outputs)
+                self.reply_received(alloc, codec, channel, instance, outputs)
             }
             Kind::Transfer { .. } => self.transferred(alloc, codec, message, outputs),
         }
@@ -164,7 +164,7 @@ impl DuRecord {
 
     /// A reply that isn't awaited is stale.
     #[tactic(auto, unfolding(unit_defs::specs::Transactions::on_reply))]
-    fn reply_came<C: MessageCodec>(
+    fn reply_received<C: MessageCodec>(
         &mut self,
         alloc: Global,
         codec: &C,
@@ -324,7 +324,7 @@ impl DuRecord {
             (step_after outputs.old (of_terminal (octet_way C.codec) ue (message_as message.now) self.old)) outputs.new self.new result }
     {
         match message {
-            Message::Rrc(token) => self.token_came(alloc, codec, ue, *token, outputs),
+            Message::Rrc(token) => self.token_received(alloc, codec, ue, *token, outputs),
             Message::F1(_) | Message::E1(_) | Message::Xn(_) | Message::Core(_) => {
                 put(outputs, Output::Drop(DropReason::Unexpected))
             }
@@ -332,7 +332,7 @@ impl DuRecord {
     }
 
     /// A token, which is its sender's.
-    fn token_came<C: MessageCodec>(
+    fn token_received<C: MessageCodec>(
         &mut self,
         alloc: Global,
         codec: &C,

@@ -11,7 +11,7 @@ use gnb_types::outputs::Outputs;
 use message_types::{F1, Token};
 use std::alloc::Global;
 use unit_messages::steps::StepError;
-use unit_messages::{Message, MessageCodec, spelled};
+use unit_messages::{Message, MessageCodec, encoded};
 
 impl DuRecord {
     /// DL RRC Message Transfer: the container goes to the terminal as it came.
@@ -40,9 +40,9 @@ impl DuRecord {
         ensures { IsStep
             (step_after outputs.old (relay_up (octet_way C.codec) ue token self.now)) outputs.new self.now result }
     {
-        let container = spelled(alloc, codec, Message::Rrc(token))?;
+        let container = encoded(alloc, codec, Message::Rrc(token))?;
         let transfer = Message::F1(F1::UlRrcMessageTransfer { ue, container });
-        let message = spelled(alloc, codec, transfer)?;
+        let message = encoded(alloc, codec, transfer)?;
         self.contexts.relay_up(self.gnb, ue, message, outputs)
     }
 }

@@ -12,8 +12,8 @@ use Rattle.dup_defs.specs.declared.types.leg.Leg.{Leg}
 use Rattle.dup_defs.specs.declared.types.leg.Leg.TheVariants as legs
 use Rattle.unit_messages.specs.declared.steps.StepError.{StepError}
 use Rattle.unit_messages.specs.declared.steps.StepError.TheVariants as steps
-use Rattle.pdcp_bearers.specs.declared.ue_bearers.uplink.Counted.{Counted}
-use Rattle.pdcp_bearers.specs.ue_bearers.Uplinks.{UplinkState, Numbering, numbers, stays, ends, numbering, numbering_of, IsCounting}
+use Rattle.pdcp_bearers.specs.declared.ue_bearers.sender.Counted.{Counted}
+use Rattle.pdcp_bearers.specs.ue_bearers.Senders.{SenderState, Numbering, numbers, stays, ends, numbering, numbering_of, IsCounting}
 use Rattle.std.specs.Prelude.{Result}
 use Rattle.dup_defs.specs.declared.types.put.Put.{Put}
 use Rattle.dup_bearer.specs.declared.dup_pdcp.ending.DupEnding.{DupEnding}
@@ -21,25 +21,25 @@ use Rattle.dup_bearer.specs.dup_pdcp.Entity.{DupTxState, IsPut, puts_of_code}
 use Rattle.dup_bearer.specs.dup_pdcp.inside.Views.{Marks, sender_state, tx_state, with_entity, IsGiven, IsNumbered, PutsMore, counted_of}
 use Rattle.dup_bearer.proofs.dup_pdcp.PutLemmas.{from_none}
 
-abbrev pub uplink : SnBits → ℕ → Sender (List ℕ) → List (List ℕ) → UplinkState
+abbrev pub uplink : SnBits → ℕ → Sender (List ℕ) → List (List ℕ) → SenderState
 uplink sn quota sender waiting = record { sn = sn; quota = quota; sender = sender; waiting = waiting }
 
 -- ---- one packet
 
 module _ (m : Marks) where
-  abbrev state : UplinkState → DupSender
+  abbrev state : SenderState → DupSender
   state u = sender_state u m
 
-  abbrev rest : SnBits → ℕ → UplinkState → DupNumbers
+  abbrev rest : SnBits → ℕ → SenderState → DupNumbers
   rest sn quota u = number_waiting sn quota (state u)
 
   -- what numbering comes to, by what the uplink gives
-  abbrev Given : DupNumbers → SnBits → ℕ → UplinkState → Numbering → Type 0
+  abbrev Given : DupNumbers → SnBits → ℕ → SenderState → Numbering → Type 0
   Given d sn quota u (numbers count packet after) = d ≡ puts_first (puts_of (state after) ((count, packet) ∷ [])) (rest sn quota after)
   Given d sn quota u stays = d ≡ gives [] (state u)
   Given d sn quota u ends = d ≡ spends
 
-  abbrev pub Turn : SnBits → ℕ → UplinkState → Numbering → Type 0
+  abbrev pub Turn : SnBits → ℕ → SenderState → Numbering → Type 0
   Turn sn quota u n = Given (rest sn quota u) sn quota u n
 
   turn : (sn : SnBits) (quota : ℕ) (sender : Sender (List ℕ)) (waiting : List (List ℕ))
@@ -60,12 +60,12 @@ module _ (m : Marks) where
       by true false = refl
       by false l = refl
 
-  pub turn_of : (u : UplinkState) (n : Numbering) → numbering u ≡ n → Turn u.sn u.quota u n
+  pub turn_of : (u : SenderState) (n : Numbering) → numbering u ≡ n → Turn u.sn u.quota u n
   turn_of u n is = subst (λ (m : Numbering). Turn u.sn u.quota u m) is (turn u.sn u.quota u.sender u.waiting)
 
 -- ---- what is left of the uplink
 
-numbers_in : (d : UplinkState) (w : List (List ℕ)) (after : UplinkState) (count : ℕ) (packet : List ℕ) → numbering_of d w ≡ numbers count packet after
+numbers_in : (d : SenderState) (w : List (List ℕ)) (after : SenderState) (count : ℕ) (packet : List ℕ) → numbering_of d w ≡ numbers count packet after
     → (after.sn ≡ d.sn) × (after.quota ≡ d.quota) × (length after.waiting < length w)
 numbers_in d [] after count packet is = cc
 numbers_in d (x ∷ xs) after count packet is = by (has_room d.sn d.quota d.sender) (nat_lt last_count d.sender.next) is
@@ -76,26 +76,26 @@ numbers_in d (x ∷ xs) after count packet is = by (has_room d.sn d.quota d.send
     by true true is = cc
     by true false is =
         let same : uplink d.sn d.quota (numbered d.sender x) xs ≡ after = cc in
-        let fewer : length xs ≡ length after.waiting = ap (λ (a : UplinkState). length a.waiting) same in
-        (sym (ap (λ (a : UplinkState). a.sn) same), sym (ap (λ (a : UplinkState). a.quota) same), omega (arith, fewer))
+        let fewer : length xs ≡ length after.waiting = ap (λ (a : SenderState). length a.waiting) same in
+        (sym (ap (λ (a : SenderState). a.sn) same), sym (ap (λ (a : SenderState). a.quota) same), omega (arith, fewer))
     by false l is = cc
 
-pub numbers_keeps : (d after : UplinkState) (count : ℕ) (packet : List ℕ) → numbering d ≡ numbers count packet after
+pub numbers_keeps : (d after : SenderState) (count : ℕ) (packet : List ℕ) → numbering d ≡ numbers count packet after
     → (after.sn ≡ d.sn) × (after.quota ≡ d.quota) × (length after.waiting < length d.waiting)
 numbers_keeps d after count packet is = numbers_in d d.waiting after count packet is
 
 -- ---- a packet that is numbered
 
 module _ (n : SnBits) (most : ℕ) (m : Marks) (ended : Option DupEnding) where
-  abbrev tx : UplinkState → DupTxState
+  abbrev tx : SenderState → DupTxState
   tx u = tx_state n most u m ended
 
   -- what numbering comes to for the entity's own numbers and quota
-  turn_is : (u : UplinkState) (k : Numbering) → u.sn ≡ n → u.quota ≡ most → numbering u ≡ k → Turn m n most u k
+  turn_is : (u : SenderState) (k : Numbering) → u.sn ≡ n → u.quota ≡ most → numbering u ≡ k → Turn m n most u k
   turn_is u k sn_is quota_is is =
       subst (λ (q : ℕ). Turn m n q u k) quota_is (subst (λ (b : SnBits). Turn m b u.quota u k) sn_is (turn_of m u k is))
 
-  pub numbered_as : (u v : UplinkState) (r : Result (Option Counted) StepError) → u.sn ≡ n → u.quota ≡ most → IsCounting (numbering u) u v r
+  pub numbered_as : (u v : SenderState) (r : Result (Option Counted) StepError) → u.sn ≡ n → u.quota ≡ most → IsCounting (numbering u) u v r
       → IsNumbered (tx u) (tx v) (counted_of r)
   numbered_as u v (Ok (Some d)) sn_is quota_is is =
       (turn_is u (numbers d.count d.packet v) sn_is quota_is is.0, refl, is.1, (numbers_keeps u v d.count d.packet is.0).2)

@@ -10,7 +10,7 @@ use Rattle.pdcp.specs.declared.pdu.TheConstants.{PACKET_LIMIT}
 use Rattle.dup_defs.specs.declared.types.leg.Leg.{Leg}
 use Rattle.dup_defs.specs.declared.types.put.Put.{Put}
 use Rattle.dup_defs.specs.Senders.{DupPut}
-use Rattle.pdcp_bearers.specs.ue_bearers.Uplinks.{from_on}
+use Rattle.pdcp_bearers.specs.ue_bearers.Senders.{from_on}
 use Rattle.dup_bearer.specs.dup_pdcp.Entity.{packet_in, IsPut, put_of, puts_of_code}
 use Rattle.dup_bearer.specs.dup_pdcp.inside.Views.{IsPacket, PutsMore}
 

@@ -18,7 +18,7 @@ use gnb_types::names::{BearerId, Dir, SnBits, UeId};
 use gnb_types::octets::Octets;
 use packet_pool::Key;
 use pdcp::write_pdu;
-use pdcp_bearers::ue_bearers::{Counted, Uplink};
+use pdcp_bearers::ue_bearers::{Counted, Sender};
 use std::alloc::Global;
 use std::marker::Model;
 use unit_messages::steps::StepError;
@@ -29,7 +29,7 @@ pub struct DupTx {
     sn: SnBits,
     quota: u16,
     /// What waits, and what nothing confirmed, whose copies lie in a pool.
-    packets: Uplink,
+    packets: Sender,
     mode: Mode,
     first_up: bool,
     second_up: bool,
@@ -64,7 +64,7 @@ impl DupTx {
         requires most { quota ≤ 4096 }
         ensures { IfOk result (λ tx. tx ≡ new_tx sn quota) }
     {
-        let packets = Uplink::new(alloc, own_key(), sn, quota)?;
+        let packets = Sender::new(alloc, own_key(), sn, quota)?;
         Ok(DupTx {
             sn,
             quota,

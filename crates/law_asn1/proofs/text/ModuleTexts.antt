@@ -31,14 +31,14 @@ new_assignment_gives assignments ts = and_gives (upper_gives ts) (λ name t.
 
 -- ---- what a name stands for
 
-abbrev BodySo : List Node → List Node → List Placed → Body × List Node × Left → Type 0
-BodySo all old ts a = Grows old a.1 × (Grows a.1 all → Taken (body_text (texts_of all) a.0) ts a.2)
+abbrev BodyFacts : List Node → List Node → List Placed → Body × List Node × Left → Type 0
+BodyFacts all old ts a = Grows old a.1 × (Grows a.1 all → Taken (body_text (texts_of all) a.0) ts a.2)
 
-body_gives : (all : List Node) → AreOrdered 0 all → (turns : ℕ) (nodes : List Node) (ts : List Placed) → Gives (BodySo all nodes ts) (body_at turns nodes ts)
+body_gives : (all : List Node) → AreOrdered 0 all → (turns : ℕ) (nodes : List Node) (ts : List Placed) → Gives (BodyFacts all nodes ts) (body_at turns nodes ts)
 unfolding body_at ie_body_at procedure_body_at type_body_at
-body_gives all ordered turns nodes ts = by_choice (Gives (BodySo all nodes ts)) (begins_with words.ProtocolIes ts) _ _
+body_gives all ordered turns nodes ts = by_choice (Gives (BodyFacts all nodes ts)) (begins_with words.ProtocolIes ts) _ _
     (λ _. and_gives (word_gives words.ProtocolIes ts) (λ a t1. and_gives (ie_set_gives all ordered turns nodes a) (λ set t2. ok (t2.0, λ up. t1 then t2.1 up))))
-    (λ _. by_choice (Gives (BodySo all nodes ts)) (begins_with words.ElementaryProcedure ts) _ _
+    (λ _. by_choice (Gives (BodyFacts all nodes ts)) (begins_with words.ElementaryProcedure ts) _ _
     (λ _. and_gives (word_gives words.ElementaryProcedure ts) (λ a t1. and_gives (procedure_set_gives all ordered turns nodes a) (λ set t2. ok (t2.0, λ up. t1 then t2.1 up))))
     (λ _. and_gives (sign_gives signs.Assignment ts) (λ a t1. and_gives (type_gives all ordered turns nodes a) (λ definition t2. ok (t2.0, λ up. t1 then t2.1 up)))))
 
@@ -80,10 +80,10 @@ header_gives ts = and_gives (upper_gives ts) (λ name t1.
     and_gives (word_gives words.Begin d) (λ e t6. ok (t1 then t2 then t3 then t4 then t5 then t6)))))))
 
 -- the items before the word END
-abbrev ModuleSo : List Node → List Placed → Syntax → Type 0
-ModuleSo all ts s = Grows s.nodes all → (us : List Placed) × Taken (λ t. header_text s.name (assignments_text (texts_of all) s.assignments t)) ts us × (begins_with words.End us ≡ true) × (s.end ≡ (first_place us).end)
+abbrev ModuleFacts : List Node → List Placed → Syntax → Type 0
+ModuleFacts all ts s = Grows s.nodes all → (us : List Placed) × Taken (λ t. header_text s.name (assignments_text (texts_of all) s.assignments t)) ts us × (begins_with words.End us ≡ true) × (s.end ≡ (first_place us).end)
 
-syntax_gives : (all : List Node) → AreOrdered 0 all → (turns : ℕ) (ts : List Placed) → Gives (ModuleSo all ts) (syntax_at turns ts)
+syntax_gives : (all : List Node) → AreOrdered 0 all → (turns : ℕ) (ts : List Placed) → Gives (ModuleFacts all ts) (syntax_at turns ts)
 unfolding syntax_at assignments_at assignments_text
 syntax_gives all ordered turns ts = and_gives (header_gives ts) (λ header t1.
     and_gives (repeat_gives (module_turn_at turns) (SoFar all header.1) (AtEnd all header.1) (λ so_far us p. module_turn_gives all ordered turns header.1 so_far us p) turns (no_assignments []) header.1 (λ _. nothing_taken header.1)) (λ parts t2.

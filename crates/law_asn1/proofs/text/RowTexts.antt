@@ -75,10 +75,10 @@ presence_gives ts = and_gives (lower_gives ts) (λ name t.
 
 -- ---- rows, where these are all types of the module
 
-abbrev RowSo : {R : Type 0} → (List Written → R → Written) → List Node → List Node → List Placed → R × List Node × Left → Type 0
-RowSo text all old ts a = Grows old a.1 × (Grows a.1 all → Taken (text (texts_of all) a.0) ts a.2)
+abbrev RowFacts : {R : Type 0} → (List Written → R → Written) → List Node → List Node → List Placed → R × List Node × Left → Type 0
+RowFacts text all old ts a = Grows old a.1 × (Grows a.1 all → Taken (text (texts_of all) a.0) ts a.2)
 
-ie_row_gives : (all : List Node) → AreOrdered 0 all → (turns : ℕ) (rows : List IeRow) (nodes : List Node) (ts : List Placed) → Gives (RowSo ie_row_text all nodes ts) (ie_row_at turns rows nodes ts)
+ie_row_gives : (all : List Node) → AreOrdered 0 all → (turns : ℕ) (rows : List IeRow) (nodes : List Node) (ts : List Placed) → Gives (RowFacts ie_row_text all nodes ts) (ie_row_at turns rows nodes ts)
 unfolding ie_row_at
 ie_row_gives all ordered turns rows nodes ts = and_gives (sign_gives signs.LeftBrace ts) (λ a t1.
     and_gives (word_gives words.Id a) (λ b t2.
@@ -93,9 +93,9 @@ ie_row_gives all ordered turns rows nodes ts = and_gives (sign_gives signs.LeftB
     ok (t7.0, λ grows. t1 then t2 then t3 then t4 then t5 then t6 then t7.1 grows then t8 then t9 then t10)))))))))))
 
 -- an outcome that may be absent
-outcome_gives : (all : List Node) → AreOrdered 0 all → (turns : ℕ) (w : Word) (nodes : List Node) (ts : List Placed) → Gives (RowSo (λ texts. outcome_text texts w) all nodes ts) (outcome_at turns w nodes ts)
+outcome_gives : (all : List Node) → AreOrdered 0 all → (turns : ℕ) (w : Word) (nodes : List Node) (ts : List Placed) → Gives (RowFacts (λ texts. outcome_text texts w) all nodes ts) (outcome_at turns w nodes ts)
 unfolding outcome_at
-outcome_gives all ordered turns w nodes ts = by_choice (Gives (RowSo (λ texts. outcome_text texts w) all nodes ts)) (begins_with w ts) _ _
+outcome_gives all ordered turns w nodes ts = by_choice (Gives (RowFacts (λ texts. outcome_text texts w) all nodes ts)) (begins_with w ts) _ _
     (λ _. and_gives (word_gives w ts) (λ a t1.
     and_gives (word_gives words.Outcome a) (λ b t2.
     and_gives (type_gives all ordered turns nodes b) (λ definition t3. ok (t3.0, λ grows. t1 then t2 then t3.1 grows)))))
@@ -116,7 +116,7 @@ messages_gives all ordered turns nodes ts = and_gives (word_gives words.Initiati
       λ grows. t1 then t2 then t3.1 (grows_then initiating.1 good.1 all t4.0 (grows_then good.1 bad.1 all t5.0 grows)) then t4.1 (grows_then good.1 bad.1 all t5.0 grows) then t5.1 grows,
     ))))))
 
-procedure_row_gives : (all : List Node) → AreOrdered 0 all → (turns : ℕ) (rows : List ProcedureRow) (nodes : List Node) (ts : List Placed) → Gives (RowSo procedure_row_text all nodes ts) (procedure_row_at turns rows nodes ts)
+procedure_row_gives : (all : List Node) → AreOrdered 0 all → (turns : ℕ) (rows : List ProcedureRow) (nodes : List Node) (ts : List Placed) → Gives (RowFacts procedure_row_text all nodes ts) (procedure_row_at turns rows nodes ts)
 unfolding procedure_row_at
 procedure_row_gives all ordered turns rows nodes ts = and_gives (sign_gives signs.LeftBrace ts) (λ a t1.
     and_gives (messages_gives all ordered turns nodes a) (λ messages t2.
@@ -170,15 +170,15 @@ set_start_gives : (ts : List Placed) → Gives (λ us. Taken (λ t. sign signs.A
 unfolding set_start_at
 set_start_gives ts = and_gives (sign_gives signs.Assignment ts) (λ a t1. gives_so (sign_gives signs.LeftBrace a) (λ b t2. t1 then t2))
 
-abbrev SetSo : {R : Type 0} → (List Written → R → Written) → List Node → List Node → List Placed → Rows R × Left → Type 0
-SetSo text all old ts a = Grows old a.0.nodes × (Grows a.0.nodes all → Taken (rows_text (map (text (texts_of all)) a.0.rows)) ts a.1)
+abbrev SetFacts : {R : Type 0} → (List Written → R → Written) → List Node → List Node → List Placed → Rows R × Left → Type 0
+SetFacts text all old ts a = Grows old a.0.nodes × (Grows a.0.nodes all → Taken (rows_text (map (text (texts_of all)) a.0.rows)) ts a.1)
 
-pub ie_set_gives : (all : List Node) → AreOrdered 0 all → (turns : ℕ) (nodes : List Node) (ts : List Placed) → Gives (SetSo ie_row_text all nodes ts) (ie_set_at turns nodes ts)
+pub ie_set_gives : (all : List Node) → AreOrdered 0 all → (turns : ℕ) (nodes : List Node) (ts : List Placed) → Gives (SetFacts ie_row_text all nodes ts) (ie_set_at turns nodes ts)
 unfolding ie_set_at each_with
 ie_set_gives all ordered turns nodes ts = and_gives (set_start_gives ts) (λ a t1.
     gives_so (repeat_gives (ie_turn_at turns) (RowsSoFar ie_row_text all nodes a) (RowsClosed ie_row_text all nodes a) (λ so_far us p. ie_turn_gives all nodes a ordered turns so_far us p) turns (rows_with [] nodes) a (grows_not nodes, λ _. nothing_taken a)) (λ set t2. (t2.0, λ up. t1 then t2.1 up)))
 
-pub procedure_set_gives : (all : List Node) → AreOrdered 0 all → (turns : ℕ) (nodes : List Node) (ts : List Placed) → Gives (SetSo procedure_row_text all nodes ts) (procedure_set_at turns nodes ts)
+pub procedure_set_gives : (all : List Node) → AreOrdered 0 all → (turns : ℕ) (nodes : List Node) (ts : List Placed) → Gives (SetFacts procedure_row_text all nodes ts) (procedure_set_at turns nodes ts)
 unfolding procedure_set_at each_with
 procedure_set_gives all ordered turns nodes ts = and_gives (set_start_gives ts) (λ a t1.
     gives_so (repeat_gives (procedure_turn_at turns) (RowsSoFar procedure_row_text all nodes a) (RowsClosed procedure_row_text all nodes a) (λ so_far us p. procedure_turn_gives all nodes a ordered turns so_far us p) turns (rows_with [] nodes) a (grows_not nodes, λ _. nothing_taken a)) (λ set t2. (t2.0, λ up. t1 then t2.1 up)))

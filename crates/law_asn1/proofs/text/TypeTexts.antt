@@ -251,9 +251,9 @@ StackTaken texts start [] ts = Taken (λ t. t) start ts
 StackTaken texts start (frame ∷ stack) ts = (mid : List Placed) × StackTaken texts start stack mid × Taken (frame_text texts frame) mid ts
 
 -- a type was taken, or one of those around it awaits its next part, where these are all types of the module
-abbrev RisenSo : List Node → List Node → List Placed → Risen → Type 0
-RisenSo all old start (None, stack, nodes, ts) = Grows old nodes × (Grows nodes all → StackTaken (texts_of all) start stack ts)
-RisenSo all old start (Some id, stack, nodes, ts) = Grows old nodes × (Grows nodes all → Taken (type_text (texts_of all) id) start ts)
+abbrev RisenFacts : List Node → List Node → List Placed → Risen → Type 0
+RisenFacts all old start (None, stack, nodes, ts) = Grows old nodes × (Grows nodes all → StackTaken (texts_of all) start stack ts)
+RisenFacts all old start (Some id, stack, nodes, ts) = Grows old nodes × (Grows nodes all → Taken (type_text (texts_of all) id) start ts)
 
 -- behind the frames around, a head was taken
 abbrev Behind : List Node → List Node → List Placed → List Frame → Head × Left → Type 0
@@ -268,15 +268,15 @@ own all nodes new ordered grows tail =
     (own_text nodes new grows.0 (subst (AreOrdered 0) grows.1 ordered) tail)
 
 risen_gives : (all old : List Node) (start : List Placed) → AreOrdered 0 all → (head : Head) (stack : List Frame) (nodes : List Node) (ts : List Placed) (on : TypeId → List Node → Left → Result Risen Fault)
-    → ((id : TypeId) (new : List Node) → Grows old new → (Grows new all → (mid : List Placed) × StackTaken (texts_of all) start stack mid × Taken (type_text (texts_of all) id) mid ts) → Gives (RisenSo all old start) (on id new ts))
-    → Grows old nodes → Behind all nodes start stack (head, ts) → Gives (RisenSo all old start) (risen head stack nodes ts on)
+    → ((id : TypeId) (new : List Node) → Grows old new → (Grows new all → (mid : List Placed) × StackTaken (texts_of all) start stack mid × Taken (type_text (texts_of all) id) mid ts) → Gives (RisenFacts all old start) (on id new ts))
+    → Grows old nodes → Behind all nodes start stack (head, ts) → Gives (RisenFacts all old start) (risen head stack nodes ts on)
 unfolding StackTaken
 risen_gives all old start ordered (heads.Leaf new) stack nodes ts on again grew behind = again (next_id nodes) (nodes ++ new ∷ []) (grows_then old nodes (nodes ++ new ∷ []) grew (pushed nodes new))
     (λ grows. let found = behind (grows_then nodes (nodes ++ new ∷ []) all (pushed nodes new) grows) in (found.0, found.1, written_as (type_text (texts_of all) (next_id nodes)) (own all nodes new ordered grows) found.2))
 risen_gives all old start ordered (heads.Opens frame) stack nodes ts on again grew behind = ok (grew, λ grows. behind grows)
 
 rise_gives : (all old : List Node) (start : List Placed) → AreOrdered 0 all → (stack : List Frame) (id : TypeId) (nodes : List Node) (ts : List Placed)
-    → Grows old nodes → (Grows nodes all → (mid : List Placed) × StackTaken (texts_of all) start stack mid × Taken (type_text (texts_of all) id) mid ts) → Gives (RisenSo all old start) (rise_at stack id nodes ts)
+    → Grows old nodes → (Grows nodes all → (mid : List Placed) × StackTaken (texts_of all) start stack mid × Taken (type_text (texts_of all) id) mid ts) → Gives (RisenFacts all old start) (rise_at stack id nodes ts)
 unfolding rise_at StackTaken
 rise_gives all old start ordered [] id nodes ts grew behind = ok (grew, λ grows. let found = behind grows in found.1 then found.2)
 rise_gives all old start ordered (frame ∷ stack) id nodes ts grew behind =
@@ -288,7 +288,7 @@ rise_gives all old start ordered (frame ∷ stack) id nodes ts grew behind =
     closes : ((mid : List Placed) × StackTaken (texts_of all) start (frame ∷ stack) mid × Taken (type_text (texts_of all) id) mid ts) → Gives (λ (a : Head × Left). (mid : List Placed) × StackTaken (texts_of all) start stack mid × Taken (head_text (texts_of all) a.0) mid a.1) (close_at frame id ts)
     closes (mid, (outer, below, framed), inside) = gives_so (close_gives (texts_of all) outer frame id ts (framed then inside)) (λ a took. (outer, below, took))
 
-type_turn_gives : (all old : List Node) (start : List Placed) → AreOrdered 0 all → (turns : ℕ) (stack : List Frame) (nodes : List Node) (ts : List Placed) → Grows old nodes → (Grows nodes all → StackTaken (texts_of all) start stack ts) → Gives (RisenSo all old start) (type_turn_at turns stack nodes ts)
+type_turn_gives : (all old : List Node) (start : List Placed) → AreOrdered 0 all → (turns : ℕ) (stack : List Frame) (nodes : List Node) (ts : List Placed) → Grows old nodes → (Grows nodes all → StackTaken (texts_of all) start stack ts) → Gives (RisenFacts all old start) (type_turn_at turns stack nodes ts)
 unfolding type_turn_at
 type_turn_gives all old start ordered turns stack nodes ts grew p =
     and_gives (head_by_gives (texts_of all) turns (first_word ts) ts) (λ head took.
@@ -297,21 +297,21 @@ type_turn_gives all old start ordered turns stack nodes ts grew p =
     grew (λ grows. (ts, p grows, took)))
 
 -- a type was taken, where these are all types of the module
-abbrev pub TypeSo : List Node → List Node → List Placed → TypeId × List Node × Left → Type 0
-TypeSo all old start a = Grows old a.1 × (Grows a.1 all → Taken (type_text (texts_of all) a.0) start a.2)
+abbrev pub TypeFacts : List Node → List Node → List Placed → TypeId × List Node × Left → Type 0
+TypeFacts all old start a = Grows old a.1 × (Grows a.1 all → Taken (type_text (texts_of all) a.0) start a.2)
 
-type_within_gives : (all old : List Node) (start : List Placed) → AreOrdered 0 all → (most turns : ℕ) (stack : List Frame) (nodes : List Node) (ts : List Placed) → Grows old nodes → (Grows nodes all → StackTaken (texts_of all) start stack ts) → Gives (TypeSo all old start) (type_within_at most turns stack nodes ts)
+type_within_gives : (all old : List Node) (start : List Placed) → AreOrdered 0 all → (most turns : ℕ) (stack : List Frame) (nodes : List Node) (ts : List Placed) → Grows old nodes → (Grows nodes all → StackTaken (texts_of all) start stack ts) → Gives (TypeFacts all old start) (type_within_at most turns stack nodes ts)
 unfolding type_within_at
 type_within_gives all old start ordered most zero stack nodes ts grew p = no_value
 type_within_gives all old start ordered most (suc turns) stack nodes ts grew p =
     and_gives (type_turn_gives all old start ordered most stack nodes ts grew p) (λ turn later.
     go (λ inner new us more q. type_within_gives all old start ordered most turns inner new us more q) turn later)
   where
-    go : ((inner : List Frame) (new : List Node) (us : List Placed) → Grows old new → (Grows new all → StackTaken (texts_of all) start inner us) → Gives (TypeSo all old start) (type_within_at most turns inner new us)) → (turn : Risen) → RisenSo all old start turn → Gives (TypeSo all old start) (type_goes_on turn (type_within_at most turns))
+    go : ((inner : List Frame) (new : List Node) (us : List Placed) → Grows old new → (Grows new all → StackTaken (texts_of all) start inner us) → Gives (TypeFacts all old start) (type_within_at most turns inner new us)) → (turn : Risen) → RisenFacts all old start turn → Gives (TypeFacts all old start) (type_goes_on turn (type_within_at most turns))
     go again (None, inner, new, us) q = again inner new us q.0 q.1
     go again (Some id, inner, new, us) q = ok q
 
 -- a type
-pub type_gives : (all : List Node) → AreOrdered 0 all → (turns : ℕ) (nodes : List Node) (ts : List Placed) → Gives (TypeSo all nodes ts) (type_at turns nodes ts)
+pub type_gives : (all : List Node) → AreOrdered 0 all → (turns : ℕ) (nodes : List Node) (ts : List Placed) → Gives (TypeFacts all nodes ts) (type_at turns nodes ts)
 unfolding type_at StackTaken
 type_gives all ordered turns nodes ts = type_within_gives all nodes ts ordered turns turns [] nodes ts (grows_not nodes) (λ _. nothing_taken ts)

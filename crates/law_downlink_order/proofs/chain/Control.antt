@@ -4,11 +4,11 @@ use Rattle.std.specs.List.{list_any}
 use Rattle.gnb_types.specs.declared.plans.SnStatus.{SnStatus}
 use Rattle.intervals.specs.Intervals.{segment, upto, HasNoGap, reach}
 use Rattle.intervals.proofs.Intervals.{upto-nil, upto-filter, reach-le}
-use Rattle.unit_defs.specs.UpRecords.{SourceHop, Downlink}
-use Rattle.unit_defs.specs.UpBearers.{made, owed, released, thawed, is_one_of}
-use Rattle.bearer_defs.specs.chain_defs.Parts.{Member, Part, set, is_open, is_fed, new_member, no_member}
+use Rattle.unit_defs.specs.CuUpRecords.{SourceHop, DownlinkTunnel}
+use Rattle.unit_defs.specs.CuUpBearers.{made, owed, released, thawed, is_one_of}
+use Rattle.bearer_defs.specs.chain_defs.Models.{Member, Model, set, is_open, is_fed, new_member, no_member}
 use Rattle.bearer_defs.specs.chain_defs.Orders.{makes, freezes, knows, switches, resumes, releases, closes, arrives, fails, forwards, frozen, known, on_downlink, after}
-use Rattle.bearer_defs.specs.chain_defs.Guards.{IsUnfed, IsUntouched}
+use Rattle.bearer_defs.specs.chain_defs.Assumptions.{IsUnfed, IsUntouched}
 use Rattle.law_downlink_order.proofs.chain.Tunnels.{shape-of, shape-none, flow-none}
 use Rattle.law_downlink_order.proofs.chain.Facts.{Ghost, view, pairs, IsStation, RadioOf, Kept, Good}
 use Rattle.law_downlink_order.proofs.chain.Frames.{apart, kept_one, kept_two, said, fine_later, own_later, Later}
@@ -37,10 +37,10 @@ taken_of_all p low held sent h = upto-filter (pairs p) (λ e. is_one_of (upto (�
     within i l o = grind arith
 
 -- a target that nothing has come to yet has no SN status, which the context that freezes has
-pub target_apart : (s : Part) (x y : ℕ) → (s.members x).flags.may_serve ≡ true → IsUntouched (s.members y) → y ≢ x
+pub target_apart : (s : Model) (x y : ℕ) → (s.members x).flags.may_serve ≡ true → IsUntouched (s.members y) → y ≢ x
 target_apart s x y may_serve u same = apart may_serve (subst (λ q. (s.members q).flags.may_serve ≡ false) same u.status)
 
-module _ (p : ℕ → List ℕ) (w : ℕ) (s : Part) (g : ℕ → Ghost) (k : Kept p w s g) (x : ℕ) where
+module _ (p : ℕ → List ℕ) (w : ℕ) (s : Model) (g : ℕ → Ghost) (k : Kept p w s g) (x : ℕ) where
   abbrev m : Member
   m = s.members x
 
@@ -205,7 +205,7 @@ module _ (p : ℕ → List ℕ) (w : ℕ) (s : Part) (g : ℕ → Ghost) (k : Ke
 
   -- ---- the station serves again, or serves: all that it holds was sent
 
-  pub kept_switches : (downlink : Downlink) (epoch : ℕ) → m.is_there ≡ true → x ≡ s.station → epoch ≤ s.epoch
+  pub kept_switches : (downlink : DownlinkTunnel) (epoch : ℕ) → m.is_there ≡ true → x ≡ s.station → epoch ≤ s.epoch
       → Good p w (after s (switches x downlink epoch))
   unfolding after
   kept_switches downlink epoch there is_station old =
@@ -221,7 +221,7 @@ module _ (p : ℕ → List ℕ) (w : ℕ) (s : Part) (g : ℕ → Ghost) (k : Ke
       (let a = o.numbers.low_deliv in let b = reach-le s.terminal.deliv s.air in omega arith) in
       let are : items ≡ upto (pairs p) h.low h.held = by m.flags.may_serve (o.lists.unconfirmed_are st.keeps) (λ e. o.status.early e) in
       let r = said p s now items h.low h.held k.radio are most (λ _. low) in
-      let t : Part = record s { air = if epoch == s.epoch then s.air ++ items else s.air } in
+      let t : Model = record s { air = if epoch == s.epoch then s.air ++ items else s.air } in
       let later : Later (view s) (view t) = record
       { epoch = omega arith; offered = omega arith; deliv = omega arith; reached = λ _. r.grows } in
       let ghost : Ghost = record h { sent = h.held } in (
@@ -284,7 +284,7 @@ module _ (p : ℕ → List ℕ) (w : ℕ) (s : Part) (g : ℕ → Ghost) (k : Ke
       let taken = o.lists.taken_are st.keeps is_frozen in
       let from = by m.bearer.loss_while_frozen un taken o.numbers.sent_held in
       let r = said p s m items from.0 h.held k.radio from.1 most (λ e. (let a = o.spoken.spoken e in let b = from.2 in omega arith)) in
-      let t : Part = record s { air = if m.epoch == s.epoch then s.air ++ items else s.air } in
+      let t : Model = record s { air = if m.epoch == s.epoch then s.air ++ items else s.air } in
       let later : Later (view s) (view t) = record
       { epoch = omega arith; offered = omega arith; deliv = omega arith; reached = λ _. r.grows } in
       let ghost : Ghost = record h { sent = h.held } in (

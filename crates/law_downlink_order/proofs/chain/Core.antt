@@ -7,15 +7,15 @@ use Rattle.intervals.proofs.Intervals.{upto-snoc}
 use Rattle.tables.specs.Tables.{find, put}
 use Rattle.pdcp_defs.specs.Senders.{window, may_restore, is_above, last_of}
 use Rattle.pdcp_defs.specs.Receivers.{Receiver, is_duplicate, stored, deliver}
-use Rattle.bearer_defs.specs.chain_defs.Parts.{Item, numbered, fresh, end_marker, Member, Part, set, is_open, is_fed}
+use Rattle.bearer_defs.specs.chain_defs.Models.{Item, numbered, fresh, end_marker, Member, Model, set, is_open, is_fed}
 use Rattle.bearer_defs.specs.chain_defs.Orders.{offers, switches_path, carries, handed, after}
-use Rattle.bearer_defs.specs.chain_defs.Guards.{OnForwarding}
+use Rattle.bearer_defs.specs.chain_defs.Assumptions.{OnForwarding}
 use Rattle.law_downlink_order.proofs.chain.Tunnels.{flow, flow-put, flow-close, flow-none}
 use Rattle.law_downlink_order.proofs.chain.Facts.{Ghost, view, pairs, Radio, RadioOf, Kept, Good}
 use Rattle.law_downlink_order.proofs.chain.Frames.{apart, kept_one, kept_two, fine_later, own_later, Later, same, set_back}
 use Rattle.law_downlink_order.proofs.chain.Taking.{took_numbered, not_held}
 
-module _ (p : ℕ → List ℕ) (w : ℕ) (s : Part) (g : ℕ → Ghost) (k : Kept p w s g) where
+module _ (p : ℕ → List ℕ) (w : ℕ) (s : Model) (g : ℕ → Ghost) (k : Kept p w s g) where
   abbrev x : ℕ
   x = s.path
 
@@ -34,7 +34,7 @@ module _ (p : ℕ → List ℕ) (w : ℕ) (s : Part) (g : ℕ → Ghost) (k : Ke
       let on = f.path refl in
       let o = f.own on.is_there in
       let n3 = o.tunnels.is_n3 on.is_open in
-      let t : Part = record s { offered = s.offered + 1 } in
+      let t : Model = record s { offered = s.offered + 1 } in
       let later : Later (view s) (view t) = record
       { epoch = omega arith; offered = omega arith; deliv = omega arith; reached = λ _. omega arith } in
       let b = own_later p w (view s) (view t) m h later o in
@@ -123,7 +123,7 @@ module _ (p : ℕ → List ℕ) (w : ℕ) (s : Part) (g : ℕ → Ghost) (k : Ke
       let untouched = l.before on.is_not_gone in
       let open_y = q.tunnels.fed_open l.open_ in
       let n3_y = q.tunnels.is_n3 open_y in
-      let t : Part = record s { path = y } in
+      let t : Model = record s { path = y } in
       let now : Member = record m { n3 = m.n3 ++ end_marker ∷ [] } in
       let gone : Ghost = record h { gone = true } in
       let ghost : Ghost = record (g y) { n3_low = s.offered; n3_high = s.offered; pathed = true } in
@@ -267,14 +267,14 @@ module _ (p : ℕ → List ℕ) (w : ℕ) (s : Part) (g : ℕ → Ghost) (k : Ke
   first_item count packet rest r = (r.no_gap.0, r.packets.0, r.no_gap.1, r.packets.1, refl)
 
   -- the state is the same but for these
-  abbrev heard : List (ℕ × List ℕ) → Receiver (List ℕ) → List (ℕ × List ℕ) → Part
-  heard air terminal delivered = record s { air = air; terminal = terminal; delivered = delivered }
+  abbrev was_received : List (ℕ × List ℕ) → Receiver (List ℕ) → List (ℕ × List ℕ) → Model
+  was_received air terminal delivered = record s { air = air; terminal = terminal; delivered = delivered }
 
-  hears : (air : List (ℕ × List ℕ)) (terminal : Receiver (List ℕ)) (delivered : List (ℕ × List ℕ)) → s.terminal.deliv ≤ terminal.deliv
-      → reach s.terminal.deliv s.air ≡ reach terminal.deliv air → RadioOf p (heard air terminal delivered) → Kept p w
-      (heard air terminal delivered) g
-  hears air terminal delivered more reached radio = record {
-    each = λ q. fine_later p w (view s) (view (heard air terminal delivered)) q (s.members q) (g q)
+  receives : (air : List (ℕ × List ℕ)) (terminal : Receiver (List ℕ)) (delivered : List (ℕ × List ℕ)) → s.terminal.deliv ≤ terminal.deliv
+      → reach s.terminal.deliv s.air ≡ reach terminal.deliv air → RadioOf p (was_received air terminal delivered) → Kept p w
+      (was_received air terminal delivered) g
+  receives air terminal delivered more reached radio = record {
+    each = λ q. fine_later p w (view s) (view (was_received air terminal delivered)) q (s.members q) (g q)
         (record { epoch = omega arith; offered = omega arith; deliv = more; reached = λ _. omega (arith, reached) }) refl refl refl
         (k.each q);
     links = k.links;
@@ -304,7 +304,7 @@ module _ (p : ℕ → List ℕ) (w : ℕ) (s : Part) (g : ℕ → Ghost) (k : Ke
           subst (λ b. Good p w (handed (record s { air = rest }) b (deliver (stored s.terminal count packet))))
           (sym (taken_late s.terminal count r.none_stored l)) (
             g,
-            hears rest s.terminal s.delivered (omega arith) reached (record {
+            receives rest s.terminal s.delivered (omega arith) reached (record {
               no_gap = subst (λ n. HasNoGap n rest) e f.2;
               packets = f.3;
               reached_offered = (let a = r.reached_offered in omega (arith, reached));
@@ -322,7 +322,7 @@ module _ (p : ℕ → List ℕ) (w : ℕ) (s : Part) (g : ℕ → Ghost) (k : Ke
           (sym (taken_next s.terminal count r.none_stored same))
           (subst (λ d. Good p w (handed (record s { air = rest }) false d)) (sym (handed_up s.terminal count packet r.none_stored same)) (
             g,
-            hears rest (record { deliv = s.terminal.deliv + 1; stored = [] }) (s.delivered ++ (count, packet) ∷ []) (omega arith)
+            receives rest (record { deliv = s.terminal.deliv + 1; stored = [] }) (s.delivered ++ (count, packet) ∷ []) (omega arith)
                 reached (record {
                   no_gap = subst (λ n. HasNoGap n rest) e f.2;
                   packets = f.3;
@@ -346,7 +346,7 @@ last_upto : (p : ℕ → List ℕ) (low held count : ℕ) → low ≤ held → h
 unfolding upto
 last_upto p low held count l h = last_segment p low (held - low) count None refl (omega arith)
 
-module _ (p : ℕ → List ℕ) (sn : SnBits) (quota : ℕ) (s : Part) (g : ℕ → Ghost) (k : Kept p (window sn quota) s g) (x : ℕ) where
+module _ (p : ℕ → List ℕ) (sn : SnBits) (quota : ℕ) (s : Model) (g : ℕ → Ghost) (k : Kept p (window sn quota) s g) (x : ℕ) where
   abbrev c : Member
   c = s.members x
 

@@ -3,8 +3,8 @@
 use Rattle.std.specs.Prelude.{◌≡◌, ◌≢◌, ℕ, ◌+◌, ◌<◌, ◌≤◌, Bool, true, false, List, [], is_some}
 use Rattle.std.specs.List.{AllByRecursion}
 use Rattle.intervals.specs.Intervals.{upto, HasNoGap, reach}
-use Rattle.bearer_defs.specs.chain_defs.Parts.{Item, Member, Part, is_open, is_fed}
-use Rattle.bearer_defs.specs.chain_defs.Guards.{Feeds}
+use Rattle.bearer_defs.specs.chain_defs.Models.{Item, Member, Model, is_open, is_fed}
+use Rattle.bearer_defs.specs.chain_defs.Assumptions.{Feeds}
 use Rattle.law_downlink_order.proofs.chain.Tunnels.{flow, shape}
 
 pub record Ghost : Type 0 where
@@ -29,7 +29,7 @@ pub record Ghost : Type 0 where
   -- the path came to it
   pub pathed : Bool
 
--- of the part, what the facts of a context are about
+-- of the model, what the facts of a context are about
 pub record View : Type 0 where
   pub path : ℕ
   pub station : ℕ
@@ -38,7 +38,7 @@ pub record View : Type 0 where
   pub deliv : ℕ
   pub reached : ℕ
 
-abbrev pub view : Part → View
+abbrev pub view : Model → View
 view s = record {
   path = s.path;
   station = s.station;
@@ -157,7 +157,7 @@ pub record IsStation (there released : Bool) (gone : Bool) : Type 0 where
   pub keeps : released ≡ false
   pub is_not_gone : gone ≡ false
 
-pub record Fine (p : ℕ → List ℕ) (w : ℕ) (b : View) (q : ℕ) (m : Member) (g : Ghost) : Type 0 where
+pub record MemberInvariant (p : ℕ → List ℕ) (w : ℕ) (b : View) (q : ℕ) (m : Member) (g : Ghost) : Type 0 where
   pub own : m.is_there ≡ true → Own p w b m g
   pub path : q ≡ b.path → IsPath m.is_there (is_open m.bearer.n3) b.offered g.n3_high g.gone g.pathed
   pub station : q ≡ b.station → IsStation m.is_there m.flags.released g.gone
@@ -223,13 +223,13 @@ pub record Radio (p : ℕ → List ℕ) (offered deliv : ℕ) (stored air delive
   pub delivered_are : delivered ≡ upto (pairs p) 0 deliv
   pub none_stored : stored ≡ []
 
-abbrev pub RadioOf : (ℕ → List ℕ) → Part → Type 0
+abbrev pub RadioOf : (ℕ → List ℕ) → Model → Type 0
 RadioOf p s = Radio p s.offered s.terminal.deliv s.terminal.stored s.air s.delivered
 
-pub record Kept (p : ℕ → List ℕ) (w : ℕ) (s : Part) (g : ℕ → Ghost) : Type 0 where
-  pub each : (q : ℕ) → Fine p w (view s) q (s.members q) (g q)
+pub record Kept (p : ℕ → List ℕ) (w : ℕ) (s : Model) (g : ℕ → Ghost) : Type 0 where
+  pub each : (q : ℕ) → MemberInvariant p w (view s) q (s.members q) (g q)
   pub links : (x y : ℕ) → Linked x (s.members x) (g x) y (s.members y) (g y)
   pub radio : RadioOf p s
 
-abbrev pub Good : (ℕ → List ℕ) → ℕ → Part → Type 0
+abbrev pub Good : (ℕ → List ℕ) → ℕ → Model → Type 0
 Good p w s = (g : ℕ → Ghost) × Kept p w s g

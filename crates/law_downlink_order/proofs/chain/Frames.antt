@@ -3,10 +3,10 @@ use Rattle.std.proofs.Common.{◌≡◌, ◌≢◌, ℕ, zero, suc, ◌+◌, ◌
 use Rattle.std.specs.List.{AllByRecursion}
 use Rattle.intervals.specs.Intervals.{segment, upto, HasNoGap, reach}
 use Rattle.intervals.proofs.Intervals.{all_append, upto-cons, upto-nil, upto-no_gap, upto-reach, HasNoGap-append, reach-append}
-use Rattle.bearer_defs.specs.chain_defs.Parts.{Item, Member, Part, set}
+use Rattle.bearer_defs.specs.chain_defs.Models.{Item, Member, Model, set}
 use Rattle.bearer_defs.specs.chain_defs.Orders.{changed, put_on, passed}
-use Rattle.bearer_defs.specs.chain_defs.Guards.{Feeds}
-use Rattle.law_downlink_order.proofs.chain.Facts.{Ghost, View, view, pairs, Own, Numbers, IsFed, IsN3, Spoken, Fine, out, into, Link, Linked, Radio, RadioOf, Kept, Good}
+use Rattle.bearer_defs.specs.chain_defs.Assumptions.{Feeds}
+use Rattle.law_downlink_order.proofs.chain.Facts.{Ghost, View, view, pairs, Own, Numbers, IsFed, IsN3, Spoken, MemberInvariant, out, into, Link, Linked, Radio, RadioOf, Kept, Good}
 
 pub apart : {b : Bool} {X : Type 0} → b ≡ true → b ≡ false → X
 apart h k = absurd (true≢false (sym h ∙ k))
@@ -133,7 +133,7 @@ own_later p w b c m g l o = record {
 -- of others, where neither the path nor the station changes, and nothing is offered
 pub fine_later : (p : ℕ → List ℕ) (w : ℕ) (b c : View) (q : ℕ) (m : Member) (g : Ghost) → Later b c → c.path ≡ b.path → c.station ≡
     b.station
-    → c.offered ≡ b.offered → Fine p w b q m g → Fine p w c q m g
+    → c.offered ≡ b.offered → MemberInvariant p w b q m g → MemberInvariant p w c q m g
 fine_later p w b c q m g l path station offered f = record {
   own = λ t. own_later p w b c m g l (f.own t);
   path = λ e. (let k = f.path (e ∙ path) in record {
@@ -148,17 +148,17 @@ fine_later p w b c q m g l path station offered f = record {
 
 -- ---- one context changes
 
-module _ (p : ℕ → List ℕ) (w : ℕ) (s t : Part) (g : ℕ → Ghost) (x : ℕ) (m : Member) (h : Ghost) where
+module _ (p : ℕ → List ℕ) (w : ℕ) (s t : Model) (g : ℕ → Ghost) (x : ℕ) (m : Member) (h : Ghost) where
   pub kept_one : Kept p w s g
-      → Fine p w (view t) x m h
-      → ((q : ℕ) → q ≢ x → Fine p w (view t) q (s.members q) (g q))
+      → MemberInvariant p w (view t) x m h
+      → ((q : ℕ) → q ≢ x → MemberInvariant p w (view t) q (s.members q) (g q))
       → (Feeds m x → ⊥)
       → ((y : ℕ) → y ≢ x → Linked x m h y (s.members y) (g y))
       → ((y : ℕ) → y ≢ x → Linked y (s.members y) (g y) x m h)
       → RadioOf p t
       → Kept p w (record t { members = set s.members x m }) (set g x h)
   kept_one k here far self from to radio = record {
-    each = put_each (λ q c i. Fine p w (view t) q c i) s.members g x m h here far;
+    each = put_each (λ q c i. MemberInvariant p w (view t) q c i) s.members g x m h here far;
     links = put_pairs Linked s.members g x m h (λ q r _ _. k.links q r) (λ f _. absurd (self f)) from to;
     radio = radio;
   }
@@ -173,11 +173,11 @@ abbrev pub with_items : Member → List Item → Member
 with_items m items = record m { forwarded = m.forwarded ++ items }
 
 -- one changes and the one that its hop leads to
-module _ (p : ℕ → List ℕ) (w : ℕ) (s t : Part) (g : ℕ → Ghost) (x : ℕ) (m : Member) (h : Ghost) (y : ℕ) (n : Member) (i : Ghost) where
+module _ (p : ℕ → List ℕ) (w : ℕ) (s t : Model) (g : ℕ → Ghost) (x : ℕ) (m : Member) (h : Ghost) (y : ℕ) (n : Member) (i : Ghost) where
   pub kept_two : m.next_hop ≡ y → y ≢ x → Kept p w s g
-      → Fine p w (view t) x m h
-      → Fine p w (view t) y n i
-      → ((q : ℕ) → q ≢ x → q ≢ y → Fine p w (view t) q (s.members q) (g q))
+      → MemberInvariant p w (view t) x m h
+      → MemberInvariant p w (view t) y n i
+      → ((q : ℕ) → q ≢ x → q ≢ y → MemberInvariant p w (view t) q (s.members q) (g q))
       → Linked x m h y n i
       → ((z : ℕ) → z ≢ x → z ≢ y → Linked z (s.members z) (g z) y n i)
       → (Feeds n y → ⊥)
@@ -187,8 +187,8 @@ module _ (p : ℕ → List ℕ) (w : ℕ) (s t : Part) (g : ℕ → Ghost) (x : 
       → RadioOf p t
       → Kept p w (record t { members = set (set s.members x m) y n }) (set (set g x h) y i)
   kept_two leads far k fine_x fine_y fine link others self to back on radio = record {
-    each = put_each (λ q c j. Fine p w (view t) q c j) (set s.members x m) (set g x h) y n i fine_y
-        (λ q far_y. put_each (λ r c j. r ≢ y → Fine p w (view t) r c j) s.members g x m h (λ _. fine_x)
+    each = put_each (λ q c j. MemberInvariant p w (view t) q c j) (set s.members x m) (set g x h) y n i fine_y
+        (λ q far_y. put_each (λ r c j. r ≢ y → MemberInvariant p w (view t) r c j) s.members g x m h (λ _. fine_x)
         (λ r far_x far_y. fine r far_x far_y) q far_y);
     links = put_pairs Linked (set s.members x m) (set g x h) y n i
         pairs_far
@@ -206,10 +206,10 @@ module _ (p : ℕ → List ℕ) (w : ℕ) (s t : Part) (g : ℕ → Ghost) (x : 
           (λ a o far_y _. to a o far_y)
           q r far_q far_r
 
-module _ (p : ℕ → List ℕ) (w : ℕ) (s : Part) (g : ℕ → Ghost) (x : ℕ) (m : Member) (h : Ghost) (items : List Item) (a b : ℕ) (e : Bool) where
+module _ (p : ℕ → List ℕ) (w : ℕ) (s : Model) (g : ℕ → Ghost) (x : ℕ) (m : Member) (h : Ghost) (items : List Item) (a b : ℕ) (e : Bool) where
   pass_on : (y : ℕ) → m.next_hop ≡ y → y ≢ x → Kept p w s g
-      → Fine p w (view s) x m h
-      → Fine p w (view s) y (with_items (s.members y) items) (given (g y) a b e)
+      → MemberInvariant p w (view s) x m h
+      → MemberInvariant p w (view s) y (with_items (s.members y) items) (given (g y) a b e)
       → Linked x m h y (with_items (s.members y) items) (given (g y) a b e)
       → ((z : ℕ) → z ≢ x → z ≢ y → Linked z (s.members z) (g z) y (with_items (s.members y) items) (given (g y) a b e))
       → (Feeds (s.members y) y → ⊥)
@@ -224,7 +224,7 @@ module _ (p : ℕ → List ℕ) (w : ℕ) (s : Part) (g : ℕ → Ghost) (x : �
       (λ z o _. to z o) (λ f t. to y far f t) (λ z _ _ f t. k.links y z f t) k.radio)
 
 -- what it takes for one of a context to be passed on
-module _ (p : ℕ → List ℕ) (w : ℕ) (s : Part) (g : ℕ → Ghost) (x : ℕ) (m : Member) (h : Ghost) (items : List Item) (a b : ℕ) (e : Bool) where
+module _ (p : ℕ → List ℕ) (w : ℕ) (s : Model) (g : ℕ → Ghost) (x : ℕ) (m : Member) (h : Ghost) (items : List Item) (a b : ℕ) (e : Bool) where
   abbrev fed_one : Member
   fed_one = s.members m.next_hop
 
@@ -233,7 +233,7 @@ module _ (p : ℕ → List ℕ) (w : ℕ) (s : Part) (g : ℕ → Ghost) (x : �
 
   pub kept_pass : Kept p w s g
       → Feeds (s.members x) m.next_hop
-      → Fine p w (view s) x m h
+      → MemberInvariant p w (view s) x m h
       → (Link x (out (g x)) m.next_hop (into fed_one fed_ghost) → Own p w (view s) fed_one fed_ghost
       → Own p w (view s) (with_items fed_one items) (given fed_ghost a b e))
       → (Link x (out (g x)) m.next_hop (into fed_one fed_ghost) → Feeds m m.next_hop
@@ -279,12 +279,12 @@ upto-one p i =
     sym (upto-cons (pairs p) i (i + 1) h ∙ ap (λ xs. (i, p i) ∷ xs) (upto-nil (pairs p) (i + 1) (i + 1) l))
 
 -- an interval is sent, by one that speaks to this radio or to another
-pub record Said (p : ℕ → List ℕ) (s : Part) (m : Member) (b : ℕ) (air : List (ℕ × List ℕ)) : Type 0 where
+pub record Said (p : ℕ → List ℕ) (s : Model) (m : Member) (b : ℕ) (air : List (ℕ × List ℕ)) : Type 0 where
   pub radio : Radio p s.offered s.terminal.deliv s.terminal.stored air s.delivered
   pub grows : reach s.terminal.deliv s.air ≤ reach s.terminal.deliv air
   pub reaches : m.epoch ≡ s.epoch → reach s.terminal.deliv air ≡ max (reach s.terminal.deliv s.air) b
 
-pub said : (p : ℕ → List ℕ) (s : Part) (m : Member) (items : List (ℕ × List ℕ)) (a b : ℕ) → RadioOf p s → items ≡ upto (pairs p) a b
+pub said : (p : ℕ → List ℕ) (s : Model) (m : Member) (items : List (ℕ × List ℕ)) (a b : ℕ) → RadioOf p s → items ≡ upto (pairs p) a b
     → b ≤ s.offered → (m.epoch ≡ s.epoch → a ≤ reach s.terminal.deliv s.air)
     → Said p s m b (if m.epoch == s.epoch then s.air ++ items else s.air)
 said p s m items a b r is_interval most low = by (m.epoch == s.epoch) refl

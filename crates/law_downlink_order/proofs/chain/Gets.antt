@@ -3,9 +3,9 @@ use Rattle.std.proofs.Common.{◌≡◌, ℕ, ◌+◌, ◌<◌, ◌≤◌, Bool,
 use Rattle.intervals.specs.Intervals.{upto}
 use Rattle.intervals.proofs.Intervals.{upto-snoc}
 use Rattle.pdcp_defs.specs.Senders.{restored}
-use Rattle.bearer_defs.specs.chain_defs.Parts.{Item, numbered, fresh, end_marker, Member, Part, set, is_open, is_fed}
+use Rattle.bearer_defs.specs.chain_defs.Models.{Item, numbered, fresh, end_marker, Member, Model, set, is_open, is_fed}
 use Rattle.bearer_defs.specs.chain_defs.Orders.{keeps_n3, keeps_fresh, passes_n3, passes_fresh, sends, passes_numbered, ends_n3, ends_hop, waits, waits_unless, holds, takes_unless, after}
-use Rattle.bearer_defs.specs.chain_defs.Guards.{OnN3, OnForwarding}
+use Rattle.bearer_defs.specs.chain_defs.Assumptions.{OnN3, OnForwarding}
 use Rattle.law_downlink_order.proofs.chain.Facts.{Ghost, view, pairs, Lists, Own, out, into, Link, Kept, Good}
 use Rattle.law_downlink_order.proofs.chain.Frames.{apart, kept_one, kept_pass, given, with_items, said, upto-one, fine_later, Later}
 use Rattle.law_downlink_order.proofs.chain.Taking.{not_held, fed_by, took_numbered, took_fresh, took_end, took_n3, took_n3_end, gave_numbered, gave_fresh, gave_end}
@@ -54,7 +54,7 @@ module _ (p : ℕ → List ℕ) (un : List (ℕ × List ℕ)) (taken : List ℕ)
     waiting_are = l.waiting_are;
   }
 
-module _ (p : ℕ → List ℕ) (w : ℕ) (s : Part) (g : ℕ → Ghost) (k : Kept p w s g) (x : ℕ) where
+module _ (p : ℕ → List ℕ) (w : ℕ) (s : Model) (g : ℕ → Ghost) (k : Kept p w s g) (x : ℕ) where
   abbrev m : Member
   m = s.members x
 
@@ -229,7 +229,7 @@ module _ (p : ℕ → List ℕ) (w : ℕ) (s : Part) (g : ℕ → Ghost) (k : Ke
       (let a = j.2 in let b = o.numbers.base_next in let c = o.numbers.next_top in let d = o.numbers.top_offered in omega arith) in
       let r = said p s m ((count, packet) ∷ []) h.held (h.held + 1) k.radio one most
       (λ e. (let a = o.spoken.spoken e in let b = keeps.1 in omega arith)) in
-      let t : Part = record s { air = if m.epoch == s.epoch then s.air ++ (count, packet) ∷ [] else s.air } in
+      let t : Model = record s { air = if m.epoch == s.epoch then s.air ++ (count, packet) ∷ [] else s.air } in
       let later : Later (view s) (view t) = record
       { epoch = omega arith; offered = omega arith; deliv = omega arith; reached = λ _. r.grows } in
       let now : Ghost = record h { held = h.held + 1; sent = h.held + 1 } in (

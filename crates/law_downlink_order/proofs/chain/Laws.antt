@@ -5,9 +5,9 @@ use Rattle.gnb_types.specs.declared.names.SnBits.{SnBits}
 use Rattle.intervals.specs.Intervals.{segment, upto, reach}
 use Rattle.intervals.proofs.Intervals.{all_append, all_upto, upto-nil, upto-cons, upto-length, reach-le}
 use Rattle.pdcp_defs.specs.Senders.{window, first, first_of}
-use Rattle.bearer_defs.specs.chain_defs.Parts.{Item, numbered, fresh, Part, start, is_open, is_fed}
-use Rattle.bearer_defs.specs.chain_defs.Orders.{Order, drops, run, offers_in}
-use Rattle.bearer_defs.specs.chain_defs.Guards.{IsReady, AreKept}
+use Rattle.bearer_defs.specs.chain_defs.Models.{Item, numbered, fresh, Model, initial, is_open, is_fed}
+use Rattle.bearer_defs.specs.chain_defs.Orders.{ModelStep, drops, run, offers_in}
+use Rattle.bearer_defs.specs.chain_defs.Assumptions.{IsReady, AreKept}
 use Rattle.law_downlink_order.specs.chain.Words.{DeliversInOrder, IsInPlace, IsItemInPlace, CountsArePlaces, KeepsWindow}
 use Rattle.law_downlink_order.proofs.chain.Tunnels.{shape, flow, ends}
 use Rattle.law_downlink_order.proofs.chain.Facts.{pairs, Ends, ends_of, Tunnels, Good}
@@ -30,22 +30,22 @@ first_ones p (x ∷ xs) a (suc n) h l =
     let here : p a ≡ x = sym (ap p e) ∙ h 0 in
     rw (here, first_ones p xs (a + 1) n (λ i. (let f : a + 1 + i ≡ a + suc i = omega arith in ap p f ∙ h (suc i))) (omega arith))
 
-module _ (sn : SnBits) (quota x teid : ℕ) (os : List Order) (kept : AreKept sn quota (start x teid) os) where
+module _ (sn : SnBits) (quota x teid : ℕ) (os : List ModelStep) (kept : AreKept sn quota (initial x teid) os) where
   p : ℕ → List ℕ
   p = stream (offers_in os)
 
-  s : Part
-  s = run (start x teid) os
+  s : Model
+  s = run (initial x teid) os
 
   good : Good p (window sn quota) s
-  unfolding start p s
-  good = kept_run p sn quota (start x teid) os (good_start p (window sn quota) x teid) kept (agrees (offers_in os))
+  unfolding initial p s
+  good = kept_run p sn quota (initial x teid) os (good_start p (window sn quota) x teid) kept (agrees (offers_in os))
 
   offered : s.offered ≡ length (offers_in os)
-  unfolding start s
-  offered = all_offered (start x teid) os ∙ omega arith
+  unfolding initial s
+  offered = all_offered (initial x teid) os ∙ omega arith
 
-  pub delivers_in_order : DeliversInOrder (offers_in os) (run (start x teid) os)
+  pub delivers_in_order : DeliversInOrder (offers_in os) (run (initial x teid) os)
   unfolding DeliversInOrder upto p s
   delivers_in_order =
       let r = good.1.radio in
@@ -87,7 +87,7 @@ module _ (sn : SnBits) (quota x teid : ℕ) (os : List Order) (kept : AreKept sn
       at_end false = tt
   forwarded false open_ xs n3 e t l h = rw ((t.shut refl).1) tt
 
-  pub counts_are_places : CountsArePlaces (offers_in os) (run (start x teid) os)
+  pub counts_are_places : CountsArePlaces (offers_in os) (run (initial x teid) os)
   unfolding s
   counts_are_places = record {
     unconfirmed = λ q there keeps.
@@ -113,7 +113,7 @@ module _ (sn : SnBits) (quota x teid : ℕ) (os : List Order) (kept : AreKept sn
       by true t = let o : low < held = grind arith in rw (upto-cons (pairs p) low held o) (omega arith)
       by false t = let o : held ≤ low = grind arith in rw (upto-nil (pairs p) low held o) (omega arith)
 
-  pub keeps_window : KeepsWindow sn quota (run (start x teid) os)
+  pub keeps_window : KeepsWindow sn quota (run (initial x teid) os)
   unfolding KeepsWindow first s
   keeps_window q there keeps known =
       let o = (good.1.each q).own there in
@@ -121,7 +121,7 @@ module _ (sn : SnBits) (quota x teid : ℕ) (os : List Order) (kept : AreKept sn
       rw (o.lists.unconfirmed_are keeps, o.status.next_is known)
       (window_by (good.0 q).next (good.0 q).low (good.0 q).held (window sn quota) n.low_held n.window)
 
-  pub no_duplicate : (q count : ℕ) (packet : List ℕ) (rest : List Item) → IsReady sn quota (run (start x teid) os)
+  pub no_duplicate : (q count : ℕ) (packet : List ℕ) (rest : List Item) → IsReady sn quota (run (initial x teid) os)
       (drops q count packet rest) → ⊥
   unfolding IsReady s
   no_duplicate q count packet rest r = never_drops p sn quota s good.0 good.1 q count packet rest r.0 r.1 r.2

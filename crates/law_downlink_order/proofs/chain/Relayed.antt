@@ -4,10 +4,10 @@ use Rattle.gnb_types.specs.declared.names.SnBits.TheVariants.{Len12}
 use Rattle.tables.specs.Tables.{find, put}
 use Rattle.pdcp_defs.specs.Senders.{numbered, has_room, first, may_restore, restored, confirmed_to, confirmed_by}
 use Rattle.pdcp_defs.specs.Receivers.{is_duplicate, stored, deliver}
-use Rattle.unit_defs.specs.UpBearers.{made}
-use Rattle.bearer_defs.specs.chain_defs.Parts.{Member, start, is_open}
-use Rattle.bearer_defs.specs.chain_defs.Orders.{Order, after, run}
-use Rattle.bearer_defs.specs.chain_defs.Guards.{Feeds, IsUnfed, IsReady, IsOwed, AreKept}
+use Rattle.unit_defs.specs.CuUpBearers.{made}
+use Rattle.bearer_defs.specs.chain_defs.Models.{Member, initial, is_open}
+use Rattle.bearer_defs.specs.chain_defs.Orders.{ModelStep, after, run}
+use Rattle.bearer_defs.specs.chain_defs.Assumptions.{Feeds, IsUnfed, IsReady, IsAssumed, AreKept}
 use Rattle.law_downlink_order.specs.chain.Relay.{relay, cancelled, a, b, c, d, e}
 use Rattle.law_downlink_order.proofs.chain.Frames.{same, apart}
 
@@ -34,12 +34,12 @@ idle_if false m n y h k = k
 apart_numbers : (a b : ℕ) → (a == b) ≡ false → a ≢ b
 apart_numbers a b h e = apart (same a b e) h
 
-unfed : (orders : List Order) (n y : ℕ) → ((x : ℕ) → Idle ((run (start 1 10) (take n orders)).members x) y)
-    → IsUnfed (run (start 1 10) (take n orders)) y
+unfed : (orders : List ModelStep) (n y : ℕ) → ((x : ℕ) → Idle ((run (initial 1 10) (take n orders)).members x) y)
+    → IsUnfed (run (initial 1 10) (take n orders)) y
 unfed orders n y h x f = (h x).no_hop f
 
-pub relay_kept : AreKept Len12 64 (start 1 10) relay
-unfolding relay start run AreKept IsReady IsOwed after made numbered has_room first may_restore restored confirmed_to is_duplicate
+pub relay_kept : AreKept Len12 64 (initial 1 10) relay
+unfolding relay initial run AreKept IsReady IsAssumed after made numbered has_room first may_restore restored confirmed_to is_duplicate
     stored deliver find put feeds
 relay_kept =
     -- makes 2 true 20
@@ -312,12 +312,12 @@ relay_kept =
       ),
     )
 
-pub relay_delivers : (run (start 1 10) relay).delivered ≡ (0, a) ∷ (1, b) ∷ (2, c) ∷ (3, d) ∷ (4, e) ∷ []
-unfolding relay start run after made numbered restored confirmed_to is_duplicate stored deliver find put
+pub relay_delivers : (run (initial 1 10) relay).delivered ≡ (0, a) ∷ (1, b) ∷ (2, c) ∷ (3, d) ∷ (4, e) ∷ []
+unfolding relay initial run after made numbered restored confirmed_to is_duplicate stored deliver find put
 relay_delivers = refl
 
-pub cancelled_kept : AreKept Len12 64 (start 1 10) cancelled
-unfolding cancelled start run AreKept IsReady IsOwed after made numbered has_room first may_restore restored confirmed_to confirmed_by
+pub cancelled_kept : AreKept Len12 64 (initial 1 10) cancelled
+unfolding cancelled initial run AreKept IsReady IsAssumed after made numbered has_room first may_restore restored confirmed_to confirmed_by
     is_duplicate stored deliver find put feeds
 cancelled_kept =
     -- makes 2 true 20
@@ -465,6 +465,6 @@ cancelled_kept =
       ),
     )
 
-pub cancelled_delivers : (run (start 1 10) cancelled).delivered ≡ (0, a) ∷ (1, b) ∷ (2, c) ∷ []
-unfolding cancelled start run after made numbered restored confirmed_to confirmed_by is_duplicate stored deliver find put
+pub cancelled_delivers : (run (initial 1 10) cancelled).delivered ≡ (0, a) ∷ (1, b) ∷ (2, c) ∷ []
+unfolding cancelled initial run after made numbered restored confirmed_to confirmed_by is_duplicate stored deliver find put
 cancelled_delivers = refl

@@ -5,12 +5,12 @@ use Rattle.gnb_types.specs.declared.names.SnBits.{SnBits}
 use Rattle.intervals.specs.Intervals.{segment, upto, HasNoGap, reach}
 use Rattle.pdcp_defs.specs.Senders.{window}
 use Rattle.pdcp_defs.specs.Receivers.{Delivery, is_duplicate, stored, deliver}
-use Rattle.unit_defs.specs.UpBearers.{made}
-use Rattle.bearer_defs.specs.chain_defs.Parts.{Part, set, start, no_member, new_member}
-use Rattle.bearer_defs.specs.chain_defs.Orders.{Order, offers, switches_path, makes, freezes, knows, switches, resumes, releases, closes, arrives, fails, keeps_n3, keeps_fresh, passes_n3, passes_fresh, sends, passes_numbered, drops, ends_n3, ends_hop, numbers, confirms, reports, tells_loss, sends_again, carries, handed, after, run, offers_in}
-use Rattle.bearer_defs.specs.chain_defs.Guards.{IsReady, IsOwed, AreKept}
+use Rattle.unit_defs.specs.CuUpBearers.{made}
+use Rattle.bearer_defs.specs.chain_defs.Models.{Model, set, initial, no_member, new_member}
+use Rattle.bearer_defs.specs.chain_defs.Orders.{ModelStep, offers, switches_path, makes, freezes, knows, switches, resumes, releases, closes, arrives, fails, keeps_n3, keeps_fresh, passes_n3, passes_fresh, sends, passes_numbered, drops, ends_n3, ends_hop, numbers, confirms, reports, reports_loss, sends_again, carries, handed, after, run, offers_in}
+use Rattle.bearer_defs.specs.chain_defs.Assumptions.{IsReady, IsAssumed, AreKept}
 use Rattle.law_downlink_order.proofs.chain.Tunnels.{flow-none}
-use Rattle.law_downlink_order.proofs.chain.Facts.{Ghost, view, Fine, Linked, Kept, Good}
+use Rattle.law_downlink_order.proofs.chain.Facts.{Ghost, view, MemberInvariant, Linked, Kept, Good}
 use Rattle.law_downlink_order.proofs.chain.Frames.{put_each}
 use Rattle.law_downlink_order.proofs.chain.Gets.{kept_keeps_n3, kept_keeps_fresh, kept_passes_n3, kept_passes_fresh, kept_sends, kept_passes_numbered, kept_ends_n3, kept_ends_hop}
 use Rattle.law_downlink_order.proofs.chain.Senders.{kept_numbers, kept_confirms, kept_reports, kept_tells_loss, kept_sends_again}
@@ -38,15 +38,15 @@ agrees_by p n (x ∷ xs) h =
 pub agrees : (xs : List (List ℕ)) → Agrees (stream xs) 0 xs
 agrees xs = agrees_by (stream xs) 0 xs (λ i. (let e : 0 + i ≡ i = omega arith in ap (stream xs) e))
 
-OfferIs : (ℕ → List ℕ) → Part → Order → Type 0
+OfferIs : (ℕ → List ℕ) → Model → ModelStep → Type 0
 OfferIs p s (offers packet) = packet ≡ p s.offered
 OfferIs p s o = ⊤
 
 -- ---- each order
 
-module _ (p : ℕ → List ℕ) (sn : SnBits) (quota : ℕ) (s : Part) (g : ℕ → Ghost) (k : Kept p (window sn quota) s g) where
-  kept_order : (o : Order) → IsReady sn quota s o → IsOwed s o → OfferIs p s o → Good p (window sn quota) (after s o)
-  unfolding IsReady IsOwed OfferIs
+module _ (p : ℕ → List ℕ) (sn : SnBits) (quota : ℕ) (s : Model) (g : ℕ → Ghost) (k : Kept p (window sn quota) s g) where
+  kept_order : (o : ModelStep) → IsReady sn quota s o → IsAssumed s o → OfferIs p s o → Good p (window sn quota) (after s o)
+  unfolding IsReady IsAssumed OfferIs
   kept_order (offers packet) r d is = kept_offers p (window sn quota) s g k packet is
   kept_order (switches_path to) r d is = kept_switches_path p (window sn quota) s g k to d.0 d.1 d.2
   kept_order (makes x target teid) r d is = kept_makes p (window sn quota) s g k x target teid r d
@@ -70,46 +70,46 @@ module _ (p : ℕ → List ℕ) (sn : SnBits) (quota : ℕ) (s : Part) (g : ℕ 
   kept_order (numbers x packet rest) r d is = kept_numbers p sn quota s g k x packet rest r.0 r.1 r.2 r.3 r.4
   kept_order (confirms x count) r d is = kept_confirms p (window sn quota) s g k x count r d
   kept_order (reports x fmc bits) r d is = kept_reports p (window sn quota) s g k x fmc bits r d.0 d.1
-  kept_order (tells_loss x) r d is = kept_tells_loss p (window sn quota) s g k x r
+  kept_order (reports_loss x) r d is = kept_tells_loss p (window sn quota) s g k x r
   kept_order (sends_again x) r d is = kept_sends_again p (window sn quota) s g k x r.0 r.1
   kept_order (carries count packet rest) r d is = kept_carries p (window sn quota) s g k count packet rest r
 
 -- ---- lists of orders
 
 -- what an order offers, and what is left to be offered
-offers_after : (p : ℕ → List ℕ) (s : Part) (o : Order) (os : List Order) → Agrees p s.offered (offers_in (o ∷ os))
+offers_after : (p : ℕ → List ℕ) (s : Model) (o : ModelStep) (os : List ModelStep) → Agrees p s.offered (offers_in (o ∷ os))
     → OfferIs p s o × Agrees p (after s o).offered (offers_in os)
 unfolding after offers_in Agrees OfferIs
 offers_after p s (offers packet) os h = h
 offers_after p s (carries count packet rest) os h = (
   tt,
-  subst (λ n. Agrees p n (offers_in os)) (sym (heard (is_duplicate s.terminal count) (deliver (stored s.terminal count packet))))
+  subst (λ n. Agrees p n (offers_in os)) (sym (was_received (is_duplicate s.terminal count) (deliver (stored s.terminal count packet))))
       h,
 )
   where
-    heard : (b : Bool) (d : Delivery (List ℕ)) → (handed (record s { air = rest }) b d).offered ≡ s.offered
-    heard true d = refl
-    heard false d = refl
+    was_received : (b : Bool) (d : Delivery (List ℕ)) → (handed (record s { air = rest }) b d).offered ≡ s.offered
+    was_received true d = refl
+    was_received false d = refl
 offers_after p s _ os h = (tt, h)
 
-counts_after : (s : Part) (o : Order) (os : List Order) → (after s o).offered + length (offers_in os) ≡ s.offered + length
+counts_after : (s : Model) (o : ModelStep) (os : List ModelStep) → (after s o).offered + length (offers_in os) ≡ s.offered + length
     (offers_in (o ∷ os))
 unfolding after offers_in
 counts_after s (offers packet) os = omega arith
 counts_after s (carries count packet rest) os = ap (λ n. n + length (offers_in os))
-    (heard (is_duplicate s.terminal count) (deliver (stored s.terminal count packet)))
+    (was_received (is_duplicate s.terminal count) (deliver (stored s.terminal count packet)))
   where
-    heard : (b : Bool) (d : Delivery (List ℕ)) → (handed (record s { air = rest }) b d).offered ≡ s.offered
-    heard true d = refl
-    heard false d = refl
+    was_received : (b : Bool) (d : Delivery (List ℕ)) → (handed (record s { air = rest }) b d).offered ≡ s.offered
+    was_received true d = refl
+    was_received false d = refl
 counts_after s _ os = refl
 
-pub all_offered : (s : Part) (os : List Order) → (run s os).offered ≡ s.offered + length (offers_in os)
+pub all_offered : (s : Model) (os : List ModelStep) → (run s os).offered ≡ s.offered + length (offers_in os)
 unfolding run offers_in
 all_offered s [] = omega arith
 all_offered s (o ∷ os) = all_offered (after s o) os ∙ counts_after s o os
 
-pub kept_run : (p : ℕ → List ℕ) (sn : SnBits) (quota : ℕ) (s : Part) (os : List Order) → Good p (window sn quota) s → AreKept sn quota s os
+pub kept_run : (p : ℕ → List ℕ) (sn : SnBits) (quota : ℕ) (s : Model) (os : List ModelStep) → Good p (window sn quota) s → AreKept sn quota s os
     → Agrees p s.offered (offers_in os) → Good p (window sn quota) (run s os)
 unfolding run AreKept
 kept_run p sn quota s [] k a h = k
@@ -137,12 +137,12 @@ at_start = record {
   pathed = true;
 }
 
-pub good_start : (p : ℕ → List ℕ) (w x teid : ℕ) → Good p w (start x teid)
-unfolding at_start made reach HasNoGap upto segment start
+pub good_start : (p : ℕ → List ℕ) (w x teid : ℕ) → Good p w (initial x teid)
+unfolding at_start made reach HasNoGap upto segment initial
 good_start p w x teid = (
   set (λ _. at_start) x at_start,
   record {
-    each = put_each (λ q m g. Fine p w (view (start x teid)) q m g) (λ _. no_member) (λ _. at_start) x (new_member false teid) at_start
+    each = put_each (λ q m g. MemberInvariant p w (view (initial x teid)) q m g) (λ _. no_member) (λ _. at_start) x (new_member false teid) at_start
         (record {
           own = λ _. record {
             lists = record { unconfirmed_are = λ _. refl; taken_are = λ _ _. refl; waiting_are = λ _. refl };

@@ -4,8 +4,8 @@ use Rattle.gnb_types.specs.declared.names.SnBits.{SnBits}
 use Rattle.intervals.specs.Intervals.{upto, reach}
 use Rattle.intervals.proofs.Intervals.{upto-nil, upto-cons, upto-join, upto-head, upto-filter, reach-le}
 use Rattle.pdcp_defs.specs.Senders.{numbered as with_next, has_room, first, first_of, window, confirmed_to, confirmed_by, is_reported}
-use Rattle.bearer_defs.specs.chain_defs.Parts.{Member, Part, set}
-use Rattle.bearer_defs.specs.chain_defs.Orders.{numbers, confirms, reports, tells_loss, sends_again, after}
+use Rattle.bearer_defs.specs.chain_defs.Models.{Member, Model, set}
+use Rattle.bearer_defs.specs.chain_defs.Orders.{numbers, confirms, reports, reports_loss, sends_again, after}
 use Rattle.law_downlink_order.proofs.chain.Tunnels.{shape-late}
 use Rattle.law_downlink_order.proofs.chain.Facts.{Ghost, view, pairs, Kept, Good}
 use Rattle.law_downlink_order.proofs.chain.Frames.{apart, kept_one, said, upto-one, fine_later, Later}
@@ -34,7 +34,7 @@ room_is p next low held w l e room = by (nat_lt low held) refl
         let r : nat_lt (next - next) w ≡ true = rw (upto-nil (pairs p) low held o) at room in
         grind arith
 
-module _ (p : ℕ → List ℕ) (sn : SnBits) (quota : ℕ) (s : Part) (g : ℕ → Ghost) (k : Kept p (window sn quota) s g) (x : ℕ) where
+module _ (p : ℕ → List ℕ) (sn : SnBits) (quota : ℕ) (s : Model) (g : ℕ → Ghost) (k : Kept p (window sn quota) s g) (x : ℕ) where
   abbrev m : Member
   m = s.members x
 
@@ -60,7 +60,7 @@ module _ (p : ℕ → List ℕ) (sn : SnBits) (quota : ℕ) (s : Part) (g : ℕ 
       let most : h.held + 1 ≤ s.offered = (let a = j.0 in let b = o.numbers.top_offered in omega arith) in
       let r = said p s m ((m.bearer.sender.next, packet) ∷ []) h.held (h.held + 1) k.radio one most
       (λ e. (let a = o.spoken.spoken e in let b = keeps.1 in omega arith)) in
-      let t : Part = record s { air = if m.epoch == s.epoch then s.air ++ (m.bearer.sender.next, packet) ∷ [] else s.air } in
+      let t : Model = record s { air = if m.epoch == s.epoch then s.air ++ (m.bearer.sender.next, packet) ∷ [] else s.air } in
       let later : Later (view s) (view t) = record
       { epoch = omega arith; offered = omega arith; deliv = omega arith; reached = λ _. r.grows } in
       let now : Ghost = record h { held = h.held + 1; sent = h.held + 1; next = h.next + 1 } in (
@@ -119,7 +119,7 @@ module _ (p : ℕ → List ℕ) (sn : SnBits) (quota : ℕ) (s : Part) (g : ℕ 
             (λ e. apart e.1 unfrozen) (λ y _ e _. apart e.1 unfrozen) (λ y _. k.links y x) r.radio,
       )
 
-module _ (p : ℕ → List ℕ) (w : ℕ) (s : Part) (g : ℕ → Ghost) (k : Kept p w s g) (x : ℕ) where
+module _ (p : ℕ → List ℕ) (w : ℕ) (s : Model) (g : ℕ → Ghost) (k : Kept p w s g) (x : ℕ) where
   abbrev c : Member
   c = s.members x
 
@@ -220,7 +220,7 @@ module _ (p : ℕ → List ℕ) (w : ℕ) (s : Part) (g : ℕ → Ghost) (k : Ke
 
   -- ---- losses
 
-  pub kept_tells_loss : c.is_there ≡ true → Good p w (after s (tells_loss x))
+  pub kept_tells_loss : c.is_there ≡ true → Good p w (after s (reports_loss x))
   unfolding after
   kept_tells_loss there =
       let f = k.each x in
@@ -247,7 +247,7 @@ module _ (p : ℕ → List ℕ) (w : ℕ) (s : Part) (g : ℕ → Ghost) (k : Ke
       (let a = o.numbers.low_deliv in let b = reach-le s.terminal.deliv s.air in omega arith) in
       let r = said p s c c.bearer.sender.unconfirmed e.low e.held k.radio (o.lists.unconfirmed_are (o.flags.serves unfrozen).0) most
       (λ _. low) in
-      let t : Part = record s { air = if c.epoch == s.epoch then s.air ++ c.bearer.sender.unconfirmed else s.air } in
+      let t : Model = record s { air = if c.epoch == s.epoch then s.air ++ c.bearer.sender.unconfirmed else s.air } in
       let later : Later (view s) (view t) = record
       { epoch = omega arith; offered = omega arith; deliv = omega arith; reached = λ _. r.grows } in (
         g,

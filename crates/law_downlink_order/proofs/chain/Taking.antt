@@ -1,8 +1,8 @@
 -- An item is taken from a tunnel, or put on the next one: what the tunnels hold then.
 use Rattle.std.proofs.Common.{◌≡◌, ℕ, ◌+◌, ◌<◌, ◌≤◌, Bool, true, false, not, List, [], ◌∷◌, ◌++◌, None, refl, sym, ap, ◌∙◌, true≢false, arith}
-use Rattle.unit_defs.specs.UpItems.{first_held}
+use Rattle.unit_defs.specs.CuUpItems.{first_held}
 use Rattle.gnb_types.specs.declared.reasons.HeldReason.TheVariants.{NoStatus, NotArrived, Early}
-use Rattle.bearer_defs.specs.chain_defs.Parts.{Item, numbered, fresh, end_marker}
+use Rattle.bearer_defs.specs.chain_defs.Models.{Item, numbered, fresh, end_marker}
 use Rattle.law_downlink_order.proofs.chain.Tunnels.{flow-fresh, flow-end, shape-numbered, shape-fresh, shape-end, shape-put, shape-close, shape-put_numbered}
 use Rattle.law_downlink_order.proofs.chain.Facts.{Ghost, View, ends_of, Tunnels, IsFed, Numbers}
 use Rattle.law_downlink_order.proofs.chain.Frames.{apart, given}

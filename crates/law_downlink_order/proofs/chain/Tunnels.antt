@@ -2,7 +2,7 @@
 -- may stand at the end.
 use Rattle.std.proofs.Common.{◌≡◌, ℕ, ◌+◌, ◌<◌, ◌≤◌, Bool, true, false, List, [], ◌∷◌, ◌++◌, map, refl, sym, ap, ◌∙◌, append_assoc, nat_lt, arith}
 use Rattle.std.proofs.lemmas.List.{append-nil}
-use Rattle.bearer_defs.specs.chain_defs.Parts.{Item, numbered, fresh, end_marker}
+use Rattle.bearer_defs.specs.chain_defs.Models.{Item, numbered, fresh, end_marker}
 use Rattle.intervals.specs.Intervals.{upto}
 use Rattle.intervals.proofs.Intervals.{upto-nil, upto-cons, upto-snoc, upto-map}
 

@@ -4,12 +4,12 @@ use Rattle.gnb_types.specs.declared.names.SnBits.TheVariants.{Len12}
 use Rattle.tables.specs.Tables.{find, put}
 use Rattle.pdcp_defs.specs.Senders.{numbered, has_room, first, may_restore, restored, confirmed_to}
 use Rattle.pdcp_defs.specs.Receivers.{is_duplicate, stored, deliver}
-use Rattle.unit_defs.specs.UpBearers.{made}
-use Rattle.bearer_defs.specs.chain_defs.Parts.{Member, is_open}
-use Rattle.bearer_defs.specs.chain_defs.Parts as parts
+use Rattle.unit_defs.specs.CuUpBearers.{made}
+use Rattle.bearer_defs.specs.chain_defs.Models.{Member, is_open}
+use Rattle.bearer_defs.specs.chain_defs.Models as models
 use Rattle.bearer_defs.specs.chain_defs.Orders as orders
-use Rattle.bearer_defs.specs.chain_defs.Guards as guards
-use Rattle.bearer_defs.specs.chain_defs.Guards.{Feeds, IsUnfed}
+use Rattle.bearer_defs.specs.chain_defs.Assumptions as guards
+use Rattle.bearer_defs.specs.chain_defs.Assumptions.{Feeds, IsUnfed}
 use Rattle.law_downlink_order.specs.chain.Relay.{a, b, c}
 use Rattle.law_downlink_order.proofs.chain.Frames.{same, apart}
 use Rattle.law_downlink_order.specs.path.Lossy.{downlink_to, du_bearer}
@@ -47,11 +47,11 @@ unfed : (steps : List Step) (n y : ℕ) → ((x : ℕ) → Idle ((run (start 1 1
 unfed steps n y h x f = (h x).no_hop f
 
 pub lossy_delivers : (run (start 1 10 (downlink_to 1) du_bearer) lossy).chain.delivered ≡ (0, a) ∷ (1, b) ∷ (2, c) ∷ []
-unfolding lossy start parts.start paths.start run after orders.after ways.after made packets_sent numbered restored confirmed_to is_duplicate stored deliver find put
+unfolding lossy start models.initial paths.start run after orders.after ways.after made packets_sent numbered restored confirmed_to is_duplicate stored deliver find put
 lossy_delivers = refl
 
 pub lossy_kept : AreKept Len12 64 (offers_in lossy) (start 1 10 (downlink_to 1) du_bearer) lossy
-unfolding lossy start parts.start paths.start run AreKept orders_in orders.offers_in guards.IsReady guards.IsOwed ways.IsReady ways.IsOwed after orders.after
+unfolding lossy start models.initial paths.start run AreKept orders_in orders.offers_in guards.IsReady guards.IsAssumed ways.IsReady ways.IsAssumed after orders.after
     ways.after made packets_sent numbered has_room first may_restore restored confirmed_to is_duplicate stored deliver find put feeds
 lossy_kept = (
   -- makes 2 true 20

@@ -2,8 +2,8 @@
 use Rattle.std.proofs.Common.{inl, inr, ◌≡◌, ◌⊎◌, ℕ, ◌+◌, ◌-◌, ◌<◌, ◌≤◌, Bool, true, false, nat_lt, List, [], ◌∷◌, length, Some, refl, sym, ap, ◌∙◌, true≢false, arith}
 use Rattle.intervals.specs.Intervals.{upto, HasNoGap, reach}
 use Rattle.intervals.proofs.Intervals.{upto-nil, upto-cons, upto-length, reach-le}
-use Rattle.unit_defs.specs.UpRecords.{Downlink}
-use Rattle.bearer_defs.specs.chain_defs.Parts.{Part, Member}
+use Rattle.unit_defs.specs.CuUpRecords.{DownlinkTunnel}
+use Rattle.bearer_defs.specs.chain_defs.Models.{Model, Member}
 use Rattle.law_downlink_order.proofs.chain.Facts.{view, pairs, Own, IsStation, Good}
 use Rattle.law_downlink_order.specs.path.Paths.{Path}
 use Rattle.law_downlink_order.specs.path.Steps.{begins_anew, after}
@@ -31,11 +31,11 @@ holds_to p low held deliv comes (e ∷ es) l d is f = by (nat_lt low held) refl
         first_of (x ∷ xs) = x.0
     by false t = absurd (let o : held ≤ low = grind arith in let none = is ∙ upto-nil (pairs p) low held o in cc)
 
-module _ (p : ℕ → List ℕ) (w : ℕ) (s : Part) (good : Good p w s) (base : ℕ) (way : Path) (k : Kept p base way) (same : way.terminal ≡ s.terminal) where
+module _ (p : ℕ → List ℕ) (w : ℕ) (s : Model) (good : Good p w s) (base : ℕ) (way : Path) (k : Kept p base way) (same : way.terminal ≡ s.terminal) where
   abbrev m : Member
   m = s.members s.station
 
-  pub kept_moves : (comes : ℕ) (d : Downlink) (fmc : ℕ) (bits : List Bool) → Follows s.terminal.deliv m.bearer.sender.unconfirmed comes
+  pub kept_moves : (comes : ℕ) (d : DownlinkTunnel) (fmc : ℕ) (bits : List Bool) → Follows s.terminal.deliv m.bearer.sender.unconfirmed comes
       → Kept p way.terminal.deliv (after (record way { bearer = m.bearer; comes = comes }) (begins_anew d fmc bits)) × (comes ≤ s.offered)
   unfolding Stands Marked HasNoGap reach after
   kept_moves comes d fmc bits follows = (kept_begins_anew p way.terminal.deliv before kept_before d fmc bits, few)

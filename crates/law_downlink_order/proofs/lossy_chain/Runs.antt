@@ -6,13 +6,13 @@ use Rattle.intervals.specs.Intervals.{segment, upto, HasNoGap, reach}
 use Rattle.intervals.proofs.Intervals.{upto-length, reach-le}
 use Rattle.pdcp_defs.specs.Senders.{window}
 use Rattle.pdcp_defs.specs.Receivers.{Receiver, Delivery, is_duplicate, is_ahead, stored, deliver}
-use Rattle.unit_defs.specs.UpRecords.{Downlink}
+use Rattle.unit_defs.specs.CuUpRecords.{DownlinkTunnel}
 use Rattle.unit_defs.specs.Du.{DuBearer}
-use Rattle.bearer_defs.specs.chain_defs.Parts.{Part}
-use Rattle.bearer_defs.specs.chain_defs.Parts as parts
-use Rattle.bearer_defs.specs.chain_defs.Orders.{Order, offers, carries, handed}
+use Rattle.bearer_defs.specs.chain_defs.Models.{Model}
+use Rattle.bearer_defs.specs.chain_defs.Models as models
+use Rattle.bearer_defs.specs.chain_defs.Orders.{ModelStep, offers, carries, handed}
 use Rattle.bearer_defs.specs.chain_defs.Orders as orders
-use Rattle.bearer_defs.specs.chain_defs.Guards as guards
+use Rattle.bearer_defs.specs.chain_defs.Assumptions as guards
 use Rattle.law_downlink_order.specs.chain.Words.{DeliversInOrder}
 use Rattle.law_downlink_order.proofs.chain.Facts.{pairs, Good}
 use Rattle.law_downlink_order.proofs.chain.Laws.{first_ones}
@@ -25,37 +25,37 @@ use Rattle.law_downlink_order.specs.path.Words.{TakesAtOnce}
 use Rattle.law_downlink_order.proofs.path.Facts as way_facts
 use Rattle.law_downlink_order.proofs.path.Carries as way_carries
 use Rattle.law_downlink_order.proofs.path.Runs.{Comes, kept_step, kept_start}
-use Rattle.law_downlink_order.specs.lossy_chain.Both.{Both, Step, by_chain, by_way, hears, moves, after, run, start, orders_in, offers_in, IsOfChain, IsOfWay, Brings, Asks, AreKept}
-use Rattle.law_downlink_order.proofs.lossy_chain.Hears.{kept_hears}
+use Rattle.law_downlink_order.specs.lossy_chain.Both.{Both, Step, by_chain, by_way, receives, moves, after, run, start, orders_in, offers_in, IsOfChain, IsOfDownlinkPath, Brings, Asks, AreKept}
+use Rattle.law_downlink_order.proofs.lossy_chain.Receives.{kept_receives}
 use Rattle.law_downlink_order.proofs.lossy_chain.Moves.{kept_moves}
 
 -- ---- what the orders of the chain leave
 
-terminal_stays : (s : Part) (o : Order) → IsOfChain o → (orders.after s o).terminal ≡ s.terminal
+terminal_stays : (s : Model) (o : ModelStep) → IsOfChain o → (orders.after s o).terminal ≡ s.terminal
 unfolding orders.after
 terminal_stays s (carries count packet rest) h = absurd h
 terminal_stays s _ h = refl
 
-offered_grows : (s : Part) (o : Order) → IsOfChain o → s.offered ≤ (orders.after s o).offered
+offered_grows : (s : Model) (o : ModelStep) → IsOfChain o → s.offered ≤ (orders.after s o).offered
 unfolding orders.after
 offered_grows s (carries count packet rest) h = absurd h
 offered_grows s (offers packet) h = omega arith
 offered_grows s _ h = (let a : s.offered ≤ s.offered = omega arith in a)
 
 -- what it offers, and what is left to be offered
-offers_one : (p : ℕ → List ℕ) (n : ℕ) (o : Order) (os : List Order) → Agrees p n (orders.offers_in (o ∷ os)) → Agrees p n (orders.offers_in (o ∷ []))
+offers_one : (p : ℕ → List ℕ) (n : ℕ) (o : ModelStep) (os : List ModelStep) → Agrees p n (orders.offers_in (o ∷ os)) → Agrees p n (orders.offers_in (o ∷ []))
 unfolding orders.offers_in Agrees
 offers_one p n (offers packet) os h = (h.0, tt)
 offers_one p n _ os h = tt
 
-offers_left : (p : ℕ → List ℕ) (s : Part) (o : Order) (os : List Order) → IsOfChain o → Agrees p s.offered (orders.offers_in (o ∷ os))
+offers_left : (p : ℕ → List ℕ) (s : Model) (o : ModelStep) (os : List ModelStep) → IsOfChain o → Agrees p s.offered (orders.offers_in (o ∷ os))
     → Agrees p (orders.after s o).offered (orders.offers_in os)
 unfolding orders.after orders.offers_in Agrees
 offers_left p s (carries count packet rest) os c h = absurd c
 offers_left p s (offers packet) os c h = h.1
 offers_left p s _ os c h = h
 
-counts_left : (s : Part) (o : Order) (os : List Order) → IsOfChain o
+counts_left : (s : Model) (o : ModelStep) (os : List ModelStep) → IsOfChain o
     → (orders.after s o).offered + length (orders.offers_in os) ≡ s.offered + length (orders.offers_in (o ∷ os))
 unfolding orders.after orders.offers_in
 counts_left s (carries count packet rest) os c = absurd c
@@ -64,13 +64,13 @@ counts_left s _ os c = refl
 
 -- ---- what the steps of the way leave
 
-way_terminal : (s : Path) (o : ways.Step) → IsOfWay o → (ways.after s o).terminal ≡ s.terminal
+way_terminal : (s : Path) (o : ways.Step) → IsOfDownlinkPath o → (ways.after s o).terminal ≡ s.terminal
 unfolding ways.after
 way_terminal s (ways.carries count packet rest) h = absurd h
 way_terminal s _ h = refl
 
 -- where a packet is brought, it was offered before
-comes_few : (offered : List (List ℕ)) (s : Both) (o : ways.Step) → IsOfWay o → Brings offered s o → s.way.comes ≤ s.chain.offered
+comes_few : (offered : List (List ℕ)) (s : Both) (o : ways.Step) → IsOfDownlinkPath o → Brings offered s o → s.way.comes ≤ s.chain.offered
     → (ways.after s.way o).comes ≤ s.chain.offered
 unfolding ways.after
 comes_few offered s (ways.carries count packet rest) w h l = absurd w
@@ -103,19 +103,19 @@ pub record Kept (p : ℕ → List ℕ) (w : ℕ) (s : Both) : Type 0 where
   pub base_few : base ≤ s.chain.offered
 
 -- both receive alike
-chain_heard : (s : Part) (b : Bool) (d : Delivery (List ℕ)) → ((handed s b d).terminal ≡ (if b then s.terminal else d.after)) × ((handed s b d).offered ≡ s.offered)
-chain_heard s true d = (refl, refl)
-chain_heard s false d = (refl, refl)
+chain_received : (s : Model) (b : Bool) (d : Delivery (List ℕ)) → ((handed s b d).terminal ≡ (if b then s.terminal else d.after)) × ((handed s b d).offered ≡ s.offered)
+chain_received s true d = (refl, refl)
+chain_received s false d = (refl, refl)
 
-way_heard : (s : Path) (b : Bool) (d : Delivery (List ℕ))
+way_received : (s : Path) (b : Bool) (d : Delivery (List ℕ))
     → ((ways.handed s b d).terminal ≡ (if b then s.terminal else d.after)) × ((ways.handed s b d).comes ≡ s.comes)
-way_heard s true d = (refl, refl)
-way_heard s false d = (refl, refl)
+way_received s true d = (refl, refl)
+way_received s false d = (refl, refl)
 
-first_heard : (p : ℕ → List ℕ) (limit : ℕ) (t : Receiver (List ℕ)) (count : ℕ) (packet : List ℕ) (rest delivered : List (ℕ × List ℕ))
+first_received : (p : ℕ → List ℕ) (limit : ℕ) (t : Receiver (List ℕ)) (count : ℕ) (packet : List ℕ) (rest delivered : List (ℕ × List ℕ))
     → way_facts.Radio p limit t.deliv t.stored ((count, packet) ∷ rest) delivered → (count ≤ t.deliv) × (packet ≡ p count) × (count < limit)
 unfolding HasNoGap reach
-first_heard p limit t count packet rest delivered r =
+first_received p limit t count packet rest delivered r =
     (r.no_gap.0, r.packets.0, (let a = r.reached_limit in let b = reach-le (max t.deliv (count + 1)) rest in omega arith))
 
 module _ (sn : SnBits) (quota : ℕ) (offered : List (List ℕ)) where
@@ -128,11 +128,11 @@ module _ (sn : SnBits) (quota : ℕ) (offered : List (List ℕ)) where
   kept_both : (s : Both) (k : Kept p w s) (o : Step) (os : List Step) → Asks sn quota offered s o → Agrees p s.chain.offered (offers_in (o ∷ os))
       → Kept p w (after s o) × Agrees p (after s o).chain.offered (offers_in os)
   unfolding after orders_in guards.AreKept orders.run ways.after
-  kept_both s k (by_chain o) os (of_chain, ready, owed) h =
+  kept_both s k (by_chain o) os (of_chain, ready, assumed) h =
       let more = offered_grows s.chain o of_chain in (
         record {
           base = k.base;
-          good = chain_runs.kept_run p sn quota s.chain (o ∷ []) k.good (ready, owed, tt) (offers_one p s.chain.offered o (orders_in os) h);
+          good = chain_runs.kept_run p sn quota s.chain (o ∷ []) k.good (ready, assumed, tt) (offers_one p s.chain.offered o (orders_in os) h);
           way = k.way;
           same = k.same ∙ sym (terminal_stays s.chain o of_chain);
           comes = (let a = k.comes in omega (arith, more));
@@ -140,26 +140,26 @@ module _ (sn : SnBits) (quota : ℕ) (offered : List (List ℕ)) where
         },
         offers_left p s.chain o (orders_in os) of_chain h,
       )
-  kept_both s k (by_way o) os (of_way, ready, owed, brings) h = (
+  kept_both s k (by_way o) os (of_way, ready, assumed, brings) h = (
     record {
       base = k.base;
       good = k.good;
-      way = kept_step p k.base s.way k.way o ready owed (brings_right offered s o brings);
+      way = kept_step p k.base s.way k.way o ready assumed (brings_right offered s o brings);
       same = way_terminal s.way o of_way ∙ k.same;
       comes = comes_few offered s o of_way brings k.comes;
       base_few = k.base_few;
     },
     h,
   )
-  kept_both s k (hears count packet rest) os stands h =
-      let f = first_heard p (max k.base s.way.comes) s.way.terminal count packet rest s.way.delivered
+  kept_both s k (receives count packet rest) os stands h =
+      let f = first_received p (max k.base s.way.comes) s.way.terminal count packet rest s.way.delivered
       (subst (λ air. way_facts.Radio p (max k.base s.way.comes) s.way.terminal.deliv s.way.terminal.stored air s.way.delivered) stands k.way.radio) in
       let deliv_is : s.way.terminal.deliv ≡ s.chain.terminal.deliv = ap (λ t. t.deliv) k.same in
-      let c = chain_heard s.chain (is_duplicate s.chain.terminal count) (deliver (stored s.chain.terminal count packet)) in
-      let v = way_heard (record s.way { air = rest }) (is_duplicate s.way.terminal count) (deliver (stored s.way.terminal count packet)) in (
+      let c = chain_received s.chain (is_duplicate s.chain.terminal count) (deliver (stored s.chain.terminal count packet)) in
+      let v = way_received (record s.way { air = rest }) (is_duplicate s.way.terminal count) (deliver (stored s.way.terminal count packet)) in (
         record {
           base = k.base;
-          good = kept_hears p w s.chain k.good.0 k.good.1 count packet (let a = f.0 in omega (arith, deliv_is)) f.1
+          good = kept_receives p w s.chain k.good.0 k.good.1 count packet (let a = f.0 in omega (arith, deliv_is)) f.1
               (let a = f.2 in let b = k.comes in let d = k.base_few in omega arith);
           way = way_carries.kept_carries p k.base s.way k.way count packet rest stands;
           same = v.0 ∙ (λ i. if is_duplicate (k.same i) count then k.same i else (deliver (stored (k.same i) count packet)).after) ∙ sym c.0;
@@ -189,8 +189,8 @@ module _ (sn : SnBits) (quota : ℕ) (offered : List (List ℕ)) where
       let one = kept_both s k o os a.0 h in
       kept_run (after s o) os one.0 a.1 one.1
 
-  pub kept_at_start : (first teid : ℕ) (d : Downlink) (du : DuBearer) → Kept p w (start first teid d du)
-  unfolding start parts.start paths.start
+  pub kept_at_start : (first teid : ℕ) (d : DownlinkTunnel) (du : DuBearer) → Kept p w (start first teid d du)
+  unfolding start models.initial paths.start
   kept_at_start first teid d du = record {
     base = 0;
     good = chain_runs.good_start p w first teid;
@@ -207,8 +207,8 @@ counts_after : (sn : SnBits) (quota : ℕ) (offered : List (List ℕ)) (s : Both
 unfolding after orders_in
 counts_after sn quota offered s (by_chain o) os asked = counts_left s.chain o (orders_in os) asked.0
 counts_after sn quota offered s (by_way o) os asked = refl
-counts_after sn quota offered s (hears count packet rest) os asked =
-    ap (λ n. n + length (offers_in os)) (chain_heard s.chain (is_duplicate s.chain.terminal count) (deliver (stored s.chain.terminal count packet))).1
+counts_after sn quota offered s (receives count packet rest) os asked =
+    ap (λ n. n + length (offers_in os)) (chain_received s.chain (is_duplicate s.chain.terminal count) (deliver (stored s.chain.terminal count packet))).1
 counts_after sn quota offered s (moves comes downlink fmc bits) os asked = refl
 
 all_offered : (sn : SnBits) (quota : ℕ) (offered : List (List ℕ)) (s : Both) (os : List Step) → AreKept sn quota offered s os
@@ -219,17 +219,17 @@ all_offered sn quota offered s (o ∷ os) a = all_offered sn quota offered (afte
 
 -- ---- the laws
 
-module _ (sn : SnBits) (quota first teid : ℕ) (d : Downlink) (du : DuBearer) (os : List Step)
+module _ (sn : SnBits) (quota first teid : ℕ) (d : DownlinkTunnel) (du : DuBearer) (os : List Step)
     (kept : AreKept sn quota (offers_in os) (start first teid d du) os) where
   s : Both
   s = run (start first teid d du) os
 
   all : Kept (stream (offers_in os)) (window sn quota) s
-  unfolding s start parts.start
+  unfolding s start models.initial
   all = kept_run sn quota (offers_in os) (start first teid d du) os (kept_at_start sn quota (offers_in os) first teid d du) kept (agrees (offers_in os))
 
   come : s.chain.offered ≡ length (offers_in os)
-  unfolding s start parts.start
+  unfolding s start models.initial
   come = all_offered sn quota (offers_in os) (start first teid d du) os kept ∙ omega arith
 
   pub delivers_in_order : DeliversInOrder (offers_in os) (run (start first teid d du) os).chain

@@ -34,11 +34,11 @@ module _ (p : ℕ → List ℕ) (base : ℕ) (s : Path) (k : Kept p base s) wher
   unfolding HasNoGap reach
   first_packet count packet rest r = (r.no_gap.0, r.packets.0, r.no_gap.1, r.packets.1, refl)
 
-  hears : (air : List (ℕ × List ℕ)) (terminal : Receiver (List ℕ)) (delivered : List (ℕ × List ℕ)) → s.terminal.deliv ≤ terminal.deliv
+  receives : (air : List (ℕ × List ℕ)) (terminal : Receiver (List ℕ)) (delivered : List (ℕ × List ℕ)) → s.terminal.deliv ≤ terminal.deliv
       → reach s.terminal.deliv s.air ≡ reach terminal.deliv air
       → Radio p (max base s.comes) terminal.deliv terminal.stored air delivered
       → Kept p base (record s { air = air; terminal = terminal; delivered = delivered })
-  hears air terminal delivered more reached radio = record {
+  receives air terminal delivered more reached radio = record {
     low = k.low;
     sent = k.sent;
     holds = record {
@@ -76,7 +76,7 @@ module _ (p : ℕ → List ℕ) (base : ℕ) (s : Path) (k : Kept p base s) wher
           (λ n. reach n rest) e in
           subst (λ b. Kept p base (handed (record s { air = rest }) b (deliver (stored s.terminal count packet))))
           (sym (taken_late s.terminal count r.none_stored l))
-          (hears rest s.terminal s.delivered (omega arith) reached (record {
+          (receives rest s.terminal s.delivered (omega arith) reached (record {
             no_gap = subst (λ n. HasNoGap n rest) e f.2;
             packets = f.3;
             reached_limit = (let a = r.reached_limit in omega (arith, reached));
@@ -92,7 +92,7 @@ module _ (p : ℕ → List ℕ) (base : ℕ) (s : Path) (k : Kept p base s) wher
           subst (λ b. Kept p base (handed (record s { air = rest }) b (deliver (stored s.terminal count packet))))
           (sym (taken_next s.terminal count r.none_stored is))
           (subst (λ d. Kept p base (handed (record s { air = rest }) false d)) (sym (handed_up s.terminal count packet r.none_stored is))
-          (hears rest (record { deliv = s.terminal.deliv + 1; stored = [] }) (s.delivered ++ (count, packet) ∷ []) (omega arith) reached
+          (receives rest (record { deliv = s.terminal.deliv + 1; stored = [] }) (s.delivered ++ (count, packet) ∷ []) (omega arith) reached
           (record {
             no_gap = subst (λ n. HasNoGap n rest) e f.2;
             packets = f.3;

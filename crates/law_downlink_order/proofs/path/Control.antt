@@ -4,8 +4,8 @@ use Rattle.intervals.specs.Intervals.{upto, HasNoGap, reach}
 use Rattle.intervals.proofs.Intervals.{upto-nil, reach-le}
 use Rattle.pdcp_defs.specs.Senders.{Sender}
 use Rattle.unit_defs.specs.Ways.{report_pdu}
-use Rattle.unit_defs.specs.UpRecords.{Downlink, SourceHop, UpBearer}
-use Rattle.unit_defs.specs.UpBearers.{is_one_of, thawed}
+use Rattle.unit_defs.specs.CuUpRecords.{DownlinkTunnel, SourceHop, CuUpBearer}
+use Rattle.unit_defs.specs.CuUpBearers.{is_one_of, thawed}
 use Rattle.law_downlink_order.proofs.chain.Facts.{pairs}
 use Rattle.law_downlink_order.specs.path.Paths.{Path, frame_on, packets_sent}
 use Rattle.law_downlink_order.specs.path.Steps.{freezes, resumes, fails, begins_anew, put, anew, sent_anew, after}
@@ -62,8 +62,8 @@ module _ (p : ℕ → List ℕ) (base : ℕ) (s : Path) (k : Kept p base s) wher
         radio = k.radio;
       }
 
-  -- what is owed is sent from here on
-  resumes_from : (b : UpBearer) (cursor : ℕ) (items : List (ℕ × List ℕ)) → b.downlink ≡ s.bearer.downlink
+  -- what is assumed is sent from here on
+  resumes_from : (b : CuUpBearer) (cursor : ℕ) (items : List (ℕ × List ℕ)) → b.downlink ≡ s.bearer.downlink
       → b.loss_while_frozen ≡ false → b.sender ≡ s.bearer.sender → cursor ≤ s.comes → items ≡ upto (pairs p) cursor s.comes
       → Marked b.restart cursor v.deliv (k.speaks.need (k.speaks.downlink.next))
       → Kept p base (record (put s (packets_sent items b)) { frozen = false })
@@ -136,7 +136,7 @@ module _ (p : ℕ → List ℕ) (base : ℕ) (s : Path) (k : Kept p base s) wher
   abbrev fresh : View
   fresh = record { deliv = s.terminal.deliv; comes = s.comes; listens = true; awaited = 0; gap = false; reached = s.terminal.deliv }
 
-  begins : (d : Downlink) → Speaks p fresh [] (anew s.bearer d) k.low
+  begins : (d : DownlinkTunnel) → Speaks p fresh [] (anew s.bearer d) k.low
   unfolding Stands
   begins d = record {
     need = λ _. s.terminal.deliv;
@@ -152,7 +152,7 @@ module _ (p : ℕ → List ℕ) (base : ℕ) (s : Path) (k : Kept p base s) wher
       same : s.terminal.deliv ≤ s.terminal.deliv
       same = omega arith
 
-  pub kept_begins_anew : (d : Downlink) (fmc : ℕ) (bits : List Bool) → Kept p base (after s (begins_anew d fmc bits))
+  pub kept_begins_anew : (d : DownlinkTunnel) (fmc : ℕ) (bits : List Bool) → Kept p base (after s (begins_anew d fmc bits))
   unfolding after HasNoGap reach IsQuiet
   kept_begins_anew d fmc bits =
       let b = anew s.bearer d in

@@ -4,7 +4,7 @@ use Rattle.std.specs.Prelude.{◌≡◌, ℕ, ◌+◌, ◌≤◌, ◌<◌, max, 
 use Rattle.std.specs.List.{AllByRecursion}
 use Rattle.intervals.specs.Intervals.{upto, HasNoGap, reach}
 use Rattle.unit_defs.specs.Ways.{Pdu, packet_pdu, report_pdu}
-use Rattle.unit_defs.specs.UpRecords.{Downlink, UpBearer}
+use Rattle.unit_defs.specs.CuUpRecords.{DownlinkTunnel, CuUpBearer}
 use Rattle.law_downlink_order.proofs.chain.Facts.{pairs}
 use Rattle.law_downlink_order.specs.path.Paths.{Frame, Path}
 
@@ -56,15 +56,15 @@ unfoldable pub Marked : Bool → ℕ → ℕ → ℕ → Type 0
 Marked true cursor deliv needed = cursor ≤ deliv
 Marked false cursor deliv needed = cursor ≤ max deliv needed
 
-pub record Speaks (p : ℕ → List ℕ) (v : View) (tunnel : List Frame) (b : UpBearer) (cursor : ℕ) : Type 0 where
+pub record Speaks (p : ℕ → List ℕ) (v : View) (tunnel : List Frame) (b : CuUpBearer) (cursor : ℕ) : Type 0 where
   pub need : ℕ → ℕ
-  pub downlink : Downlink
+  pub downlink : DownlinkTunnel
   pub there : b.downlink ≡ Some downlink
   pub line : Line p v need (downlink.next) tunnel
   pub marked : b.loss_while_frozen ≡ false → Marked b.restart cursor v.deliv (need (downlink.next))
 
 -- unconfirmed from low on; of it all below sent was put
-pub record Holds (p : ℕ → List ℕ) (is_frozen : Bool) (b : UpBearer) (deliv comes low sent : ℕ) : Type 0 where
+pub record Holds (p : ℕ → List ℕ) (is_frozen : Bool) (b : CuUpBearer) (deliv comes low sent : ℕ) : Type 0 where
   pub unconfirmed_are : b.sender.unconfirmed ≡ upto (pairs p) low comes
   pub low_comes : low ≤ comes
   pub low_deliv : low ≤ deliv

@@ -6,14 +6,14 @@ use Rattle.intervals.specs.Intervals.{segment, upto, HasNoGap, reach}
 use Rattle.intervals.proofs.Intervals.{upto-length, reach-le, HasNoGap-append}
 use Rattle.pdcp_defs.specs.Receivers.{is_ahead}
 use Rattle.unit_defs.specs.Ways.{Pdu, packet_pdu, report_pdu}
-use Rattle.unit_defs.specs.UpRecords.{Downlink}
+use Rattle.unit_defs.specs.CuUpRecords.{DownlinkTunnel}
 use Rattle.unit_defs.specs.Du.{DuBearer}
 use Rattle.law_downlink_order.proofs.chain.Facts.{pairs}
 use Rattle.law_downlink_order.proofs.chain.Runs.{stream}
 use Rattle.law_downlink_order.proofs.chain.Laws.{first_ones}
 use Rattle.law_downlink_order.specs.path.Paths.{Frame, Path, packet_of, start}
 use Rattle.law_downlink_order.specs.path.Steps.{Step, run, packets_in, AreKept}
-use Rattle.law_downlink_order.specs.path.Words.{DeliversInOrder, TakesAtOnce, Follow, packets_of, RunsHaveNoGap, WayHasNoGap, RestartsAtReceived}
+use Rattle.law_downlink_order.specs.path.Words.{DeliversInOrder, TakesAtOnce, Follow, packets_of, RunsHaveNoGap, DownlinkPathHasNoGap, RestartsAtReceived}
 use Rattle.law_downlink_order.proofs.path.Facts.{FitsPacket, Quiet, Fits, Stands, Kept}
 use Rattle.law_downlink_order.proofs.path.Runs.{all_come, kept_run, kept_start}
 
@@ -84,7 +84,7 @@ module _ (p : ℕ → List ℕ) (need : ℕ → ℕ) (deliv comes : ℕ) where
 
 -- ---- of a run
 
-module _ (first : ℕ) (d : Downlink) (du : DuBearer) (os : List Step) (kept : AreKept (start first d du) os) where
+module _ (first : ℕ) (d : DownlinkTunnel) (du : DuBearer) (os : List Step) (kept : AreKept (start first d du) os) where
   p : ℕ → List ℕ
   p = stream (packets_in os)
 
@@ -135,16 +135,16 @@ module _ (first : ℕ) (d : Downlink) (du : DuBearer) (os : List Step) (kept : A
       let at = stands_at p k.need s.terminal.deliv s.comes s.du.awaited before (f ∷ (run_ ++ rest)) (k.downlink.next) st in
       restarts p k.need s.terminal.deliv s.comes at.0 f run_ rest (k.downlink.next) restart at.1 follow
 
-  pub way_has_no_gap : WayHasNoGap (run (start first d du) os)
-  unfolding WayHasNoGap s
+  pub way_has_no_gap : DownlinkPathHasNoGap (run (start first d du) os)
+  unfolding DownlinkPathHasNoGap s
   way_has_no_gap = (
     good.radio.no_gap,
-    λ run_ rest is hears closed follow.
+    λ run_ rest is receives closed follow.
         let k = good.speaks in
         let st = subst (λ fs. Stands p k.need s.terminal.deliv s.comes s.du.awaited fs (k.downlink.next)) is k.line.stands in
         HasNoGap-append s.terminal.deliv s.air (packets_of run_) good.radio.no_gap
         (follows p k.need s.terminal.deliv s.comes s.du.awaited (reach s.terminal.deliv s.air) run_ rest (k.downlink.next) s.du.awaited
-        (reach-le s.terminal.deliv s.air) (k.line.taken hears closed) st follow),
+        (reach-le s.terminal.deliv s.air) (k.line.taken receives closed) st follow),
   )
 
   pub restarts_at_received : RestartsAtReceived (run (start first d du) os)

@@ -3,9 +3,9 @@ use Rattle.std.proofs.Common.{◌≡◌, [], ◌∷◌, refl, arith}
 use Rattle.tables.specs.Tables.{find, put}
 use Rattle.pdcp_defs.specs.Senders.{numbered, restored, confirmed_to, confirmed_by}
 use Rattle.pdcp_defs.specs.Receivers.{is_duplicate, stored, deliver}
-use Rattle.unit_defs.specs.UpBearers.{made}
+use Rattle.unit_defs.specs.CuUpBearers.{made}
 use Rattle.law_downlink_order.specs.path.Paths.{packets_sent, start}
-use Rattle.law_downlink_order.specs.path.Steps.{after, run, IsReady, IsOwed, AreKept}
+use Rattle.law_downlink_order.specs.path.Steps.{after, run, IsReady, IsAssumed, AreKept}
 use Rattle.law_downlink_order.specs.path.Lossy.{lossy, downlink_to, du_bearer, a, b, c, d}
 
 pub lossy_delivers : (run (start 1 (downlink_to 1) du_bearer) lossy).delivered ≡ (0, a) ∷ (1, b) ∷ (2, c) ∷ (3, d) ∷ []
@@ -13,7 +13,7 @@ unfolding lossy start run after made packets_sent numbered restored confirmed_to
 lossy_delivers = refl
 
 pub lossy_kept : AreKept (start 1 (downlink_to 1) du_bearer) lossy
-unfolding lossy start run AreKept IsReady IsOwed after made packets_sent numbered restored confirmed_to confirmed_by is_duplicate stored
+unfolding lossy start run AreKept IsReady IsAssumed after made packets_sent numbered restored confirmed_to confirmed_by is_duplicate stored
     deliver find put
 lossy_kept =
     -- numbers a

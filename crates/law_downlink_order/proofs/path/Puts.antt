@@ -3,7 +3,7 @@ use Rattle.std.proofs.Common.{◌≡◌, ℕ, zero, suc, ◌+◌, ◌-◌, ◌<�
 use Rattle.std.proofs.lemmas.List.{append_assoc, append-nil}
 use Rattle.intervals.specs.Intervals.{segment, upto}
 use Rattle.unit_defs.specs.Ways.{Pdu, packet_pdu, report_pdu}
-use Rattle.unit_defs.specs.UpRecords.{UpBearer}
+use Rattle.unit_defs.specs.CuUpRecords.{CuUpBearer}
 use Rattle.law_downlink_order.proofs.chain.Facts.{pairs}
 use Rattle.law_downlink_order.specs.path.Paths.{Frame, Sending, frame_on, packets_sent}
 use Rattle.law_downlink_order.proofs.path.Facts.{View, FitsPacket, Quiet, Fits, Stands, Line, Marked, Speaks}
@@ -93,12 +93,12 @@ line_then p v need next n tunnel f e h fits =
 -- ---- the CU-UP puts
 
 -- what a frame leaves alone
-pub record Alike (b c : UpBearer) : Type 0 where
+pub record Alike (b c : CuUpBearer) : Type 0 where
   pub sender : c.sender ≡ b.sender
   pub loss : c.loss_while_frozen ≡ b.loss_while_frozen
   pub taken : c.taken_while_frozen ≡ b.taken_while_frozen
 
-abbrev pub Puts : (p : ℕ → List ℕ) (v : View) (tunnel : List Frame) (b : UpBearer) (cursor : ℕ) (sent : Sending) → Type 0
+abbrev pub Puts : (p : ℕ → List ℕ) (v : View) (tunnel : List Frame) (b : CuUpBearer) (cursor : ℕ) (sent : Sending) → Type 0
 Puts p v tunnel b cursor sent = Speaks p v (tunnel ++ sent.frames) sent.bearer cursor × Alike b sent.bearer
 
 -- a poll, or a status report
@@ -123,7 +123,7 @@ module _ (p : ℕ → List ℕ) (v : View) where
   used_up true need next a = rw (needs_then p need v.deliv v.comes next (a + 1)) (omega arith)
   used_up false need next a = rw (needs_then p need v.deliv v.comes next (a + 1)) (omega arith)
 
-  pub puts_one : (tunnel : List Frame) (b : UpBearer) (a : ℕ) → Speaks p v tunnel b a → b.loss_while_frozen ≡ false → a < v.comes
+  pub puts_one : (tunnel : List Frame) (b : CuUpBearer) (a : ℕ) → Speaks p v tunnel b a → b.loss_while_frozen ≡ false → a < v.comes
       → Puts p v tunnel b (a + 1) (frame_on false b.restart (Some (packet_pdu a (p a))) b b.downlink)
   puts_one tunnel b a h none l =
       let need = h.need in
@@ -142,7 +142,7 @@ module _ (p : ℕ → List ℕ) (v : View) where
       )
 
   -- packets in their order
-  pub puts_packets : (n a : ℕ) (tunnel : List Frame) (b : UpBearer) → Speaks p v tunnel b a → b.loss_while_frozen ≡ false
+  pub puts_packets : (n a : ℕ) (tunnel : List Frame) (b : CuUpBearer) → Speaks p v tunnel b a → b.loss_while_frozen ≡ false
       → a + n ≤ v.comes → Puts p v tunnel b (a + n) (packets_sent (segment (pairs p) a n) b)
   unfolding segment packets_sent
   puts_packets zero a tunnel b h none l =
@@ -159,7 +159,7 @@ module _ (p : ℕ → List ℕ) (v : View) where
         record { sender = j.1.sender ∙ k.1.sender; loss = j.1.loss ∙ k.1.loss; taken = j.1.taken ∙ k.1.taken },
       )
 
-  pub puts_upto : (a b : ℕ) (tunnel : List Frame) (c : UpBearer) → Speaks p v tunnel c a → c.loss_while_frozen ≡ false
+  pub puts_upto : (a b : ℕ) (tunnel : List Frame) (c : CuUpBearer) → Speaks p v tunnel c a → c.loss_while_frozen ≡ false
       → b ≤ v.comes → a ≤ b → Puts p v tunnel c b (packets_sent (upto (pairs p) a b) c)
   unfolding upto
   puts_upto a b tunnel c h none l m =
@@ -184,7 +184,7 @@ module _ (p : ℕ → List ℕ) (v : View) where
   still true need next a h = h
   still false need next a h = rw (needs_then p need v.deliv v.comes next (need next)) h
 
-  pub puts_quiet : (poll : Bool) (pdu : Option Pdu) → IsQuiet pdu → (tunnel : List Frame) (b : UpBearer) (a : ℕ) → Speaks p v tunnel b a
+  pub puts_quiet : (poll : Bool) (pdu : Option Pdu) → IsQuiet pdu → (tunnel : List Frame) (b : CuUpBearer) (a : ℕ) → Speaks p v tunnel b a
       → Puts p v tunnel b a (frame_on poll false pdu b b.downlink)
   puts_quiet poll pdu q tunnel b a h =
       let need = h.need in

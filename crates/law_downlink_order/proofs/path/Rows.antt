@@ -8,10 +8,10 @@ use Rattle.gnb_types.specs.declared.outputs.Tag.{Tag}
 use Rattle.gnb_types.specs.declared.outputs.Tag.TheVariants.{Own, Absent, Same}
 use Rattle.gnb_types.specs.declared.reasons.DropReason.TheVariants.{Gap}
 use Rattle.unit_defs.specs.Ways.{Pdu, packet_pdu, report_pdu, frame, Output, packet, radio, dropped, frame_item, status, Way, Answer, gives, spent, with_outputs, ◌then◌}
-use Rattle.unit_defs.specs.UpRecords.{UpBearer, UpAt, Downlink}
-use Rattle.unit_defs.specs.UpBearers.{framed, framed_on, sent, sent_again as row_sends, last_frame}
-use Rattle.unit_defs.specs.UpItems.{lost_frames}
-use Rattle.unit_defs.specs.Du.{Du, DuBearer, DuContext, frame_came, with_bearer, told, missing, is_missing}
+use Rattle.unit_defs.specs.CuUpRecords.{CuUpBearer, CuUpScope, DownlinkTunnel}
+use Rattle.unit_defs.specs.CuUpBearers.{framed, framed_on, sent, sent_again as row_sends, last_frame}
+use Rattle.unit_defs.specs.CuUpItems.{lost_frames}
+use Rattle.unit_defs.specs.Du.{Du, DuBearer, DuContext, frame_received, with_bearer, told, missing, is_missing}
 use Rattle.law_downlink_order.specs.path.Paths.{Frame, Sending, frame_on, packets_sent, gap_after, taken_by}
 use Rattle.law_downlink_order.specs.path.Steps.{sent_again, sent_anew}
 use Rattle.law_downlink_order.specs.path.Shown.{pdu_written, written, loads_of, PutsFrames, radio_of, goes_on, Carries}
@@ -28,8 +28,8 @@ radio-append [] ys = refl
 radio-append (radio ue bearer Dl epoch tag pdu ∷ xs) ys = ap (λ zs. pdu ∷ zs) (radio-append xs ys)
 radio-append (_ ∷ xs) ys = radio-append xs ys
 
-module _ {M C P : Type 0} (way : Way M C P) (at : UpAt) where
-  on_tunnel : (poll restart : Bool) (pdu : Option Pdu) (tag : Tag) (b : UpBearer) (d : Option Downlink)
+module _ {M C P : Type 0} (way : Way M C P) (at : CuUpScope) where
+  on_tunnel : (poll restart : Bool) (pdu : Option Pdu) (tag : Tag) (b : CuUpBearer) (d : Option DownlinkTunnel)
       → PutsFrames way at.sn (frame_on poll restart pdu b d) (framed_on way at b poll restart (pdu_written way at.sn pdu) tag d)
   unfolding PutsFrames loads_of
   on_tunnel poll restart pdu tag b None = (refl, refl)
@@ -42,27 +42,27 @@ module _ {M C P : Type 0} (way : Way M C P) (at : UpAt) where
       by true = tt
       by false = (refl, refl)
 
-  pub puts_a_frame : (poll restart : Bool) (pdu : Option Pdu) (tag : Tag) (b : UpBearer)
+  pub puts_a_frame : (poll restart : Bool) (pdu : Option Pdu) (tag : Tag) (b : CuUpBearer)
       → PutsFrames way at.sn (frame_on poll restart pdu b b.downlink) (framed way at poll restart (pdu_written way at.sn pdu) tag b)
   unfolding framed
   puts_a_frame poll restart pdu tag b = on_tunnel poll restart pdu tag b b.downlink
 
   -- frames, and then others
-  and_then : (one : Sending) (x : Answer M P UpBearer) (more : UpBearer → Sending) (row : UpBearer → Answer M P UpBearer)
-      → PutsFrames way at.sn one x → ((b : UpBearer) → PutsFrames way at.sn (more b) (row b))
+  and_then : (one : Sending) (x : Answer M P CuUpBearer) (more : CuUpBearer → Sending) (row : CuUpBearer → Answer M P CuUpBearer)
+      → PutsFrames way at.sn one x → ((b : CuUpBearer) → PutsFrames way at.sn (more b) (row b))
       → PutsFrames way at.sn (record { frames = one.frames ++ (more one.bearer).frames; bearer = (more one.bearer).bearer }) (x then row)
   unfolding PutsFrames
   and_then one (spent counter) more row h k = tt
   and_then one (gives outputs b) more row h k = rw h.1 (by (row one.bearer) (k one.bearer))
     where
-      by : (y : Answer M P UpBearer) → PutsFrames way at.sn (more one.bearer) y
+      by : (y : Answer M P CuUpBearer) → PutsFrames way at.sn (more one.bearer) y
           → PutsFrames way at.sn (record { frames = one.frames ++ (more one.bearer).frames; bearer = (more one.bearer).bearer })
           (with_outputs outputs y)
       by (spent counter) i = tt
       by (gives others c) i =
           (loads-append outputs others ∙ rw (h.0, i.0) (sym (map-append (written way at.sn) one.frames (more one.bearer).frames)), i.1)
 
-  pub sends_packets : (es : List (ℕ × List ℕ)) (b : UpBearer) → PutsFrames way at.sn (packets_sent es b) (row_sends way at es b)
+  pub sends_packets : (es : List (ℕ × List ℕ)) (b : CuUpBearer) → PutsFrames way at.sn (packets_sent es b) (row_sends way at es b)
   unfolding row_sends packets_sent sent PutsFrames loads_of
   sends_packets [] b = (refl, refl)
   sends_packets (e ∷ es) b = and_then (frame_on false b.restart (Some (packet_pdu e.0 e.1)) b b.downlink)
@@ -70,7 +70,7 @@ module _ {M C P : Type 0} (way : Way M C P) (at : UpAt) where
       (λ c. row_sends way at es c)
       (puts_a_frame false b.restart (Some (packet_pdu e.0 e.1)) (Own e.0) b) (λ c. sends_packets es c)
 
-  pub sends_anew : (fmc : ℕ) (bits : List Bool) (b : UpBearer)
+  pub sends_anew : (fmc : ℕ) (bits : List Bool) (b : CuUpBearer)
       → PutsFrames way at.sn (sent_anew fmc bits b)
       (framed way at false false (Some (way.write at.sn (report_pdu fmc bits))) Absent b then (λ c. row_sends way at c.sender.unconfirmed c))
   sends_anew fmc bits b = and_then (frame_on false false (Some (report_pdu fmc bits)) b b.downlink)
@@ -78,7 +78,7 @@ module _ {M C P : Type 0} (way : Way M C P) (at : UpAt) where
       (λ c. row_sends way at c.sender.unconfirmed c) (puts_a_frame false false (Some (report_pdu fmc bits)) Absent b)
       (λ c. sends_packets c.sender.unconfirmed c)
 
-  pub sends_after_a_loss : (lost : List (ℕ × ℕ)) (b : UpBearer)
+  pub sends_after_a_loss : (lost : List (ℕ × ℕ)) (b : CuUpBearer)
       → PutsFrames way at.sn (sent_again at.flags.frozen lost b) (lost_frames way at lost b)
   unfolding PutsFrames loads_of
   sends_after_a_loss [] b = by at.flags.frozen
@@ -122,14 +122,14 @@ module _ {M C P : Type 0} (way : Way M C P) (ue : UeId) (bearer : BearerId) (c :
 
   pub takes_a_frame : (f : Frame)
       → Carries (goes_on (gap_after b f f.pdu) (pdu_written way c.sn f.pdu)) (with_bearer way ue bearer c (taken_by b f) r)
-      (frame_came way ue bearer c b (frame_item f.poll f.restart f.number (pdu_written way c.sn f.pdu)) r)
+      (frame_received way ue bearer c b (frame_item f.poll f.restart f.number (pdu_written way c.sn f.pdu)) r)
   unfolding Carries radio_of
   takes_a_frame f = by f.pdu
     where
       by : (pdu : Option Pdu)
           → Carries (goes_on (gap_after b f pdu) (pdu_written way c.sn pdu))
           (with_bearer way ue bearer c (record b { awaited = f.number + 1; gap = gap_after b f pdu }) r)
-          (frame_came way ue bearer c b (frame_item f.poll f.restart f.number (pdu_written way c.sn pdu)) r)
+          (frame_received way ue bearer c b (frame_item f.poll f.restart f.number (pdu_written way c.sn pdu)) r)
       by None = (after_told f.poll f.number [] ∙ sym (no_pdu (gap_after b f None)), refl)
       by (Some pdu) = by_gap (gap_after b f (Some pdu)) f.poll f.number (way.write c.sn pdu)
           (with_bearer way ue bearer c (record b { awaited = f.number + 1; gap = gap_after b f (Some pdu) }) r)

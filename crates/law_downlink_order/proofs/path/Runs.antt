@@ -3,12 +3,12 @@ use Rattle.std.proofs.Common.{◌≡◌, ℕ, suc, ◌+◌, ◌≤◌, Bool, tru
 use Rattle.std.specs.Prelude.{⊤}
 use Rattle.intervals.specs.Intervals.{segment, upto, HasNoGap, reach}
 use Rattle.pdcp_defs.specs.Receivers.{Delivery, is_duplicate, stored, deliver}
-use Rattle.unit_defs.specs.UpRecords.{Downlink}
-use Rattle.unit_defs.specs.UpBearers.{made}
+use Rattle.unit_defs.specs.CuUpRecords.{DownlinkTunnel}
+use Rattle.unit_defs.specs.CuUpBearers.{made}
 use Rattle.unit_defs.specs.Du.{DuBearer}
 use Rattle.law_downlink_order.proofs.chain.Runs.{stream}
 use Rattle.law_downlink_order.specs.path.Paths.{Path, start}
-use Rattle.law_downlink_order.specs.path.Steps.{Step, numbers, sends, keeps, polls, reports, status, confirms, freezes, resumes, fails, begins_anew, loses, takes, carries, handed, after, run, packets_in, IsReady, IsOwed, AreKept}
+use Rattle.law_downlink_order.specs.path.Steps.{Step, numbers, sends, keeps, polls, reports, status, confirms, freezes, resumes, fails, begins_anew, loses, takes, carries, handed, after, run, packets_in, IsReady, IsAssumed, AreKept}
 use Rattle.law_downlink_order.proofs.path.Facts.{Stands, Marked, Kept}
 use Rattle.law_downlink_order.proofs.path.Senders.{kept_numbers, kept_sends, kept_keeps, kept_polls, kept_reports, kept_status, kept_confirms}
 use Rattle.law_downlink_order.proofs.path.Control.{kept_freezes, kept_resumes, kept_fails, kept_begins_anew}
@@ -32,8 +32,8 @@ Comes p s (sends count packet) = packet ≡ p s.comes
 Comes p s (keeps count packet) = packet ≡ p s.comes
 Comes p s o = ⊤
 
-pub kept_step : (p : ℕ → List ℕ) (base : ℕ) (s : Path) (k : Kept p base s) (o : Step) → IsReady s o → IsOwed s o → Comes p s o → Kept p base (after s o)
-unfolding IsReady IsOwed Comes
+pub kept_step : (p : ℕ → List ℕ) (base : ℕ) (s : Path) (k : Kept p base s) (o : Step) → IsReady s o → IsAssumed s o → Comes p s o → Kept p base (after s o)
+unfolding IsReady IsAssumed Comes
 kept_step p base s k (numbers packet) r d is = kept_numbers p base s k packet r d is
 kept_step p base s k (sends count packet) r d is = kept_sends p base s k count packet r d is
 kept_step p base s k (keeps count packet) r d is = kept_keeps p base s k count packet r d is
@@ -49,9 +49,9 @@ kept_step p base s k (loses before frame rest) r d is = kept_loses p base s k be
 kept_step p base s k (takes frame rest) r d is = kept_takes p base s k frame rest r
 kept_step p base s k (carries count packet rest) r d is = kept_carries p base s k count packet rest r
 
-heard : (s : Path) (rest : List (ℕ × List ℕ)) (b : Bool) (d : Delivery (List ℕ)) → (handed (record s { air = rest }) b d).comes ≡ s.comes
-heard s rest true d = refl
-heard s rest false d = refl
+was_received : (s : Path) (rest : List (ℕ × List ℕ)) (b : Bool) (d : Delivery (List ℕ)) → (handed (record s { air = rest }) b d).comes ≡ s.comes
+was_received s rest true d = refl
+was_received s rest false d = refl
 
 -- what a step brings, and what is left to come
 comes_after : (p : ℕ → List ℕ) (s : Path) (o : Step) (os : List Step) → Agrees p s.comes (packets_in (o ∷ os))
@@ -63,7 +63,7 @@ comes_after p s (keeps count packet) os h = agrees_first p s.comes packet (packe
 comes_after p s (carries count packet rest) os h = (
   tt,
   subst (λ n. Agrees p n (packets_in os))
-      (sym (heard s rest (is_duplicate s.terminal count) (deliver (stored s.terminal count packet)))) h,
+      (sym (was_received s rest (is_duplicate s.terminal count) (deliver (stored s.terminal count packet)))) h,
 )
 comes_after p s _ os h = (tt, h)
 
@@ -74,7 +74,7 @@ counts_after s (numbers packet) os = omega arith
 counts_after s (sends count packet) os = omega arith
 counts_after s (keeps count packet) os = omega arith
 counts_after s (carries count packet rest) os = ap (λ n. n + length (packets_in os))
-    (heard s rest (is_duplicate s.terminal count) (deliver (stored s.terminal count packet)))
+    (was_received s rest (is_duplicate s.terminal count) (deliver (stored s.terminal count packet)))
 counts_after s _ os = refl
 
 pub all_come : (s : Path) (os : List Step) → (run s os).comes ≡ s.comes + length (packets_in os)
@@ -90,7 +90,7 @@ kept_run p base s (o ∷ os) k a h =
     let e = comes_after p s o os h in
     kept_run p base (after s o) os (kept_step p base s k o a.0 a.1 e.0) a.2 e.1
 
-pub kept_start : (p : ℕ → List ℕ) (first : ℕ) (d : Downlink) (du : DuBearer) → Kept p 0 (start first d du)
+pub kept_start : (p : ℕ → List ℕ) (first : ℕ) (d : DownlinkTunnel) (du : DuBearer) → Kept p 0 (start first d du)
 unfolding start made reach HasNoGap upto segment Stands Marked
 kept_start p first d du = record {
   low = 0;

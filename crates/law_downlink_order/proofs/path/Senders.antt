@@ -6,8 +6,8 @@ use Rattle.intervals.specs.Intervals.{segment, upto}
 use Rattle.intervals.proofs.Intervals.{upto-nil, upto-snoc, upto-filter}
 use Rattle.pdcp_defs.specs.Senders.{Sender, numbered as with_next, restored, confirmed_to, confirmed_by, is_reported}
 use Rattle.unit_defs.specs.Ways.{report_pdu}
-use Rattle.unit_defs.specs.UpRecords.{UpBearer}
-use Rattle.unit_defs.specs.UpBearers.{is_one_of}
+use Rattle.unit_defs.specs.CuUpRecords.{CuUpBearer}
+use Rattle.unit_defs.specs.CuUpBearers.{is_one_of}
 use Rattle.bearer_defs.specs.chain_defs.Orders.{holds}
 use Rattle.law_downlink_order.proofs.chain.Facts.{pairs}
 use Rattle.law_downlink_order.proofs.chain.Frames.{apart}
@@ -23,7 +23,7 @@ unfolding Marked
 marked_later true cursor deliv later needed l h = let a : cursor ≤ deliv = h in omega arith
 marked_later false cursor deliv later needed l h = let a : cursor ≤ max deliv needed = h in omega arith
 
-pub speaks_later : (p : ℕ → List ℕ) (v : View) (tunnel : List Frame) (b : UpBearer) (cursor later more reached : ℕ) → v.deliv ≤ later
+pub speaks_later : (p : ℕ → List ℕ) (v : View) (tunnel : List Frame) (b : CuUpBearer) (cursor later more reached : ℕ) → v.deliv ≤ later
     → v.comes ≤ more → v.reached ≤ reached → Speaks p v tunnel b cursor
     → Speaks p (record v { deliv = later; comes = more; reached = reached }) tunnel b cursor
 speaks_later p v tunnel b cursor later more reached l m n h = record {
@@ -50,7 +50,7 @@ radio_more p limit more deliv stored air delivered l r = record {
   none_stored = r.none_stored;
 }
 
-holds_alike : (p : ℕ → List ℕ) (f : Bool) (b c : UpBearer) (deliv comes low sent : ℕ) → Alike b c → Holds p f b deliv comes low sent
+holds_alike : (p : ℕ → List ℕ) (f : Bool) (b c : CuUpBearer) (deliv comes low sent : ℕ) → Alike b c → Holds p f b deliv comes low sent
     → Holds p f c deliv comes low sent
 holds_alike p f b c deliv comes low sent a h = record {
   unconfirmed_are = ap (λ (x : Sender (List ℕ)). x.unconfirmed) a.sender ∙ h.unconfirmed_are;
@@ -62,7 +62,7 @@ holds_alike p f b c deliv comes low sent a h = record {
 }
 
 -- a bearer sends
-pub kept_sent : (p : ℕ → List ℕ) (base : ℕ) (s : Path) (f : Bool) (more : ℕ) (b : UpBearer) (sent : Sending) (low cursor : ℕ) → s.comes ≤ more
+pub kept_sent : (p : ℕ → List ℕ) (base : ℕ) (s : Path) (f : Bool) (more : ℕ) (b : CuUpBearer) (sent : Sending) (low cursor : ℕ) → s.comes ≤ more
     → Holds p f b s.terminal.deliv more low cursor → Puts p (record (view s) { comes = more }) s.tunnel b cursor sent → RadioOf p base s
     → Kept p base (record (put s sent) { comes = more; frozen = f })
 kept_sent p base s f more b sent low cursor l h j r = record {
@@ -112,7 +112,7 @@ module _ (p : ℕ → List ℕ) (base : ℕ) (s : Path) (k : Kept p base s) wher
   -- ---- a packet comes
 
   -- it is held, and sent
-  sends_one : (b : UpBearer) (count : ℕ) (packet : List ℕ) → s.frozen ≡ false → count ≡ s.comes → packet ≡ p s.comes
+  sends_one : (b : CuUpBearer) (count : ℕ) (packet : List ℕ) → s.frozen ≡ false → count ≡ s.comes → packet ≡ p s.comes
       → b.downlink ≡ s.bearer.downlink → b.restart ≡ s.bearer.restart → b.loss_while_frozen ≡ s.bearer.loss_while_frozen
       → b.sender.unconfirmed ≡ s.bearer.sender.unconfirmed ++ (count, packet) ∷ []
       → Kept p base (record (put s (packets_sent ((count, packet) ∷ []) b)) { comes = s.comes + 1 })
@@ -291,7 +291,7 @@ module _ (p : ℕ → List ℕ) (base : ℕ) (s : Path) (k : Kept p base s) wher
       })
   sends_all false is (range ∷ ranges) =
       let all = k.holds.all_sent is in
-      let b : UpBearer = record s.bearer { restart = true } in
+      let b : CuUpBearer = record s.bearer { restart = true } in
       let j = puts_upto p v k.low s.comes s.tunnel b again_from all.1 (omega arith) k.holds.low_comes in
       kept_sent p base s s.frozen s.comes b (packets_sent s.bearer.sender.unconfirmed b) k.low s.comes (omega arith)
       (record {

@@ -6,14 +6,14 @@ use Rattle.gnb_types.specs.declared.names.SnBits.{SnBits}
 use Rattle.intervals.specs.Intervals.{HasNoGap}
 use Rattle.intervals.proofs.Intervals.{upto-no_gap}
 use Rattle.pdcp_defs.specs.Senders.{window}
-use Rattle.unit_defs.specs.UpBearers.{owed}
-use Rattle.unit_defs.specs.UpRecords.{Downlink}
-use Rattle.bearer_defs.specs.chain_defs.Parts.{Item, Part, start}
-use Rattle.bearer_defs.specs.chain_defs.Orders.{after, numbers, Order, resumes, run, sends, sends_again, switches, offers_in}
-use Rattle.bearer_defs.specs.chain_defs.Guards.{AreKept}
+use Rattle.unit_defs.specs.CuUpBearers.{owed}
+use Rattle.unit_defs.specs.CuUpRecords.{DownlinkTunnel}
+use Rattle.bearer_defs.specs.chain_defs.Models.{Item, Model, initial}
+use Rattle.bearer_defs.specs.chain_defs.Orders.{after, numbers, ModelStep, resumes, run, sends, sends_again, switches, offers_in}
+use Rattle.bearer_defs.specs.chain_defs.Assumptions.{AreKept}
 use Rattle.law_downlink_order.proofs.chain.Facts.{Good}
 use Rattle.law_downlink_order.proofs.chain.Runs.{stream, agrees, kept_run, good_start}
-use Rattle.law_downlink_order.specs.heard_packets.Heard.{StandsAmong, WasPut}
+use Rattle.law_downlink_order.specs.received_packets.Received.{StandsAmong, WasPut}
 
 number_same : (a b : ℕ) → a ≡ b → (a == b) ≡ true
 number_same a b e = grind arith
@@ -37,7 +37,7 @@ all_right deliv xs [] all = tt
 all_right deliv xs (y ∷ ys) all = (inr all.0, all_right deliv xs ys all.1)
 
 -- where the context was switched for the present radio
-module _ (s : Part) (epoch : ℕ) (same : epoch ≡ s.epoch) (items : List (ℕ × List ℕ)) where
+module _ (s : Model) (epoch : ℕ) (same : epoch ≡ s.epoch) (items : List (ℕ × List ℕ)) where
   abbrev air : List (ℕ × List ℕ)
   air = if epoch == s.epoch then s.air ++ items else s.air
 
@@ -49,7 +49,7 @@ module _ (s : Part) (epoch : ℕ) (same : epoch ≡ s.epoch) (items : List (ℕ 
       subst (λ (xs : List (ℕ × List ℕ)). AllByRecursion (λ (e : ℕ × List ℕ). (e.0 < s.terminal.deliv) ⊎ StandsAmong e.0 e.1 xs) items) air_is
       (all_right s.terminal.deliv (s.air ++ items) items (all_among (s.air ++ items) items (λ e h. among_then e.0 e.1 s.air items h)))
 
-module _ (s : Part) (x : ℕ) where
+module _ (s : Model) (x : ℕ) where
   pub numbered : (packet : List ℕ) (rest : List (List ℕ)) → (s.members x).epoch ≡ s.epoch
       → WasPut (after s (numbers x packet rest)) (s.members x).bearer.sender.next packet
   unfolding after
@@ -64,7 +64,7 @@ module _ (s : Part) (x : ℕ) where
   unfolding after
   sent_again same = all_put s (s.members x).epoch same (s.members x).bearer.sender.unconfirmed
 
-  pub switched : (downlink : Downlink) → (s.members x).flags.may_serve ≡ true
+  pub switched : (downlink : DownlinkTunnel) → (s.members x).flags.may_serve ≡ true
       → AllByRecursion (λ (e : ℕ × List ℕ). WasPut (after s (switches x downlink s.epoch)) e.0 e.1) (s.members x).bearer.sender.unconfirmed
   unfolding after
   switched downlink known =
@@ -79,14 +79,14 @@ module _ (s : Part) (x : ℕ) where
 
 -- ---- what nothing confirmed
 
-module _ (sn : SnBits) (quota first teid : ℕ) (os : List Order) (kept : AreKept sn quota (start first teid) os) where
-  abbrev s : Part
-  s = run (start first teid) os
+module _ (sn : SnBits) (quota first teid : ℕ) (os : List ModelStep) (kept : AreKept sn quota (initial first teid) os) where
+  abbrev s : Model
+  s = run (initial first teid) os
 
   good : Good (stream (offers_in os)) (window sn quota) s
-  unfolding start
+  unfolding initial
   good =
-      kept_run (stream (offers_in os)) sn quota (start first teid) os (good_start (stream (offers_in os)) (window sn quota) first teid) kept
+      kept_run (stream (offers_in os)) sn quota (initial first teid) os (good_start (stream (offers_in os)) (window sn quota) first teid) kept
       (agrees (offers_in os))
 
   pub unconfirmed_fits : (x : ℕ) → (s.members x).is_there ≡ true → (s.members x).flags.released ≡ false

@@ -2,13 +2,13 @@
 use Rattle.std.proofs.Common.{◌≡◌, ℕ, suc, ◌+◌, ◌≤◌, max, Bool, true, false, not, ◌&&◌, List, [], ◌∷◌, ◌++◌, length, Option, Some, None, refl, sym, ap, subst, ◌∙◌, arith}
 use Rattle.std.specs.List.{AllByRecursion}
 use Rattle.intervals.specs.Intervals.{HasNoGap, reach}
-use Rattle.bearer_defs.specs.chain_defs.Parts.{Part}
+use Rattle.bearer_defs.specs.chain_defs.Models.{Model}
 use Rattle.unit_defs.specs.Ways.{Pdu, packet_pdu, report_pdu}
-use Rattle.unit_defs.specs.UpRecords.{Downlink, UpBearer}
+use Rattle.unit_defs.specs.CuUpRecords.{DownlinkTunnel, CuUpBearer}
 use Rattle.unit_defs.specs.Du.{DuBearer}
 use Rattle.law_downlink_order.specs.path.Paths.{Frame, Sending, carried_by, frame_on, gap_after, packets_sent, taken_by}
 use Rattle.law_downlink_order.specs.path.Steps.{anew, sent_again, sent_anew}
-use Rattle.law_downlink_order.specs.heard_packets.Heard.{WasPut}
+use Rattle.law_downlink_order.specs.received_packets.Received.{WasPut}
 use Rattle.law_downlink_order.specs.waiting_frames.Frames.{Fits, MayPut, needed_after, MayPutAll, needed_by, from_here}
 use Rattle.law_downlink_order.proofs.waiting_frames.Frames.{puts_what_fits, line_without, line_taken}
 use Rattle.law_downlink_order.proofs.waiting_frames.Puts.{line_fresh, line_more, packets_fit}
@@ -29,14 +29,14 @@ reach_later n m (e ∷ es) l = reach_later (max n (e.0 + 1)) (max m (e.0 + 1)) e
 -- ---- packets
 
 -- the number of the next frame, afterwards
-next_sent : (packets : List (ℕ × List ℕ)) (c : UpBearer) (l : Downlink) → c.downlink ≡ Some l
+next_sent : (packets : List (ℕ × List ℕ)) (c : CuUpBearer) (l : DownlinkTunnel) → c.downlink ≡ Some l
     → (packets_sent packets c).bearer.downlink ≡ Some (record l { next = l.next + length (packets_sent packets c).frames })
 unfolding packets_sent
 next_sent [] c l there = there ∙ (let same : l.next ≡ l.next + 0 = omega arith in ap (λ (n : ℕ). Some (record l { next = n })) same)
 next_sent (e ∷ es) c l there =
-    subst (λ (o : Option Downlink). After (with_one o)) (sym there) (next_is (next_sent es one (record l { next = l.next + 1 }) refl))
+    subst (λ (o : Option DownlinkTunnel). After (with_one o)) (sym there) (next_is (next_sent es one (record l { next = l.next + 1 }) refl))
   where
-    with_one : Option Downlink → Sending
+    with_one : Option DownlinkTunnel → Sending
     with_one o =
         let one = frame_on false c.restart (Some (packet_pdu e.0 e.1)) c o in
         let more = packets_sent es one.bearer in
@@ -45,7 +45,7 @@ next_sent (e ∷ es) c l there =
     After : Sending → Type 0
     After sent = sent.bearer.downlink ≡ Some (record l { next = l.next + length sent.frames })
 
-    one : UpBearer
+    one : CuUpBearer
     one = record c { downlink = Some (record l { next = l.next + 1 }); restart = c.restart && not c.restart }
 
     next_is : (packets_sent es one).bearer.downlink ≡ Some (record l { next = l.next + 1 + length (packets_sent es one).frames })
@@ -54,8 +54,8 @@ next_sent (e ∷ es) c l there =
         h ∙ (let same : l.next + 1 + length (packets_sent es one).frames ≡ l.next + suc (length (packets_sent es one).frames) = omega arith in
         ap (λ (n : ℕ). Some (record l { next = n })) same)
 
-module _ (d : Part) (b : DuBearer) (waits : List (ℕ × List ℕ)) where
-  pub sends : (c : UpBearer) (frames : List Frame) (cursor : ℕ) (packets : List (ℕ × List ℕ)) → IsSender d c b frames waits cursor
+module _ (d : Model) (b : DuBearer) (waits : List (ℕ × List ℕ)) where
+  pub sends : (c : CuUpBearer) (frames : List Frame) (cursor : ℕ) (packets : List (ℕ × List ℕ)) → IsSender d c b frames waits cursor
       → AllByRecursion (λ (e : ℕ × List ℕ). WasPut d e.0 e.1) packets → HasNoGap cursor packets
       → IsSender d (packets_sent packets c).bearer b (frames ++ (packets_sent packets c).frames) waits (reach cursor packets)
   sends c frames cursor packets h all no_gap =
@@ -90,31 +90,31 @@ module _ (d : Part) (b : DuBearer) (waits : List (ℕ × List ℕ)) where
   quiet_may needed (Some (report_pdu fmc bits)) quiet = refl
   quiet_may needed (Some (packet_pdu count packet)) quiet = absurd quiet
 
-  still_owed : (r : Bool) → (r && true) ≡ r
-  still_owed true = refl
-  still_owed false = refl
+  still_assumed : (r : Bool) → (r && true) ≡ r
+  still_assumed true = refl
+  still_assumed false = refl
 
-  quiet : (c : UpBearer) (frames : List Frame) (cursor : ℕ) (poll : Bool) (pdu : Option Pdu) → IsQuiet pdu → IsSender d c b frames waits cursor
+  quiet : (c : CuUpBearer) (frames : List Frame) (cursor : ℕ) (poll : Bool) (pdu : Option Pdu) → IsQuiet pdu → IsSender d c b frames waits cursor
       → IsSender d (frame_on poll false pdu c c.downlink).bearer b (frames ++ (frame_on poll false pdu c c.downlink).frames) waits cursor
   unfolding MayPutAll needed_by
   quiet c frames cursor poll pdu is_quiet h =
-      subst (λ (o : Option Downlink). IsSender d (frame_on poll false pdu c o).bearer b (frames ++ (frame_on poll false pdu c o).frames) waits cursor)
+      subst (λ (o : Option DownlinkTunnel). IsSender d (frame_on poll false pdu c o).bearer b (frames ++ (frame_on poll false pdu c o).frames) waits cursor)
       (sym h.there) (record {
         downlink = record h.downlink { next = h.downlink.next + 1 };
         there = refl;
         needed = needed_after h.needed false pdu;
         line = line_more d b frames (record { poll = poll; restart = false; number = h.downlink.next; pdu = pdu } ∷ []) waits h.downlink.next h.needed h.line
             (refl, quiet_may h.needed pdu is_quiet, tt);
-        marked = subst (λ (r : Bool). cursor ≤ from_here r d.terminal.deliv (needed_after h.needed false pdu)) (sym (still_owed c.restart))
+        marked = subst (λ (r : Bool). cursor ≤ from_here r d.terminal.deliv (needed_after h.needed false pdu)) (sym (still_assumed c.restart))
             (subst (λ (n : ℕ). cursor ≤ from_here c.restart d.terminal.deliv n) (sym (quiet_needs h.needed pdu is_quiet)) h.marked);
       })
 
-  pub polls : (c : UpBearer) (frames : List Frame) (cursor : ℕ) (poll : Bool) → IsSender d c b frames waits cursor
+  pub polls : (c : CuUpBearer) (frames : List Frame) (cursor : ℕ) (poll : Bool) → IsSender d c b frames waits cursor
       → IsSender d (frame_on poll false None c c.downlink).bearer b (frames ++ (frame_on poll false None c c.downlink).frames) waits cursor
   unfolding IsQuiet
   polls c frames cursor poll h = quiet c frames cursor poll None tt h
 
-  pub reports : (c : UpBearer) (frames : List Frame) (cursor : ℕ) (poll : Bool) (fmc : ℕ) (bits : List Bool) → IsSender d c b frames waits cursor
+  pub reports : (c : CuUpBearer) (frames : List Frame) (cursor : ℕ) (poll : Bool) (fmc : ℕ) (bits : List Bool) → IsSender d c b frames waits cursor
       → IsSender d (frame_on poll false (Some (report_pdu fmc bits)) c c.downlink).bearer b
       (frames ++ (frame_on poll false (Some (report_pdu fmc bits)) c c.downlink).frames) waits cursor
   unfolding IsQuiet
@@ -122,7 +122,7 @@ module _ (d : Part) (b : DuBearer) (waits : List (ℕ × List ℕ)) where
 
   -- ---- all that nothing confirmed, after a loss
 
-  pub again : (c : UpBearer) (frames : List Frame) (cursor : ℕ) (range : ℕ × ℕ) (ranges : List (ℕ × ℕ)) → IsSender d c b frames waits cursor
+  pub again : (c : CuUpBearer) (frames : List Frame) (cursor : ℕ) (range : ℕ × ℕ) (ranges : List (ℕ × ℕ)) → IsSender d c b frames waits cursor
       → AllByRecursion (λ (e : ℕ × List ℕ). WasPut d e.0 e.1) c.sender.unconfirmed → HasNoGap d.terminal.deliv c.sender.unconfirmed
       → IsSender d (sent_again false (range ∷ ranges) c).bearer b (frames ++ (sent_again false (range ∷ ranges) c).frames) waits
       (reach d.terminal.deliv c.sender.unconfirmed)
@@ -132,7 +132,7 @@ module _ (d : Part) (b : DuBearer) (waits : List (ℕ × List ℕ)) where
 
 -- ---- a new tunnel
 
-pub begins : (d : Part) (c : UpBearer) (b : DuBearer) (waits : List (ℕ × List ℕ)) (l : Downlink) (fmc : ℕ) (bits : List Bool)
+pub begins : (d : Model) (c : CuUpBearer) (b : DuBearer) (waits : List (ℕ × List ℕ)) (l : DownlinkTunnel) (fmc : ℕ) (bits : List Bool)
     → AllByRecursion (λ (e : ℕ × List ℕ). WasPut d e.0 e.1) c.sender.unconfirmed → HasNoGap d.terminal.deliv c.sender.unconfirmed
     → IsSender d (sent_anew fmc bits (anew c l)).bearer (record b { downlink = l.teid; awaited = 0; gap = false }) (sent_anew fmc bits (anew c l)).frames waits
     (reach d.terminal.deliv c.sender.unconfirmed)
@@ -146,7 +146,7 @@ begins d c b waits l fmc bits all no_gap =
 
 -- ---- the DU, a loss, the terminal
 
-pub du_takes : (d : Part) (c : UpBearer) (b : DuBearer) (f : Frame) (rest : List Frame) (waits : List (ℕ × List ℕ)) (cursor : ℕ)
+pub du_takes : (d : Model) (c : CuUpBearer) (b : DuBearer) (f : Frame) (rest : List Frame) (waits : List (ℕ × List ℕ)) (cursor : ℕ)
     → IsSender d c b (f ∷ rest) waits cursor
     → Fits d waits (carried_by (gap_after b f f.pdu) f.pdu)
     × IsSender d c (taken_by b f) rest (waits ++ carried_by (gap_after b f f.pdu) f.pdu) cursor
@@ -154,7 +154,7 @@ du_takes d c b f rest waits cursor h =
     let it = puts_what_fits d b f rest waits h.downlink.next h.needed h.line in
     (it.0, record { downlink = h.downlink; there = h.there; needed = h.needed; line = it.1; marked = h.marked })
 
-pub one_lost : (d : Part) (c : UpBearer) (b : DuBearer) (before : List Frame) (f : Frame) (rest : List Frame) (waits : List (ℕ × List ℕ)) (cursor : ℕ)
+pub one_lost : (d : Model) (c : CuUpBearer) (b : DuBearer) (before : List Frame) (f : Frame) (rest : List Frame) (waits : List (ℕ × List ℕ)) (cursor : ℕ)
     → IsSender d c b (before ++ f ∷ rest) waits cursor → IsSender d c b (before ++ rest) waits cursor
 one_lost d c b before f rest waits cursor h = record {
   downlink = h.downlink;
@@ -168,10 +168,10 @@ from_later : (r : Bool) (n m needed : ℕ) → n ≤ m → from_here r n needed 
 from_later true n m needed l = l
 from_later false n m needed l = omega (arith, l)
 
-pub one_heard : (d e : Part) (c : UpBearer) (b : DuBearer) (frames : List Frame) (count : ℕ) (packet : List ℕ) (left : List (ℕ × List ℕ)) (cursor : ℕ)
+pub one_received : (d e : Model) (c : CuUpBearer) (b : DuBearer) (frames : List Frame) (count : ℕ) (packet : List ℕ) (left : List (ℕ × List ℕ)) (cursor : ℕ)
     → e.terminal.deliv ≡ max d.terminal.deliv (count + 1) → ((other : ℕ) (one : List ℕ) → WasPut d other one → WasPut e other one)
     → IsSender d c b frames ((count, packet) ∷ left) cursor → IsSender e c b frames left cursor
-one_heard d e c b frames count packet left cursor up on h =
+one_received d e c b frames count packet left cursor up on h =
     let more : d.terminal.deliv ≤ e.terminal.deliv = omega (arith, up) in
     let far = from_later c.restart d.terminal.deliv e.terminal.deliv h.needed more in
     let marked = h.marked in

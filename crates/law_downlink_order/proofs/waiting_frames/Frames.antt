@@ -3,11 +3,11 @@ use Rattle.std.proofs.Common.{◌≡◌, ℕ, ◌+◌, ◌≤◌, max, Bool, tru
 use Rattle.std.proofs.lemmas.List.{append-nil}
 use Rattle.intervals.specs.Intervals.{HasNoGap, reach}
 use Rattle.intervals.proofs.Intervals.{reach-le, reach-append}
-use Rattle.bearer_defs.specs.chain_defs.Parts.{Part}
+use Rattle.bearer_defs.specs.chain_defs.Models.{Model}
 use Rattle.unit_defs.specs.Ways.{Pdu, packet_pdu, report_pdu}
 use Rattle.unit_defs.specs.Du.{DuBearer}
 use Rattle.law_downlink_order.specs.path.Paths.{Frame, carried_by, gap_after, taken_by}
-use Rattle.law_downlink_order.specs.heard_packets.Heard.{WasPut}
+use Rattle.law_downlink_order.specs.received_packets.Received.{WasPut}
 use Rattle.law_downlink_order.specs.waiting_frames.Frames.{Fits, MayPut, needed_after, Stand, IsLine}
 
 -- ---- a gap that isn't open after a frame
@@ -27,7 +27,7 @@ awaited_is b n l h = let a : n ≤ b.awaited = grind arith in omega (arith, a, l
 
 -- ---- the first is taken
 
-module _ (d : Part) (need : ℕ → ℕ) (b : DuBearer) (waits : List (ℕ × List ℕ)) where
+module _ (d : Model) (need : ℕ → ℕ) (b : DuBearer) (waits : List (ℕ × List ℕ)) where
   abbrev deliv : ℕ
   deliv = d.terminal.deliv
 
@@ -81,7 +81,7 @@ module _ (d : Part) (need : ℕ → ℕ) (b : DuBearer) (waits : List (ℕ × Li
       let c = deliv_far in
       a_packet (need (n + 1)) count packet (let m = may.0 in omega (arith, m, a, c)) may.1 (omega (arith, on, a, c))
 
-pub puts_what_fits : (d : Part) (b : DuBearer) (f : Frame) (rest : List Frame) (waits : List (ℕ × List ℕ)) (next needed : ℕ)
+pub puts_what_fits : (d : Model) (b : DuBearer) (f : Frame) (rest : List Frame) (waits : List (ℕ × List ℕ)) (next needed : ℕ)
     → IsLine d b (f ∷ rest) waits next needed
     → Fits d waits (carried_by (gap_after b f f.pdu) f.pdu)
     × IsLine d (taken_by b f) rest (waits ++ carried_by (gap_after b f f.pdu) f.pdu) next needed
@@ -93,7 +93,7 @@ puts_what_fits d b f rest waits next needed h =
 
 -- ---- any is lost
 
-module _ (d : Part) (need : ℕ → ℕ) where
+module _ (d : Model) (need : ℕ → ℕ) where
   stand_from : (low from : ℕ) (fs : List Frame) (next : ℕ) → from ≤ low → Stand d need low fs next → Stand d need from fs next
   unfolding Stand
   stand_from low from [] next l h = let a : low ≤ next = h in omega (arith, a, l)
@@ -105,14 +105,14 @@ module _ (d : Part) (need : ℕ → ℕ) where
   stand_without low [] f rest next h = stand_from (f.number + 1) low rest next (let a = h.0 in omega (arith, a)) h.3
   stand_without low (e ∷ es) f rest next h = (h.0, h.1, h.2, stand_without (e.number + 1) es f rest next h.3)
 
-pub line_without : (d : Part) (b : DuBearer) (before : List Frame) (f : Frame) (rest : List Frame) (waits : List (ℕ × List ℕ)) (next needed : ℕ)
+pub line_without : (d : Model) (b : DuBearer) (before : List Frame) (f : Frame) (rest : List Frame) (waits : List (ℕ × List ℕ)) (next needed : ℕ)
     → IsLine d b (before ++ f ∷ rest) waits next needed → IsLine d b (before ++ rest) waits next needed
 line_without d b before f rest waits next needed h =
     record { need = h.need; last = h.last; stand = stand_without d h.need b.awaited before f rest next h.stand; reached = h.reached }
 
 -- ---- more is received
 
-module _ (d e : Part) (need : ℕ → ℕ) (l : d.terminal.deliv ≤ e.terminal.deliv)
+module _ (d e : Model) (need : ℕ → ℕ) (l : d.terminal.deliv ≤ e.terminal.deliv)
     (on : (count : ℕ) (packet : List ℕ) → WasPut d count packet → WasPut e count packet) where
   may_later : (needed : ℕ) (r : Bool) (pdu : Option Pdu) → MayPut d needed r pdu → MayPut e needed r pdu
   unfolding MayPut
@@ -127,7 +127,7 @@ module _ (d e : Part) (need : ℕ → ℕ) (l : d.terminal.deliv ≤ e.terminal.
   stand_later low (f ∷ fs) next h =
       (h.0, may_later (need f.number) f.restart f.pdu h.1, (let a = h.2 in omega (arith, a, l)), stand_later (f.number + 1) fs next h.3)
 
-pub line_later : (d e : Part) (b : DuBearer) (frames : List Frame) (waits left : List (ℕ × List ℕ)) (next needed : ℕ)
+pub line_later : (d e : Model) (b : DuBearer) (frames : List Frame) (waits left : List (ℕ × List ℕ)) (next needed : ℕ)
     → d.terminal.deliv ≤ e.terminal.deliv → reach d.terminal.deliv waits ≤ reach e.terminal.deliv left
     → ((count : ℕ) (packet : List ℕ) → WasPut d count packet → WasPut e count packet)
     → IsLine d b frames waits next needed → IsLine e b frames left next needed
@@ -138,7 +138,7 @@ line_later d e b frames waits left next needed l far on h = record {
   reached = λ u. (let a = h.reached u in omega (arith, a, far));
 }
 
-pub line_taken : (d e : Part) (b : DuBearer) (frames : List Frame) (count : ℕ) (packet : List ℕ) (left : List (ℕ × List ℕ)) (next needed : ℕ)
+pub line_taken : (d e : Model) (b : DuBearer) (frames : List Frame) (count : ℕ) (packet : List ℕ) (left : List (ℕ × List ℕ)) (next needed : ℕ)
     → e.terminal.deliv ≡ max d.terminal.deliv (count + 1)
     → ((count : ℕ) (packet : List ℕ) → WasPut d count packet → WasPut e count packet)
     → IsLine d b frames ((count, packet) ∷ left) next needed → IsLine e b frames left next needed

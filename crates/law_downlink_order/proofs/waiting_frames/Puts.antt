@@ -4,16 +4,16 @@ use Rattle.std.proofs.lemmas.List.{append_assoc, append-nil}
 use Rattle.std.specs.List.{AllByRecursion}
 use Rattle.intervals.specs.Intervals.{HasNoGap, reach}
 use Rattle.intervals.proofs.Intervals.{reach-le}
-use Rattle.bearer_defs.specs.chain_defs.Parts.{Part}
+use Rattle.bearer_defs.specs.chain_defs.Models.{Model}
 use Rattle.unit_defs.specs.Ways.{Pdu, packet_pdu, report_pdu}
-use Rattle.unit_defs.specs.UpRecords.{Downlink, UpBearer}
+use Rattle.unit_defs.specs.CuUpRecords.{DownlinkTunnel, CuUpBearer}
 use Rattle.unit_defs.specs.Du.{DuBearer}
 use Rattle.law_downlink_order.specs.path.Paths.{Frame, Sending, frame_on, packets_sent}
 use Rattle.law_downlink_order.proofs.path.Puts.{then_needs}
-use Rattle.law_downlink_order.specs.heard_packets.Heard.{WasPut}
+use Rattle.law_downlink_order.specs.received_packets.Received.{WasPut}
 use Rattle.law_downlink_order.specs.waiting_frames.Frames.{MayPut, needed_after, MayPutAll, needed_by, Stand, IsLine, from_here}
 
-pub line_fresh : (d : Part) (b : DuBearer) (teid : ℕ) (waits : List (ℕ × List ℕ))
+pub line_fresh : (d : Model) (b : DuBearer) (teid : ℕ) (waits : List (ℕ × List ℕ))
     → IsLine d (record b { downlink = teid; awaited = 0; gap = false }) [] waits 0 d.terminal.deliv
 unfolding Stand
 line_fresh d b teid waits = record {
@@ -31,12 +31,12 @@ needs_before need next v i l = let t : (i == next + 1) ≡ false = grind arith i
 needs_then : (need : ℕ → ℕ) (next v : ℕ) → then_needs need next v (next + 1) ≡ v
 needs_then need next v = let t : (next + 1 == next + 1) ≡ true = grind arith in rw t
 
-stand_low : (d : Part) (need : ℕ → ℕ) (low : ℕ) (fs : List Frame) (next : ℕ) → Stand d need low fs next → low ≤ next
+stand_low : (d : Model) (need : ℕ → ℕ) (low : ℕ) (fs : List Frame) (next : ℕ) → Stand d need low fs next → low ≤ next
 unfolding Stand
 stand_low d need low [] next h = h
 stand_low d need low (f ∷ fs) next h = let a = h.0 in let b = stand_low d need (f.number + 1) fs next h.3 in omega (arith, a, b)
 
-module _ (d : Part) (need : ℕ → ℕ) (next needed : ℕ) (last : needed ≤ max d.terminal.deliv (need next)) (f : Frame) (at : f.number ≡ next)
+module _ (d : Model) (need : ℕ → ℕ) (next needed : ℕ) (last : needed ≤ max d.terminal.deliv (need next)) (f : Frame) (at : f.number ≡ next)
     (may : MayPut d needed f.restart f.pdu) where
   abbrev v : ℕ
   v = needed_after needed f.restart f.pdu
@@ -82,7 +82,7 @@ module _ (d : Part) (need : ℕ → ℕ) (next needed : ℕ) (last : needed ≤ 
         stand_more (g.number + 1) gs h.3,
       )
 
-one_more : (d : Part) (b : DuBearer) (frames : List Frame) (waits : List (ℕ × List ℕ)) (next needed : ℕ) (f : Frame)
+one_more : (d : Model) (b : DuBearer) (frames : List Frame) (waits : List (ℕ × List ℕ)) (next needed : ℕ) (f : Frame)
     → IsLine d b frames waits next needed → f.number ≡ next → MayPut d needed f.restart f.pdu
     → IsLine d b (frames ++ f ∷ []) waits (next + 1) (needed_after needed f.restart f.pdu)
 one_more d b frames waits next needed f h at may =
@@ -97,7 +97,7 @@ one_more d b frames waits next needed f h at may =
       reached = λ u. (let a = h.reached u in omega (arith, a, same));
     }
 
-pub line_more : (d : Part) (b : DuBearer) (frames more : List Frame) (waits : List (ℕ × List ℕ)) (next needed : ℕ)
+pub line_more : (d : Model) (b : DuBearer) (frames more : List Frame) (waits : List (ℕ × List ℕ)) (next needed : ℕ)
     → IsLine d b frames waits next needed → MayPutAll d needed next more
     → IsLine d b (frames ++ more) waits (next + length more) (needed_by needed more)
 unfolding MayPutAll needed_by
@@ -114,24 +114,24 @@ line_more d b frames (f ∷ fs) waits next needed h may =
 
 -- ---- packets, in the order in which they are sent
 
-abbrev PacketsFit : Part → List (ℕ × List ℕ) → ℕ → ℕ → Bool → Sending → Type 0
-PacketsFit d packets needed next was_owed sent =
+abbrev PacketsFit : Model → List (ℕ × List ℕ) → ℕ → ℕ → Bool → Sending → Type 0
+PacketsFit d packets needed next was_assumed sent =
     MayPutAll d needed next sent.frames
-    × (from_here sent.bearer.restart d.terminal.deliv (needed_by needed sent.frames) ≡ reach (from_here was_owed d.terminal.deliv needed) packets)
+    × (from_here sent.bearer.restart d.terminal.deliv (needed_by needed sent.frames) ≡ reach (from_here was_assumed d.terminal.deliv needed) packets)
 
-pub packets_fit : (d : Part) (packets : List (ℕ × List ℕ)) (c : UpBearer) (l : Downlink) (needed : ℕ) → c.downlink ≡ Some l
+pub packets_fit : (d : Model) (packets : List (ℕ × List ℕ)) (c : CuUpBearer) (l : DownlinkTunnel) (needed : ℕ) → c.downlink ≡ Some l
     → AllByRecursion (λ (e : ℕ × List ℕ). WasPut d e.0 e.1) packets → HasNoGap (from_here c.restart d.terminal.deliv needed) packets
     → PacketsFit d packets needed l.next c.restart (packets_sent packets c)
 unfolding packets_sent MayPutAll MayPut needed_after needed_by HasNoGap reach
 packets_fit d [] c l needed there all no_gap = (tt, refl)
 packets_fit d (e ∷ es) c l needed there all no_gap =
-    subst (λ (o : Option Downlink). PacketsFit d (e ∷ es) needed l.next c.restart
+    subst (λ (o : Option DownlinkTunnel). PacketsFit d (e ∷ es) needed l.next c.restart
     (let one = frame_on false c.restart (Some (packet_pdu e.0 e.1)) c o in
     let more = packets_sent es one.bearer in
     record { frames = one.frames ++ more.frames; bearer = more.bearer })) (sym there)
     (by c.restart no_gap (λ r n same gap. packets_fit d es (then_bearer r) (record l { next = l.next + 1 }) n refl all.1 gap))
   where
-    then_bearer : Bool → UpBearer
+    then_bearer : Bool → CuUpBearer
     then_bearer r = record c { downlink = Some (record l { next = l.next + 1 }); restart = r && not r }
 
     by : (r : Bool) → HasNoGap (from_here r d.terminal.deliv needed) (e ∷ es)

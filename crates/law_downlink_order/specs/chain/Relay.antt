@@ -3,9 +3,9 @@ use Rattle.std.specs.Prelude.{ℕ, true, false, List, [], ◌∷◌, None}
 use Rattle.gnb_types.specs.declared.names.Gnb.TheVariants.{A}
 use Rattle.gnb_types.specs.declared.names.NodeId.TheVariants.{CuUp, Du}
 use Rattle.gnb_types.specs.declared.plans.SnStatus.{SnStatus}
-use Rattle.unit_defs.specs.UpRecords.{Downlink, SourceHop}
-use Rattle.bearer_defs.specs.chain_defs.Parts.{fresh, end_marker}
-use Rattle.bearer_defs.specs.chain_defs.Orders.{Order, offers, switches_path, makes, freezes, knows, switches, releases, closes, arrives, keeps_n3, keeps_fresh, passes_n3, passes_fresh, sends, ends_n3, ends_hop, numbers, confirms, reports, tells_loss, sends_again, resumes, fails, carries}
+use Rattle.unit_defs.specs.CuUpRecords.{DownlinkTunnel, SourceHop}
+use Rattle.bearer_defs.specs.chain_defs.Models.{fresh, end_marker}
+use Rattle.bearer_defs.specs.chain_defs.Orders.{ModelStep, offers, switches_path, makes, freezes, knows, switches, releases, closes, arrives, keeps_n3, keeps_fresh, passes_n3, passes_fresh, sends, ends_n3, ends_hop, numbers, confirms, reports, reports_loss, sends_again, resumes, fails, carries}
 
 -- five packets
 abbrev pub a : List ℕ
@@ -26,13 +26,13 @@ e = 101 ∷ []
 abbrev pub hop_to : ℕ → ℕ → SourceHop
 hop_to up first = record { peer = CuUp A up; down = first; up = first; up_ended = false }
 
-abbrev pub downlink_to : ℕ → Downlink
+abbrev pub downlink_to : ℕ → DownlinkTunnel
 downlink_to teid = record { du = Du A 1; teid = teid; next = 0 }
 
 abbrev pub next_is : ℕ → SnStatus
 next_is count = record { bearer = record { 0 = 1 }; dl_next = count; ul_first = 0; ul_received = None }
 
-unfoldable pub relay : List Order
+unfoldable pub relay : List ModelStep
 relay =
     makes 2 true 20 ∷ makes 3 true 30
     -- two packets at the first context, one of them received and confirmed
@@ -55,12 +55,12 @@ relay =
     ∷ []
 
 -- a radio that fails, and a handover that is cancelled: the source goes on, and sends again what it held
-unfoldable pub cancelled : List Order
+unfoldable pub cancelled : List ModelStep
 cancelled =
     makes 2 true 20
     ∷ offers a ∷ offers b ∷ keeps_n3 1 a (fresh b ∷ []) ∷ numbers 1 a [] ∷ keeps_n3 1 b [] ∷ numbers 1 b []
     ∷ fails ∷ switches 1 (downlink_to 5) 1 ∷ carries 0 a ((1, b) ∷ []) ∷ reports 1 1 []
-    ∷ freezes 1 2 (hop_to 2 22) ∷ offers c ∷ passes_n3 1 c [] ∷ tells_loss 1 ∷ knows 2 (next_is 2)
+    ∷ freezes 1 2 (hop_to 2 22) ∷ offers c ∷ passes_n3 1 c [] ∷ reports_loss 1 ∷ knows 2 (next_is 2)
     ∷ resumes 1 ∷ numbers 1 c [] ∷ sends_again 1 ∷ closes 2
     ∷ carries 1 b ((1, b) ∷ (2, c) ∷ (1, b) ∷ (2, c) ∷ []) ∷ carries 1 b ((2, c) ∷ (1, b) ∷ (2, c) ∷ []) ∷ carries 2 c
     ((1, b) ∷ (2, c) ∷ [])

@@ -4,34 +4,34 @@
 use Rattle.std.specs.Prelude.{◌≡◌, ℕ, ◌+◌, ◌<◌, ◌≤◌, Bool, List, [], ◌∷◌, length, Some, slice_get, ⊤}
 use Rattle.gnb_types.specs.declared.names.SnBits.{SnBits}
 use Rattle.pdcp_defs.specs.Receivers.{is_duplicate, stored, deliver}
-use Rattle.unit_defs.specs.UpRecords.{Downlink}
+use Rattle.unit_defs.specs.CuUpRecords.{DownlinkTunnel}
 use Rattle.unit_defs.specs.Du.{DuBearer}
-use Rattle.bearer_defs.specs.chain_defs.Parts.{Part}
-use Rattle.bearer_defs.specs.chain_defs.Parts as parts
-use Rattle.bearer_defs.specs.chain_defs.Orders.{Order, handed}
+use Rattle.bearer_defs.specs.chain_defs.Models.{Model}
+use Rattle.bearer_defs.specs.chain_defs.Models as models
+use Rattle.bearer_defs.specs.chain_defs.Orders.{ModelStep, handed}
 use Rattle.bearer_defs.specs.chain_defs.Orders as orders
-use Rattle.bearer_defs.specs.chain_defs.Guards as guards
+use Rattle.bearer_defs.specs.chain_defs.Assumptions as guards
 use Rattle.law_downlink_order.specs.path.Paths.{Path}
 use Rattle.law_downlink_order.specs.path.Paths as paths
 use Rattle.law_downlink_order.specs.path.Steps as ways
 
 pub record Both : Type 0 where
-  pub chain : Part
+  pub chain : Model
   pub way : Path
 
 pub data Step : Type 0 where
   -- an order of the chain, and a step of the way, but that the terminal takes from its radio
-  by_chain : (order : Order) → Step
+  by_chain : (order : ModelStep) → Step
   by_way : (step : ways.Step) → Step
   -- the terminal takes the next packet of the way's radio
-  hears : (count : ℕ) (packet : List ℕ) (rest : List (ℕ × List ℕ)) → Step
+  receives : (count : ℕ) (packet : List ℕ) (rest : List (ℕ × List ℕ)) → Step
   -- a way begins at the context that the terminal is at, with what this has; the next packet that it comes to hold has this COUNT
-  moves : (comes : ℕ) (downlink : Downlink) (fmc : ℕ) (bits : List Bool) → Step
+  moves : (comes : ℕ) (downlink : DownlinkTunnel) (fmc : ℕ) (bits : List Bool) → Step
 
 unfoldable pub after : Both → Step → Both
 after s (by_chain order) = record s { chain = orders.after s.chain order }
 after s (by_way step) = record s { way = ways.after s.way step }
-after s (hears count packet rest) = record {
+after s (receives count packet rest) = record {
   chain = handed s.chain (is_duplicate s.chain.terminal count) (deliver (stored s.chain.terminal count packet));
   way = ways.after s.way (ways.carries count packet rest);
 }
@@ -43,11 +43,11 @@ unfoldable pub run : Both → List Step → Both
 run s [] = s
 run s (o ∷ os) = run (after s o) os
 
-unfoldable pub start : ℕ → ℕ → Downlink → DuBearer → Both
-start first teid downlink du = record { chain = parts.start first teid; way = paths.start teid downlink du }
+unfoldable pub start : ℕ → ℕ → DownlinkTunnel → DuBearer → Both
+start first teid downlink du = record { chain = models.initial first teid; way = paths.start teid downlink du }
 
 -- the packets that are offered
-unfoldable pub orders_in : List Step → List Order
+unfoldable pub orders_in : List Step → List ModelStep
 orders_in [] = []
 orders_in (by_chain order ∷ os) = order ∷ orders_in os
 orders_in (o ∷ os) = orders_in os
@@ -57,13 +57,13 @@ offers_in os = orders.offers_in (orders_in os)
 
 -- ---- what they ask for
 
-abbrev pub IsOfChain : Order → Type 0
+abbrev pub IsOfChain : ModelStep → Type 0
 IsOfChain (orders.carries count packet rest) = ⊥
 IsOfChain order = ⊤
 
-abbrev pub IsOfWay : ways.Step → Type 0
-IsOfWay (ways.carries count packet rest) = ⊥
-IsOfWay step = ⊤
+abbrev pub IsOfDownlinkPath : ways.Step → Type 0
+IsOfDownlinkPath (ways.carries count packet rest) = ⊥
+IsOfDownlinkPath step = ⊤
 
 -- the packet that the CU-UP comes to hold next is the one that was offered at this place
 abbrev pub IsNext : List (List ℕ) → Both → List ℕ → Type 0
@@ -82,9 +82,9 @@ Follows deliv (e ∷ es) comes = comes ≡ e.0 + length (e ∷ es)
 
 module _ (sn : SnBits) (quota : ℕ) (offered : List (List ℕ)) where
   abbrev pub Asks : Both → Step → Type 0
-  Asks s (by_chain order) = IsOfChain order × guards.IsReady sn quota s.chain order × guards.IsOwed s.chain order
-  Asks s (by_way step) = IsOfWay step × ways.IsReady s.way step × ways.IsOwed s.way step × Brings offered s step
-  Asks s (hears count packet rest) = s.way.air ≡ (count, packet) ∷ rest
+  Asks s (by_chain order) = IsOfChain order × guards.IsReady sn quota s.chain order × guards.IsAssumed s.chain order
+  Asks s (by_way step) = IsOfDownlinkPath step × ways.IsReady s.way step × ways.IsAssumed s.way step × Brings offered s step
+  Asks s (receives count packet rest) = s.way.air ≡ (count, packet) ∷ rest
   Asks s (moves comes downlink fmc bits) =
       Follows s.chain.terminal.deliv (s.chain.members s.chain.station).bearer.sender.unconfirmed comes
 

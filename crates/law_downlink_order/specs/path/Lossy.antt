@@ -3,7 +3,7 @@ use Rattle.std.specs.Prelude.{ℕ, Bool, true, false, List, [], ◌∷◌, Some,
 use Rattle.gnb_types.specs.declared.names.Gnb.TheVariants.{A}
 use Rattle.gnb_types.specs.declared.names.NodeId.TheVariants.{CuUp, Du}
 use Rattle.unit_defs.specs.Ways.{packet_pdu, report_pdu}
-use Rattle.unit_defs.specs.UpRecords.{Downlink, SourceHop}
+use Rattle.unit_defs.specs.CuUpRecords.{DownlinkTunnel, SourceHop}
 use Rattle.unit_defs.specs.Du.{DuBearer}
 use Rattle.law_downlink_order.specs.path.Paths.{Frame}
 use Rattle.law_downlink_order.specs.path.Steps.{Step, numbers, keeps, polls, status, confirms, freezes, resumes, fails, begins_anew, loses, takes, carries}
@@ -20,7 +20,7 @@ c = 99 ∷ []
 abbrev pub d : List ℕ
 d = 100 ∷ []
 
-abbrev pub downlink_to : ℕ → Downlink
+abbrev pub downlink_to : ℕ → DownlinkTunnel
 downlink_to teid = record { du = Du A 1; teid = teid; next = 0 }
 
 abbrev pub du_bearer : DuBearer

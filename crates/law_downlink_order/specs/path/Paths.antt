@@ -3,8 +3,8 @@
 use Rattle.std.specs.Prelude.{ℕ, ◌+◌, Bool, true, false, not, ◌&&◌, ◌||◌, nat_lt, List, [], ◌∷◌, ◌++◌, Option, Some, None}
 use Rattle.pdcp_defs.specs.Receivers.{Receiver, new_receiver}
 use Rattle.unit_defs.specs.Ways.{Pdu, packet_pdu, report_pdu}
-use Rattle.unit_defs.specs.UpRecords.{Downlink, UpBearer}
-use Rattle.unit_defs.specs.UpBearers.{made}
+use Rattle.unit_defs.specs.CuUpRecords.{DownlinkTunnel, CuUpBearer}
+use Rattle.unit_defs.specs.CuUpBearers.{made}
 use Rattle.unit_defs.specs.Du.{DuBearer}
 
 -- an NR-U data frame; one that polls carries nothing
@@ -17,7 +17,7 @@ pub record Frame : Type 0 where
 -- The bearer at the CU-UP and at the DU are the model's records. What waits for a COUNT says nothing here.
 pub record Path : Type 0 where
   pub frozen : Bool
-  pub bearer : UpBearer
+  pub bearer : CuUpBearer
   pub tunnel : List Frame
   pub du : DuBearer
   -- whether the terminal is on the radio to which the DU sends; the packets there (status reports say nothing here)
@@ -32,18 +32,18 @@ pub record Path : Type 0 where
 
 pub record Sending : Type 0 where
   pub frames : List Frame
-  pub bearer : UpBearer
+  pub bearer : CuUpBearer
 
 -- a frame with the next number, where there is a tunnel; one with the restart mark uses the mark up
-abbrev pub frame_on : Bool → Bool → Option Pdu → UpBearer → Option Downlink → Sending
+abbrev pub frame_on : Bool → Bool → Option Pdu → CuUpBearer → Option DownlinkTunnel → Sending
 frame_on poll restart pdu b None = record { frames = []; bearer = b }
 frame_on poll restart pdu b (Some d) = record {
   frames = record { poll = poll; restart = restart; number = d.next; pdu = pdu } ∷ [];
   bearer = record b { downlink = Some (record d { next = d.next + 1 }); restart = b.restart && not restart };
 }
 
--- packets in their order, the first with the restart mark where one is owed
-unfoldable pub packets_sent : List (ℕ × List ℕ) → UpBearer → Sending
+-- packets in their order, the first with the restart mark where one is assumed
+unfoldable pub packets_sent : List (ℕ × List ℕ) → CuUpBearer → Sending
 packets_sent [] b = record { frames = []; bearer = b }
 packets_sent (e ∷ es) b =
     let one = frame_on false b.restart (Some (packet_pdu e.0 e.1)) b b.downlink in
@@ -74,7 +74,7 @@ carried_by false pdu = packet_of pdu
 
 -- ---- the start: a context with a downlink, and its DU
 
-unfoldable pub start : ℕ → Downlink → DuBearer → Path
+unfoldable pub start : ℕ → DownlinkTunnel → DuBearer → Path
 start first downlink du = record {
   frozen = false;
   bearer = record (made false first) { downlink = Some (record downlink { next = 0 }) };

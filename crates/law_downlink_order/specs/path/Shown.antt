@@ -3,7 +3,7 @@ use Rattle.std.specs.Prelude.{◌≡◌, Bool, true, false, List, [], ◌∷◌,
 use Rattle.gnb_types.specs.declared.names.SnBits.{SnBits}
 use Rattle.gnb_types.specs.declared.names.Dir.TheVariants.{Dl}
 use Rattle.unit_defs.specs.Ways.{Pdu, Load, frame, Output, packet, radio, Way, Answer, gives, spent}
-use Rattle.unit_defs.specs.UpRecords.{UpBearer}
+use Rattle.unit_defs.specs.CuUpRecords.{CuUpBearer}
 use Rattle.law_downlink_order.specs.path.Paths.{Frame, Sending}
 
 abbrev pub pdu_written : {M C P : Type 0} → Way M C P → SnBits → Option Pdu → Option P
@@ -19,7 +19,7 @@ loads_of (packet to teid ue bearer Dl tag load ∷ outputs) = load ∷ loads_of 
 loads_of (output ∷ outputs) = loads_of outputs
 
 -- these frames alone are put down, and this is the bearer
-unfoldable pub PutsFrames : {M C P : Type 0} → Way M C P → SnBits → Sending → Answer M P UpBearer → Type 0
+unfoldable pub PutsFrames : {M C P : Type 0} → Way M C P → SnBits → Sending → Answer M P CuUpBearer → Type 0
 PutsFrames way sn sent (gives outputs b) = (loads_of outputs ≡ map (written way sn) sent.frames) × (b ≡ sent.bearer)
 PutsFrames way sn sent (spent counter) = ⊤
 

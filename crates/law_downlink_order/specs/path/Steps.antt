@@ -1,11 +1,11 @@
 -- What happens on the way, in small orders, and what each asks for. `IsReady` is what the units test themselves, and what stands
--- where they take from; `IsOwed` is what the rest of the station owes.
+-- where they take from; `IsAssumed` is what is assumed of the rest of the station.
 use Rattle.std.specs.Prelude.{◌≡◌, ℕ, ◌+◌, ◌<◌, ◌≤◌, Bool, true, false, not, ◌||◌, if◌then◌else◌, List, [], ◌∷◌, ◌++◌, Option, Some, None, ⊤}
 use Rattle.pdcp_defs.specs.Senders.{numbered as with_next, confirmed_to, confirmed_by}
 use Rattle.pdcp_defs.specs.Receivers.{Delivery, is_duplicate, stored, deliver}
 use Rattle.unit_defs.specs.Ways.{report_pdu}
-use Rattle.unit_defs.specs.UpRecords.{Downlink, SourceHop, UpBearer}
-use Rattle.unit_defs.specs.UpBearers.{owed, thawed}
+use Rattle.unit_defs.specs.CuUpRecords.{DownlinkTunnel, SourceHop, CuUpBearer}
+use Rattle.unit_defs.specs.CuUpBearers.{owed, thawed}
 use Rattle.bearer_defs.specs.chain_defs.Orders.{holds, takes_unless, frozen}
 use Rattle.law_downlink_order.specs.path.Paths.{Frame, Path, Sending, frame_on, packets_sent, taken_by, gap_after, carried_by}
 
@@ -26,7 +26,7 @@ pub data Step : Type 0 where
   -- the radio fails, and what stands there is gone; a new tunnel to a new radio: what stood on the old one is gone, and all
   -- that nothing confirmed is sent again
   fails : Step
-  begins_anew : (downlink : Downlink) (fmc : ℕ) (bits : List Bool) → Step
+  begins_anew : (downlink : DownlinkTunnel) (fmc : ℕ) (bits : List Bool) → Step
   -- a frame is lost; the DU takes the first frame; the terminal takes the next packet of its radio
   loses : (before : List Frame) (frame : Frame) (rest : List Frame) → Step
   takes : (frame : Frame) (rest : List Frame) → Step
@@ -37,21 +37,21 @@ pub data Step : Type 0 where
 abbrev pub put : Path → Sending → Path
 put s sent = record s { bearer = sent.bearer; tunnel = s.tunnel ++ sent.frames }
 
-abbrev pub confirmed_if : Option ℕ → UpBearer → UpBearer
+abbrev pub confirmed_if : Option ℕ → CuUpBearer → CuUpBearer
 confirmed_if None b = b
 confirmed_if (Some count) b = record b { sender = confirmed_to b.sender count }
 
 -- all that nothing confirmed is sent again, the first with the restart mark; a frozen context does so when it is resumed
-abbrev pub sent_again : Bool → List (ℕ × ℕ) → UpBearer → Sending
+abbrev pub sent_again : Bool → List (ℕ × ℕ) → CuUpBearer → Sending
 sent_again is_frozen [] b = record { frames = []; bearer = b }
 sent_again true (range ∷ ranges) b = record { frames = []; bearer = record b { restart = true; loss_while_frozen = true } }
 sent_again false (range ∷ ranges) b = packets_sent b.sender.unconfirmed (record b { restart = true })
 
-abbrev pub anew : UpBearer → Downlink → UpBearer
+abbrev pub anew : CuUpBearer → DownlinkTunnel → CuUpBearer
 anew b d = record (thawed b) { downlink = Some (record d { next = 0 }); restart = false }
 
 -- a status report, and all that nothing confirmed
-abbrev pub sent_anew : ℕ → List Bool → UpBearer → Sending
+abbrev pub sent_anew : ℕ → List Bool → CuUpBearer → Sending
 sent_anew fmc bits b =
     let report = frame_on false false (Some (report_pdu fmc bits)) b b.downlink in
     let all = packets_sent report.bearer.sender.unconfirmed report.bearer in
@@ -62,7 +62,7 @@ handed s is_known d = if is_known then s else record s { terminal = d.after; del
 
 unfoldable pub after : Path → Step → Path
 after s (numbers packet) =
-    let b : UpBearer = record s.bearer { sender = with_next s.bearer.sender packet } in
+    let b : CuUpBearer = record s.bearer { sender = with_next s.bearer.sender packet } in
     record (put s (packets_sent ((s.bearer.sender.next, packet) ∷ []) b)) { comes = s.comes + 1 }
 after s (sends count packet) =
     record (put s (packets_sent ((count, packet) ∷ []) (holds s.bearer count packet))) { comes = s.comes + 1 }
@@ -130,16 +130,16 @@ abbrev pub is_received : Option ℕ → ℕ → Type 0
 is_received None deliv = ⊤
 is_received (Some count) deliv = count < deliv
 
-unfoldable pub IsOwed : Path → Step → Type 0
+unfoldable pub IsAssumed : Path → Step → Type 0
 -- packets come in the order of their COUNTs
-IsOwed s (numbers packet) = s.bearer.sender.next ≡ s.comes
-IsOwed s (sends count packet) = count ≡ s.comes
-IsOwed s (keeps count packet) = count ≡ s.comes
+IsAssumed s (numbers packet) = s.bearer.sender.next ≡ s.comes
+IsAssumed s (sends count packet) = count ≡ s.comes
+IsAssumed s (keeps count packet) = count ≡ s.comes
 -- what is confirmed was received
-IsOwed s (status lost delivered) = is_received delivered s.terminal.deliv
-IsOwed s (confirms fmc bits) = (fmc ≤ s.terminal.deliv) × (bits ≡ [])
-IsOwed s o = ⊤
+IsAssumed s (status lost delivered) = is_received delivered s.terminal.deliv
+IsAssumed s (confirms fmc bits) = (fmc ≤ s.terminal.deliv) × (bits ≡ [])
+IsAssumed s o = ⊤
 
 unfoldable pub AreKept : Path → List Step → Type 0
 AreKept s [] = ⊤
-AreKept s (o ∷ os) = IsReady s o × IsOwed s o × AreKept (after s o) os
+AreKept s (o ∷ os) = IsReady s o × IsAssumed s o × AreKept (after s o) os

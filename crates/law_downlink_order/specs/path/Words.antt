@@ -32,8 +32,8 @@ RunsHaveNoGap s =
     → Follow first.number (first ∷ run) → HasNoGap s.terminal.deliv (packets_of (first ∷ run))
 
 -- what stands on the radio, and what the DU takes next if nothing more is lost, has no gap from what was received
-unfoldable pub WayHasNoGap : Path → Type 0
-WayHasNoGap s =
+unfoldable pub DownlinkPathHasNoGap : Path → Type 0
+DownlinkPathHasNoGap s =
     HasNoGap s.terminal.deliv s.air
     × ((run rest : List Frame) → s.tunnel ≡ run ++ rest → s.listens ≡ true → s.du.gap ≡ false → Follow s.du.awaited run
     → HasNoGap s.terminal.deliv (s.air ++ packets_of run))

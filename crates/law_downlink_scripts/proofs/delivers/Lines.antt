@@ -12,12 +12,12 @@ use Rattle.gnb_types.specs.Orders.{ue_cmp}
 use Rattle.tables.specs.Tables.{find}
 use Rattle.message_types.specs.declared.rrc.Token.{Token}
 use Rattle.unit_defs.specs.Ways.{Message, Pdu, Load, Put, control, packet, radio, deliver, dropped, held, opened, closed, failed, no}
-use Rattle.transport_defs.specs.Links.{most_letters, emptied}
+use Rattle.transport_defs.specs.Links.{most_control_messages, emptied}
 use Rattle.run_defs.specs.Lines.{RunLine, delivers}
 use Rattle.run_defs.specs.Units.{Units}
 use Rattle.run_defs.specs.Written.{written_put}
 use Rattle.run_defs.specs.States.{State, Lengths, World, Given, stepped, sn_of, spent_counter, goes, stops, told_before, ◌next◌, goes_on, Within, as_step, entity, radio_of}
-use Rattle.run_defs.specs.Steps.{check_spans, radio_lost, lose_each, lose_radios_of, lose_radios, radios_of, same_epoch, epoch_now, connect_in, reconnect, reconnect_node, put_out, put_out_all, count_letters, too_many_letters, letters_spent, is_done, carried_out, done_with, does}
+use Rattle.run_defs.specs.Steps.{check_spans, radio_lost, lose_each, lose_radios_of, lose_radios, radios_of, same_epoch, epoch_now, connect_in, reconnect, reconnect_node, put_out, put_out_all, count_control_messages, too_many_control_messages, control_messages_spent, is_done, carried_out, done_with, does}
 use Rattle.law_downlink_scripts.specs.delivers.Awaited.{DeliversIn, IsDeliveredBy}
 
 -- no output of a list is a control message
@@ -120,27 +120,27 @@ module _ {M C L P : Type 0} (world : World M C L P) where
 
   -- ---- a step
 
-  silent_letters : (outputs : List (Put M L P)) → IsSilent outputs → count_letters world outputs ≡ 0
-  silent_letters [] p = refl
-  silent_letters (control to ue message ∷ outputs) p = absurd p
-  silent_letters (packet to teid ue bearer dir tag load ∷ outputs) p = silent_letters outputs p
-  silent_letters (radio ue bearer dir epoch tag pdu ∷ outputs) p = silent_letters outputs p
-  silent_letters (deliver ue bearer dir count p ∷ outputs) q = silent_letters outputs q
-  silent_letters (dropped reason ∷ outputs) p = silent_letters outputs p
-  silent_letters (held reason ∷ outputs) p = silent_letters outputs p
-  silent_letters (opened teid ∷ outputs) p = silent_letters outputs p
-  silent_letters (closed teid ∷ outputs) p = silent_letters outputs p
-  silent_letters (failed ue cause ∷ outputs) p = silent_letters outputs p
-  silent_letters (no reason ∷ outputs) p = silent_letters outputs p
+  silent_control_messages : (outputs : List (Put M L P)) → IsSilent outputs → count_control_messages world outputs ≡ 0
+  silent_control_messages [] p = refl
+  silent_control_messages (control to ue message ∷ outputs) p = absurd p
+  silent_control_messages (packet to teid ue bearer dir tag load ∷ outputs) p = silent_control_messages outputs p
+  silent_control_messages (radio ue bearer dir epoch tag pdu ∷ outputs) p = silent_control_messages outputs p
+  silent_control_messages (deliver ue bearer dir count p ∷ outputs) q = silent_control_messages outputs q
+  silent_control_messages (dropped reason ∷ outputs) p = silent_control_messages outputs p
+  silent_control_messages (held reason ∷ outputs) p = silent_control_messages outputs p
+  silent_control_messages (opened teid ∷ outputs) p = silent_control_messages outputs p
+  silent_control_messages (closed teid ∷ outputs) p = silent_control_messages outputs p
+  silent_control_messages (failed ue cause ∷ outputs) p = silent_control_messages outputs p
+  silent_control_messages (no reason ∷ outputs) p = silent_control_messages outputs p
 
   not_more : (a b : ℕ) → b ≤ a → nat_lt a b ≡ false
   not_more a b h = grind arith
 
-  not_too_many : (outputs : List (Put M L P)) (s : State M C L P) → IsSilent outputs → length s.bag.letters ≤ most_letters
-      → too_many_letters world outputs s ≡ false
+  not_too_many : (outputs : List (Put M L P)) (s : State M C L P) → IsSilent outputs → length s.bag.control_messages ≤ most_control_messages
+      → too_many_control_messages world outputs s ≡ false
   not_too_many outputs s silent few =
-      ap (λ (n : ℕ). nat_lt most_letters (length s.bag.letters + n)) (silent_letters outputs silent)
-      ∙ not_more most_letters (length s.bag.letters + 0) (omega (arith, few))
+      ap (λ (n : ℕ). nat_lt most_control_messages (length s.bag.control_messages + n)) (silent_control_messages outputs silent)
+      ∙ not_more most_control_messages (length s.bag.control_messages + 0) (omega (arith, few))
 
   step_has : (key : EntityKey) (count : ℕ) (p : List ℕ) (node : NodeId) (w : Within M C L P) → HasLine (delivers key count p) w
       → DeliversIn key count p (as_step (Some node) w)
@@ -167,19 +167,19 @@ module _ {M C L P : Type 0} (world : World M C L P) where
         (put_has node taken outputs))
 
     done_has : (node : NodeId) (taken : Option ℕ) (first : State M C L P → Within M C L P) (outputs : List (Put M L P)) (units : Units M C) (s : State M C L P)
-        → ((t : State M C L P) → GoesOn (first t)) → IsSilent outputs → length s.bag.letters ≤ most_letters
+        → ((t : State M C L P) → GoesOn (first t)) → IsSilent outputs → length s.bag.control_messages ≤ most_control_messages
         → IsDeliveredBy (entity ue bearer dir) count p (done_with world node taken first s (stepped (deliver ue bearer dir count p ∷ outputs) units))
     done_has node taken first outputs units s on silent few =
-        by (too_many_letters world (deliver ue bearer dir count p ∷ outputs) s) (not_too_many (deliver ue bearer dir count p ∷ outputs) s silent few)
+        by (too_many_control_messages world (deliver ue bearer dir count p ∷ outputs) s) (not_too_many (deliver ue bearer dir count p ∷ outputs) s silent few)
       where
         by : (t : Bool) → t ≡ false → IsDeliveredBy (entity ue bearer dir) count p
-            (if t then is_done (stops [] (spent_counter letters_spent))
+            (if t then is_done (stops [] (spent_counter control_messages_spent))
             else is_done (as_step (Some node) (carried_out world node taken first (deliver ue bearer dir count p ∷ outputs) units s)))
         by true e = absurd cc
         by false e = step_has (entity ue bearer dir) count p node _ (carried_has node taken first outputs units s on)
 
     pub does_has : (node : NodeId) (given : Given M L P) (taken : Option ℕ) (first : State M C L P → Within M C L P) (outputs : List (Put M L P)) (units : Units M C)
-        (s : State M C L P) → ((t : State M C L P) → GoesOn (first t)) → IsSilent outputs → length s.bag.letters ≤ most_letters
+        (s : State M C L P) → ((t : State M C L P) → GoesOn (first t)) → IsSilent outputs → length s.bag.control_messages ≤ most_control_messages
         → world.answer (sn_of s) s.units node given ≡ stepped (deliver ue bearer dir count p ∷ outputs) units
         → IsDeliveredBy (entity ue bearer dir) count p (does world node given taken first s)
     unfolding does

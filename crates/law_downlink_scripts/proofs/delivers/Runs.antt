@@ -19,8 +19,8 @@ use Rattle.unit_defs.specs.Ways.{Message, Pdu, packet_pdu, Load, Put, deliver, p
 use Rattle.unit_defs.specs.CuUp.{cu_up_acts}
 use Rattle.unit_defs.specs.Ue.{UeNode, ue_acts}
 use Rattle.transport_defs.specs.declared.Item.{Item}
-use Rattle.transport_defs.specs.Links.{most_letters, nth}
-use Rattle.run_defs.specs.Units.{Units, up_of, with_up, ue_of, with_ue}
+use Rattle.transport_defs.specs.Links.{most_control_messages, nth}
+use Rattle.run_defs.specs.Units.{Units, cu_up_of, with_cu_up, ue_of, with_ue}
 use Rattle.run_defs.specs.Written.{Written, written_put, WrittenStepped, written_step}
 use Rattle.run_defs.specs.States.{State, Lengths, stepped, sn_of, item_for, carried_for, has_bearer, radio_of, entity, refused}
 use Rattle.run_defs.specs.Steps.{Done, is_done, is_held, is_refused}
@@ -59,14 +59,14 @@ module _ (reading : Reading) where
   -- ---- an item of a tunnel
 
   pub up_delivers : (s : PlainState) (gnb : Gnb) (number teid : ℕ) (item : Item (Written (Load Pdu))) (rest : List (Item (Written (Load Pdu))))
-      (count : ℕ) (packet : List ℕ) → length s.bag.letters ≤ most_letters → (w : IsAwaitedAt (up_of s.units gnb number) teid item.content.says count packet)
+      (count : ℕ) (packet : List ℕ) → length s.bag.control_messages ≤ most_control_messages → (w : IsAwaitedAt (cu_up_of s.units gnb number) teid item.content.says count packet)
       → IsDeliveredBy (entity w.tunnel.ue w.tunnel.bearer Ul) count packet
       (get_done (plain_world reading) (record { node = CuUp gnb number; teid = teid }) item rest s)
   up_delivers s gnb number teid item rest count packet few w =
       let end : TunnelEnd = record { node = CuUp gnb number; teid = teid } in
-      let a = hands_answers (sn_of s) (with_up s.units gnb number) w.tunnel.ue w.tunnel.bearer Ul count packet
-      (cu_up_acts plain_way (up_of s.units gnb number) (packet_input teid (taken_of item.content.says)))
-      (up_hands (up_of s.units gnb number) teid item.content.says count packet w) in
+      let a = hands_answers (sn_of s) (with_cu_up s.units gnb number) w.tunnel.ue w.tunnel.bearer Ul count packet
+      (cu_up_acts plain_way (cu_up_of s.units gnb number) (packet_input teid (taken_of item.content.says)))
+      (up_hands (cu_up_of s.units gnb number) teid item.content.says count packet w) in
       does_has (plain_world reading) w.tunnel.ue w.tunnel.bearer Ul count packet (CuUp gnb number) (item_for teid item) item.count
       (taken_off (plain_world reading) end item rest) a.0 a.1 s (λ t. tt) a.3 few a.2
 
@@ -77,9 +77,9 @@ module _ (reading : Reading) where
   got_delivers key count packet end s (is_refused reason) p = absurd p
 
   pub get_delivers : (s : PlainState) (gnb : Gnb) (number teid : ℕ) (item : Item (Written (Load Pdu))) (rest : List (Item (Written (Load Pdu))))
-      (count : ℕ) (packet : List ℕ) → length s.bag.letters ≤ most_letters
+      (count : ℕ) (packet : List ℕ) → length s.bag.control_messages ≤ most_control_messages
       → find tunnel_cmp s.tunnels (record { node = CuUp gnb number; teid = teid }) ≡ Some (item ∷ rest)
-      → (w : IsAwaitedAt (up_of s.units gnb number) teid item.content.says count packet)
+      → (w : IsAwaitedAt (cu_up_of s.units gnb number) teid item.content.says count packet)
       → DeliversIn (entity w.tunnel.ue w.tunnel.bearer Ul) count packet (happens (plain_world reading) (Get (CuUp gnb number) teid) s)
   unfolding happens get
   get_delivers s gnb number teid item rest count packet few found w =
@@ -105,7 +105,7 @@ module _ (reading : Reading) where
       (ue_hands u bearer ue (packet_pdu count packet) count packet w))))
 
   pub ue_delivers : (s : PlainState) (ue : UeId) (bearer : BearerId) (home : NodeId) (item : Item (Written Pdu)) (u : UeNode) (count : ℕ) (packet : List ℕ)
-      → length s.bag.letters ≤ most_letters → item.key ≡ entity ue bearer Dl → item.content.says ≡ packet_pdu count packet
+      → length s.bag.control_messages ≤ most_control_messages → item.key ≡ entity ue bearer Dl → item.content.says ≡ packet_pdu count packet
       → ue_of s.units ue ≡ Some u → IsAwaitedBy u bearer count
       → IsDeliveredBy (entity u.plan.ue bearer Dl) count packet (carry_done (plain_world reading) (entity ue bearer Dl) home item s)
   ue_delivers s ue bearer home item u count packet few key says is w =
@@ -121,7 +121,7 @@ module _ (reading : Reading) where
   carried_delivers key count packet on home s (is_refused reason) p = absurd p
 
   pub air_delivers : (s : PlainState) (ue : UeId) (bearer : BearerId) (home : NodeId) (item : Item (Written Pdu)) (u : UeNode) (count : ℕ) (packet : List ℕ)
-      → length s.bag.letters ≤ most_letters → has_bearer s ue bearer ≡ true → ready_home s ue ≡ Some home
+      → length s.bag.control_messages ≤ most_control_messages → has_bearer s ue bearer ≡ true → ready_home s ue ≡ Some home
       → nth (radio_of s (entity ue bearer Dl)).items (radio_of s (entity ue bearer Dl)).carried ≡ Some item
       → item.key ≡ entity ue bearer Dl → item.content.says ≡ packet_pdu count packet → ue_of s.units ue ≡ Some u → IsAwaitedBy u bearer count
       → DeliversIn (entity u.plan.ue bearer Dl) count packet (happens (plain_world reading) (Air ue bearer Dl) s)

@@ -12,9 +12,9 @@ use Rattle.gnb_types.specs.declared.reasons.DropReason.TheVariants.{Duplicate}
 use Rattle.pdcp_defs.specs.Receivers.{is_duplicate, is_ahead, stored, deliver as handed_up}
 use Rattle.message_types.specs.declared.rrc.Token.{Token}
 use Rattle.unit_defs.specs.Ways.{Message, Pdu, packet_content, Load, Output, deliver, held, closed, packet_input, radio_input, Answer, gives, spent, with_outputs, ◌then◌, nothing, puts, drops}
-use Rattle.unit_defs.specs.UpRecords.{UpBearer, UpContext, UpTunnel, TunnelKind, n3, f1u_uplink, forwarding_down, forwarding_up, CuUp, UpAt, up_at}
-use Rattle.unit_defs.specs.UpBearers.{is_over, open_teids, delivered, deliver_stored}
-use Rattle.unit_defs.specs.UpItems.{stored_at, passed_up, took_uplink, took}
+use Rattle.unit_defs.specs.CuUpRecords.{CuUpBearer, CuUpContext, CuUpTunnel, TunnelKind, n3, f1u_uplink, forwarding_down, forwarding_up, CuUp, CuUpScope, cu_up_scope}
+use Rattle.unit_defs.specs.CuUpBearers.{is_over, open_teids, delivered, deliver_stored}
+use Rattle.unit_defs.specs.CuUpItems.{stored_at, passed_up, took_uplink, took}
 use Rattle.unit_defs.specs.CuUp.{context_of, ended, ended_if_over, end_where_over, with_bearer, taken_by, taken_in, taken_of as taken_of_context, taken_on, take, cu_up_acts}
 use Rattle.unit_defs.specs.Ue.{UeBearer, UeNode, of_bearer, handed, took_data, took as took_down, take as take_down, with_bearer as with_ue_bearer, ue_acts}
 use Rattle.run_defs.specs.Runs.{plain_way, taken_of}
@@ -54,19 +54,19 @@ hands_then ue bearer dir count packet (spent counter) f h silent = absurd h
 
 -- ---- a CU-UP's bearer
 
-module _ (at : UpAt) where
+module _ (at : CuUpScope) where
   silent_up : (es : List (ℕ × List ℕ)) → IsSilent (delivered plain_way at es)
   silent_up [] = tt
   silent_up (e ∷ es) = silent_up es
 
-  hands_up : (b : UpBearer) (count : ℕ) (p : List ℕ) → Awaits b.receiver count
+  hands_up : (b : CuUpBearer) (count : ℕ) (p : List ℕ) → Awaits b.receiver count
       → Hands at.ue at.bearer Ul count p (deliver_stored plain_way at (record b { receiver = stored b.receiver count p }))
   unfolding deliver_stored
   hands_up b count p awaits =
       let found = is_delivered b.receiver count awaits p in
       (delivered plain_way at found.0, ap (delivered plain_way at) found.1, silent_up found.0)
 
-  took_hands : (b : UpBearer) (count : ℕ) (p : List ℕ) → at.flags.released ≡ false → at.flags.frozen ≡ false → Awaits b.receiver count
+  took_hands : (b : CuUpBearer) (count : ℕ) (p : List ℕ) → at.flags.released ≡ false → at.flags.frozen ≡ false → Awaits b.receiver count
       → Hands at.ue at.bearer Ul count p (took_uplink plain_way at (Some count) p b)
   unfolding took_uplink
   took_hands b count p released frozen awaits =
@@ -76,7 +76,7 @@ module _ (at : UpAt) where
       (unless (Hands at.ue at.bearer Ul count p) at.flags.frozen _ (deliver_stored plain_way at (record b { receiver = stored b.receiver count p })) frozen
       (hands_up b count p awaits)))
 
-  item_hands : (kind : TunnelKind) (teid : ℕ) (load : Load Pdu) (b : UpBearer) (count : ℕ) (p : List ℕ) → Brings kind load count p
+  item_hands : (kind : TunnelKind) (teid : ℕ) (load : Load Pdu) (b : CuUpBearer) (count : ℕ) (p : List ℕ) → Brings kind load count p
       → at.flags.released ≡ false → at.flags.frozen ≡ false → Awaits b.receiver count
       → Hands at.ue at.bearer Ul count p (took plain_way at kind teid (taken_of load) b)
   unfolding took
@@ -98,14 +98,14 @@ silent_teids : (teids : List ℕ) → IsSilent {M = Message Token} {L = Load Pdu
 silent_teids [] = tt
 silent_teids (t ∷ ts) = silent_teids ts
 
-silent_closings : (es : List (BearerId × UpBearer))
+silent_closings : (es : List (BearerId × CuUpBearer))
     → IsSilent {M = Message Token} {L = Load Pdu} {P = Pdu} (flat_map (λ e. map (λ teid. closed teid) (open_teids e.1)) es)
 silent_closings [] = tt
 silent_closings (e ∷ es) =
     both_silent (map (λ teid. closed teid) (open_teids e.1)) (flat_map (λ e. map (λ teid. closed teid) (open_teids e.1)) es)
     (silent_teids (open_teids e.1)) (silent_closings es)
 
-ended_silent : (r : PlainUp) (ue : UeId) (c : UpContext) → Silent (ended plain_way r ue c)
+ended_silent : (r : PlainUp) (ue : UeId) (c : CuUpContext) → Silent (ended plain_way r ue c)
 unfolding ended
 ended_silent r ue c = silent_closings c.bearers
 
@@ -113,15 +113,15 @@ over_silent : (ue : UeId) (r : PlainUp) → Silent (end_where_over plain_way ue 
 unfolding end_where_over
 over_silent ue r = by (context_of r ue)
   where
-    if_over : (c : UpContext) (t : Bool) → Silent (if t then ended plain_way r ue c else nothing r)
+    if_over : (c : CuUpContext) (t : Bool) → Silent (if t then ended plain_way r ue c else nothing r)
     if_over c true = ended_silent r ue c
     if_over c false = tt
 
-    by : (c : Option UpContext) → Silent (ended_if_over plain_way ue r c)
+    by : (c : Option CuUpContext) → Silent (ended_if_over plain_way ue r c)
     by None = tt
     by (Some c) = if_over c (c.flags.released && list_all (λ e. is_over c.flags e.1) c.bearers)
 
-bearer_hands : (r : PlainUp) (ue : UeId) (c : UpContext) (bearer : BearerId) (count : ℕ) (p : List ℕ) (a : Plainly UpBearer)
+bearer_hands : (r : PlainUp) (ue : UeId) (c : CuUpContext) (bearer : BearerId) (count : ℕ) (p : List ℕ) (a : Plainly CuUpBearer)
     → Hands ue bearer Ul count p a → Hands ue bearer Ul count p (with_bearer plain_way r ue c bearer a)
 bearer_hands r ue c bearer count p (gives outputs b) h = h
 bearer_hands r ue c bearer count p (spent counter) h = absurd h
@@ -130,17 +130,17 @@ pub up_hands : (r : PlainUp) (teid : ℕ) (load : Load Pdu) (count : ℕ) (p : L
     → Hands w.tunnel.ue w.tunnel.bearer Ul count p (cu_up_acts plain_way r (packet_input teid (taken_of load)))
 unfolding cu_up_acts take
 up_hands r teid load count p w =
-    let t : UpTunnel = w.tunnel in
-    let c : UpContext = w.context in
-    let b : UpBearer = w.bearer in
+    let t : CuUpTunnel = w.tunnel in
+    let c : CuUpContext = w.context in
+    let b : CuUpBearer = w.bearer in
     subst (λ o. Hands t.ue t.bearer Ul count p (taken_on plain_way r teid (taken_of load) o)) (sym w.is_open)
     (subst (λ o. Hands t.ue t.bearer Ul count p (taken_of_context plain_way r t teid (taken_of load) o)) (sym w.is_there)
     (subst (λ o. Hands t.ue t.bearer Ul count p (taken_in plain_way r t teid (taken_of load) c o)) (sym w.has)
     (subst (λ o. Hands t.ue t.bearer Ul count p (taken_by plain_way r t teid (taken_of load) c b o)) (sym w.isnt_held)
     (hands_then t.ue t.bearer Ul count p
-    (with_bearer plain_way r t.ue c t.bearer (took plain_way (up_at t.ue c t.bearer) t.kind teid (taken_of load) b)) (end_where_over plain_way t.ue)
-    (bearer_hands r t.ue c t.bearer count p (took plain_way (up_at t.ue c t.bearer) t.kind teid (taken_of load) b)
-    (item_hands (up_at t.ue c t.bearer) t.kind teid load b count p w.brings w.released w.frozen w.awaits))
+    (with_bearer plain_way r t.ue c t.bearer (took plain_way (cu_up_scope t.ue c t.bearer) t.kind teid (taken_of load) b)) (end_where_over plain_way t.ue)
+    (bearer_hands r t.ue c t.bearer count p (took plain_way (cu_up_scope t.ue c t.bearer) t.kind teid (taken_of load) b)
+    (item_hands (cu_up_scope t.ue c t.bearer) t.kind teid load b count p w.brings w.released w.frozen w.awaits))
     (over_silent t.ue)))))
 
 -- ---- a terminal

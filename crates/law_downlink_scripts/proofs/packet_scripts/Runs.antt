@@ -19,14 +19,14 @@ use Rattle.scenario_text.specs.declared.event.Event.{Event}
 use Rattle.scenario_text.specs.declared.event.Event.TheVariants as events
 use Rattle.unit_defs.specs.Ways.{Message, Pdu, Load, Put, held, no}
 use Rattle.unit_defs.specs.Core.{CorePath}
-use Rattle.unit_defs.specs.Static.{up_has_room, up_has_teids, du_has_teids}
+use Rattle.unit_defs.specs.Static.{cu_up_has_room, cu_up_has_teids, du_has_teids}
 use Rattle.unit_defs.specs.Ue.{largest_packet}
 use Rattle.transport_defs.specs.declared.Item.{Item}
 use Rattle.transport_defs.specs.Links.{nth}
-use Rattle.run_defs.specs.Units.{Units, up_of, du_of}
+use Rattle.run_defs.specs.Units.{Units, cu_up_of, du_of}
 use Rattle.run_defs.specs.Written.{Written, WrittenStepped}
 use Rattle.run_defs.specs.States.{State, item_for, carried_for, confirmed_for, offer_for, stepped, step_spent, spent_counter, goes, stops, goes_on, Within, Outcome, as_step, refused, entity, sn_of, was_attached, has_bearer, radio_of}
-use Rattle.run_defs.specs.Steps.{letters_spent, check_spans, too_many_letters, Done, is_done, is_held, is_refused, carried_out, done_with, does, ordered_by}
+use Rattle.run_defs.specs.Steps.{control_messages_spent, check_spans, too_many_control_messages, Done, is_done, is_held, is_refused, carried_out, done_with, does, ordered_by}
 use Rattle.run_defs.specs.Conditions.{is_held_by_units, ready_home, receiver_of, sender_of}
 use Rattle.run_defs.specs.Events.{static, offered, offer_on_path, offer_by, offer, taken_off, get_done, got_by, get_on, get, carried_off, carry_done, carried_by, air_item, air_at, air, confirmed_off, confirm_done, ack_items, ack_at, ack, is_lossy, lose_items, lose_item_on, lose_item, ask}
 use Rattle.run_defs.specs.Runs.{Reading, plain_world, happens, tunnel_end, PlainGiven}
@@ -69,7 +69,7 @@ module _ (reading : Reading) where
   module _ (node : NodeId) (given : PlainGiven) (taken : Option ℕ) (first : PlainState → PlainWithin) (is_taken : IsTaken reading given)
       (keeps : KeepsBag (plain_world reading) first) (s : PlainState) where
     if_few : (outputs : List PlainPut) (units : Units (Message Token) Token) → IsSilent outputs → (t : Bool)
-        → DoneStays s (if t then is_done (stops [] (spent_counter letters_spent))
+        → DoneStays s (if t then is_done (stops [] (spent_counter control_messages_spent))
         else is_done (as_step (Some node) (carried_out (plain_world reading) node taken first outputs units s)))
     if_few outputs units silent true = tt
     if_few outputs units silent false =
@@ -81,7 +81,7 @@ module _ (reading : Reading) where
     done_stays (stepped (held reason ∷ []) units) is = tt
     done_stays (stepped (no reason ∷ []) units) is = tt
     done_stays (stepped outputs units) is =
-        if_few outputs units (takes_silently reading (sn_of s) s.units units node given outputs is_taken is) (too_many_letters (plain_world reading) outputs s)
+        if_few outputs units (takes_silently reading (sn_of s) s.units units node given outputs is_taken is) (too_many_control_messages (plain_world reading) outputs s)
     done_stays (step_spent counter) is = tt
 
     does_stays : DoneStays s (does (plain_world reading) node given taken first s)
@@ -94,8 +94,8 @@ module _ (reading : Reading) where
   unfolding static
   static_stays plan s =
       either s (was_attached s plan.ue || is_held_by_units plan s.units) _ _ refl
-      (either s (not (up_has_room (up_of s.units plan.gnb plan.up) plan)) _ _ refl
-      (either s (up_has_teids (up_of s.units plan.gnb plan.up) plan && du_has_teids (du_of s.units plan.gnb plan.du) plan) _ _ refl tt))
+      (either s (not (cu_up_has_room (cu_up_of s.units plan.gnb plan.up) plan)) _ _ refl
+      (either s (cu_up_has_teids (cu_up_of s.units plan.gnb plan.up) plan && du_has_teids (du_of s.units plan.gnb plan.du) plan) _ _ refl tt))
 
   on_path_stays : (ue : UeId) (bearer : BearerId) (p : List ℕ) (s : PlainState) (o : Option CorePath)
       → Stays s (offer_on_path (plain_world reading) ue bearer p s o)

@@ -16,21 +16,21 @@ use Rattle.pdcp_defs.specs.Receivers.{is_duplicate, is_ahead, stored, deliver as
 use Rattle.message_types.specs.declared.rrc.Token.{Token}
 use Rattle.tables.specs.Tables.{find}
 use Rattle.unit_defs.specs.Ways.{Message, Pdu, Load, Put, Output, control, packet, radio, deliver, dropped, held, opened, closed, failed, no, uplink, Content, packet_content, report_content, Input, control_input, packet_input, radio_input, confirm_input, offer_input, tick_input, order_input, gives, spent, with_outputs, ◌then◌, nothing, puts, drops, counts_spent}
-use Rattle.unit_defs.specs.UpRecords.{CuUp}
+use Rattle.unit_defs.specs.CuUpRecords.{CuUp}
 use Rattle.unit_defs.specs.CuUp.{cu_up_acts, take as up_take}
 use Rattle.unit_defs.specs.Du.{Du, context_of, pass_up, confirm as du_confirm, confirmed as du_confirmed, du_acts, take as du_take}
-use Rattle.unit_defs.specs.CpRecords.{CuCpRecord}
+use Rattle.unit_defs.specs.CuCpRecords.{CuCpRecord}
 use Rattle.unit_defs.specs.CuCp.{cu_cp_acts}
 use Rattle.unit_defs.specs.Ue.{UeNode, UeBearer, is_connected, data_output, number_each, number_waiting, with_bearer, of_bearer, at_bearer, used_uplink, largest_packet, offered, offer, handed, took, take, confirmed_if, confirmed, confirm, ue_acts}
-use Rattle.run_defs.specs.Units.{Units, cp_of, with_cp, up_of, with_up, du_of, with_du, ue_of, with_ue}
-use Rattle.run_defs.specs.States.{letter_for, item_for, carried_for, confirmed_for, offer_for, tick_for, order_for, octets_from, octets_on, Lengths, stepped, step_spent}
+use Rattle.run_defs.specs.Units.{Units, cu_cp_of, with_cu_cp, cu_up_of, with_cu_up, du_of, with_du, ue_of, with_ue}
+use Rattle.run_defs.specs.States.{control_message_for, item_for, carried_for, confirmed_for, offer_for, tick_for, order_for, octets_from, octets_on, Lengths, stepped, step_spent}
 use Rattle.run_defs.specs.Written.{Written, PlainStepped, WrittenStepped, written_step}
 use Rattle.run_defs.specs.Runs.{Reading, Plain, plain_way, taken_of, content_of, stepped_with, ue_stepped, acts_on, PlainGiven, plain_answer}
 use Rattle.law_requests_act_once.specs.channel.Moves.{sent_by}
 use Rattle.law_requests_act_once.proofs.channel_rows.Requests.{Leaves}
 use Rattle.law_requests_act_once.proofs.channel_rows.CuUps.{take_leaves as up_leaves, kept as up_kept}
 use Rattle.law_requests_act_once.proofs.channel_rows.Dus.{take_leaves as du_leaves, context_leaves, confirmed_leaves, kept as du_kept}
-use Rattle.law_requests_act_once.specs.run_channels.Tied.{run_talk}
+use Rattle.law_requests_act_once.specs.run_channels.Reached.{run_talk}
 use Rattle.law_downlink_scripts.proofs.delivers.Lines.{IsSilent, both_silent, silent_written}
 
 abbrev PlainOutput : Type 0
@@ -205,9 +205,9 @@ module _ (reading : Reading) where
   with_silent back (spent k) p = tt
 
   acted : (u : Units (Message Token) Token) (node : NodeId) (input : Input Token Pdu) → IsPacket input → StepSilent (acts_on reading u node input)
-  acted u (CuCp gnb) input p = with_silent (with_cp u gnb) (cu_cp_acts plain_way (cp_of u gnb) input) (cp_silent (cp_of u gnb) input p)
+  acted u (CuCp gnb) input p = with_silent (with_cu_cp u gnb) (cu_cp_acts plain_way (cu_cp_of u gnb) input) (cp_silent (cu_cp_of u gnb) input p)
   acted u (up_id gnb number) input p =
-      with_silent (with_up u gnb number) (cu_up_acts plain_way (up_of u gnb number) input) (up_silent (up_id gnb number) (up_of u gnb number) input p)
+      with_silent (with_cu_up u gnb number) (cu_up_acts plain_way (cu_up_of u gnb number) input) (up_silent (up_id gnb number) (cu_up_of u gnb number) input p)
   acted u (du_id gnb number) input p =
       with_silent (with_du u gnb number) (du_acts plain_way (du_of u gnb number) input) (du_silent (du_id gnb number) (du_of u gnb number) input p)
   acted u (Ue ue) input p = by (ue_of u (record { 0 = ue }))
@@ -241,7 +241,7 @@ module _ (reading : Reading) where
       written lengths (acts_on reading u node input) (acted u node input tt)
   by_given lengths u node (offer_for ue bearer x) p =
       written lengths (acts_on reading u node (offer_input ue bearer x)) (acted u node (offer_input ue bearer x) tt)
-  by_given lengths u node (letter_for from message) p = absurd p
+  by_given lengths u node (control_message_for from message) p = absurd p
   by_given lengths u node tick_for p = absurd p
   by_given lengths u node (order_for order) p = absurd p
   by_given lengths u node (octets_from from octets) p = absurd p

@@ -13,17 +13,17 @@ use Rattle.scenario_text.specs.declared.event.Event.{Event}
 use Rattle.scenario_text.specs.declared.event.Event.TheVariants.{Get, Air}
 use Rattle.tables.specs.Tables.{find}
 use Rattle.unit_defs.specs.Ways.{Message, Pdu, packet_pdu, Load}
-use Rattle.unit_defs.specs.UpRecords.{UpBearer}
+use Rattle.unit_defs.specs.CuUpRecords.{CuUpBearer}
 use Rattle.unit_defs.specs.Ue.{UeBearer, UeNode}
 use Rattle.transport_defs.specs.declared.Item.{Item}
-use Rattle.transport_defs.specs.Links.{most_letters, nth}
-use Rattle.run_defs.specs.Units.{up_of, ue_of}
+use Rattle.transport_defs.specs.Links.{most_control_messages, nth}
+use Rattle.run_defs.specs.Units.{cu_up_of, ue_of}
 use Rattle.run_defs.specs.Written.{Written}
 use Rattle.run_defs.specs.States.{State, new_state, has_bearer, radio_of, entity}
 use Rattle.run_defs.specs.Conditions.{ready_home}
 use Rattle.run_defs.specs.Runs.{Reading, plain_world, happens}
 use Rattle.proof_run_steps.specs.steps.Reached.{reached}
-use Rattle.proof_unit_steps.specs.receivers.Ready.{StoresAbove, UpStores}
+use Rattle.proof_unit_steps.specs.receivers.Ready.{StoresAbove, CuUpStores}
 use Rattle.proof_unit_steps.proofs.receivers.Receivers.{each_above}
 use Rattle.proof_unit_steps.proofs.receivers.CuUps.{found_in}
 use Rattle.proof_run_steps.specs.receivers.AllReady.{AreReady}
@@ -42,7 +42,7 @@ module _ (reading : Reading) (events : List Event) (t : State (Message Token) To
   ready : AreReady t.units
   ready = ready_later reading events new_state t is (first_ready (Message Token) Token)
 
-  few : length t.bag.letters ≤ most_letters
+  few : length t.bag.control_messages ≤ most_control_messages
   few = few_in_run reading events new_state t (first_few (Message Token) Token (Written (Load Pdu)) (Written Pdu)) is
 
   own : HoldTheirOwn t
@@ -52,11 +52,11 @@ module _ (reading : Reading) (events : List Event) (t : State (Message Token) To
 
   pub up_run_delivers : (gnb : Gnb) (number teid : ℕ) (item : Item (Written (Load Pdu))) (rest : List (Item (Written (Load Pdu)))) (count : ℕ) (packet : List ℕ)
       → find tunnel_cmp t.tunnels (record { node = CuUp gnb number; teid = teid }) ≡ Some (item ∷ rest)
-      → (next : IsNextAt (up_of t.units gnb number) teid item.content.says count packet)
+      → (next : IsNextAt (cu_up_of t.units gnb number) teid item.content.says count packet)
       → DeliversIn (entity next.tunnel.ue next.tunnel.bearer Ul) count packet (happens (plain_world reading) (Get (CuUp gnb number) teid) t)
   up_run_delivers gnb number teid item rest count packet found n =
-      let stores : UpStores n.context.flags n.bearer.receiver =
-      found_in (λ (y : UpBearer). UpStores n.context.flags y.receiver) n.context.bearers n.tunnel.bearer n.bearer
+      let stores : CuUpStores n.context.flags n.bearer.receiver =
+      found_in (λ (y : CuUpBearer). CuUpStores n.context.flags y.receiver) n.context.bearers n.tunnel.bearer n.bearer
       (ready.0 gnb number n.tunnel.ue n.context n.is_there) n.has in
       get_delivers reading t gnb number teid item rest count packet few found (record {
         tunnel = n.tunnel;

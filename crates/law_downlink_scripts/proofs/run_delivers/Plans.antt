@@ -7,10 +7,10 @@ use Rattle.message_types.specs.declared.rrc.Token.{Token}
 use Rattle.scenario_text.specs.declared.event.Event.{Event}
 use Rattle.unit_defs.specs.Ways.{Message, Pdu, Load, Answer, gives, spent}
 use Rattle.unit_defs.specs.Ue.{UeNode, new_ue, placed, ue_acts}
-use Rattle.unit_defs.specs.UpRecords.{CuUp}
+use Rattle.unit_defs.specs.CuUpRecords.{CuUp}
 use Rattle.unit_defs.specs.CuUp.{cu_up_acts}
 use Rattle.unit_defs.specs.Du.{Du, du_acts}
-use Rattle.unit_defs.specs.CpRecords.{CuCpRecord}
+use Rattle.unit_defs.specs.CuCpRecords.{CuCpRecord}
 use Rattle.unit_defs.specs.CuCp.{cu_cp_acts}
 use Rattle.unit_defs.specs.Core.{CoreRecord, core_acts}
 use Rattle.run_defs.specs.Written.{Written}

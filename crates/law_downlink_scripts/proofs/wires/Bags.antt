@@ -8,11 +8,11 @@ use Rattle.std.specs.BTreeMap.{is_at}
 use Rattle.std.proofs.lemmas.Map.Lookups.{exact_unsigned}
 use Rattle.std.proofs.lemmas.List.FromFn.{length-enumerate_from}
 use Rattle.tables.specs.Tables.{find}
-use Rattle.transport_defs.specs.declared.Letter.{Letter}
-use Rattle.transport_defs.specs.Links.{Bag, put_letter, letter, landed}
+use Rattle.transport_defs.specs.declared.ControlMessage.{ControlMessage}
+use Rattle.transport_defs.specs.Links.{Bag, put_control_message, control_message, landed}
 
-abbrev pub InBag : {M : Type 0} → List (Letter M) → Bag M → Type 0
-InBag letters bag = bag.letters ≡ enumerate_from 1 letters
+abbrev pub InBag : {M : Type 0} → List (ControlMessage M) → Bag M → Type 0
+InBag control_messages bag = bag.control_messages ≡ enumerate_from 1 control_messages
 
 numbered_push : {X : Type 0} (n : ℕ) (xs : List X) (x : X) → enumerate_from n (xs ++ x ∷ []) ≡ enumerate_from n xs ++ (n + length xs, x) ∷ []
 numbered_push n [] x = ap (λ (c : ℕ). (c, x) ∷ []) (omega arith)
@@ -39,24 +39,24 @@ unfolding find
 numbered_at k [] n x e = absurd cc
 numbered_at k (y ∷ ys) n x e = numbered_one k y ys n x (is_at (nat_cmp n) k) refl e (numbered_at (k + 1) ys n x)
 
-module _ {M : Type 0} (letters : List (Letter M)) (bag : Bag M) (k : InBag letters bag) where
-  pub next_number : length bag.letters + 1 ≡ length letters + 1
-  next_number = ap (λ (n : ℕ). n + 1) (ap length k ∙ length-enumerate_from 1 letters)
+module _ {M : Type 0} (control_messages : List (ControlMessage M)) (bag : Bag M) (k : InBag control_messages bag) where
+  pub next_number : length bag.control_messages + 1 ≡ length control_messages + 1
+  next_number = ap (λ (n : ℕ). n + 1) (ap length k ∙ length-enumerate_from 1 control_messages)
 
-  pub put_in_bag : (l : Letter M) → InBag (letters ++ l ∷ []) (put_letter bag l)
-  unfolding put_letter
+  pub put_in_bag : (l : ControlMessage M) → InBag (control_messages ++ l ∷ []) (put_control_message bag l)
+  unfolding put_control_message
   put_in_bag l =
-      ap (λ (ls : List (ℕ × Letter M)). ls ++ (length bag.letters + 1, l) ∷ []) k
-      ∙ ap (λ (n : ℕ). enumerate_from 1 letters ++ (n, l) ∷ []) (next_number ∙ (omega arith)) ∙ sym (numbered_push 1 letters l)
+      ap (λ (ls : List (ℕ × ControlMessage M)). ls ++ (length bag.control_messages + 1, l) ∷ []) k
+      ∙ ap (λ (n : ℕ). enumerate_from 1 control_messages ++ (n, l) ∷ []) (next_number ∙ (omega arith)) ∙ sym (numbered_push 1 control_messages l)
 
-  pub landed_in_bag : (number : ℕ) → InBag letters (landed bag number)
+  pub landed_in_bag : (number : ℕ) → InBag control_messages (landed bag number)
   unfolding landed
   landed_in_bag number = k
 
-  pub given_was_put : (number : ℕ) (l : Letter M) → letter bag number ≡ Some l
-      → (0 ≡ number → ⊥) × (slice_get letters (number - 1) ≡ Some l)
-  unfolding letter
+  pub given_was_put : (number : ℕ) (l : ControlMessage M) → control_message bag number ≡ Some l
+      → (0 ≡ number → ⊥) × (slice_get control_messages (number - 1) ≡ Some l)
+  unfolding control_message
   given_was_put number l e =
-      let found = numbered_at 1 letters number l (ap (λ (ls : List (ℕ × Letter M)). find nat_cmp ls number) (sym k) ∙ e) in
+      let found = numbered_at 1 control_messages number l (ap (λ (ls : List (ℕ × ControlMessage M)). find nat_cmp ls number) (sym k) ∙ e) in
       let above : 1 ≤ number = found.0 in
       (λ zero_is. omega arith, found.1)

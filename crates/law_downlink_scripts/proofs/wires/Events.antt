@@ -24,16 +24,16 @@ use Rattle.unit_defs.specs.Core.{CorePath}
 use Rattle.unit_defs.specs.Ways.{teids_spent}
 use Rattle.unit_defs.specs.Ue.{may_return}
 use Rattle.unit_defs.specs.Accessors.{ue_home}
-use Rattle.unit_defs.specs.Static.{up_has_room, up_has_teids, du_has_teids}
+use Rattle.unit_defs.specs.Static.{cu_up_has_room, cu_up_has_teids, du_has_teids}
 use Rattle.transport_defs.specs.declared.Item.{Item}
-use Rattle.transport_defs.specs.declared.Letter.{Letter}
-use Rattle.transport_defs.specs.Links.{letter, landed, nth, is_in}
+use Rattle.transport_defs.specs.declared.ControlMessage.{ControlMessage}
+use Rattle.transport_defs.specs.Links.{control_message, landed, nth, is_in}
 use Rattle.run_defs.specs.Lines.{is_quiet, is_busy, lost_message}
 use Rattle.run_defs.specs.Said.{OnLinks}
-use Rattle.run_defs.specs.Units.{starting_nodes, up_of, du_of, ue_of, is_source}
-use Rattle.run_defs.specs.States.{State, letter_for, item_for, carried_for, confirmed_for, offer_for, tick_for, order_for, octets_from, octets_on, prints, sn_of, World, stops, goes_on, Outcome, as_step, refused, entity, CoreStepped, core_stepped, was_attached, is_attached, radio_of, spent_counter}
-use Rattle.run_defs.specs.Steps.{with_tunnel, check_spans, put_out_all, lose_radios, connect_in, Done, is_done, is_held, is_refused, does, ordered_by, step, too_many_letters, letters_spent}
-use Rattle.run_defs.specs.Conditions.{tunnels_from, statically, seated, ready_home, receiver_of, sender_of, takes_letters, ticking, serving_gnb, serving_place, goal_of, rests, has_started, state_at, is_same_place, is_other_up, is_busy_with, is_interface, is_held_by_units}
+use Rattle.run_defs.specs.Units.{starting_nodes, cu_up_of, du_of, ue_of, is_source}
+use Rattle.run_defs.specs.States.{State, control_message_for, item_for, carried_for, confirmed_for, offer_for, tick_for, order_for, octets_from, octets_on, prints, sn_of, World, stops, goes_on, Outcome, as_step, refused, entity, CoreStepped, core_stepped, was_attached, is_attached, radio_of, spent_counter}
+use Rattle.run_defs.specs.Steps.{with_tunnel, check_spans, put_out_all, lose_radios, connect_in, Done, is_done, is_held, is_refused, does, ordered_by, step, too_many_control_messages, control_messages_spent}
+use Rattle.run_defs.specs.Conditions.{tunnels_from, statically, seated, ready_home, receiver_of, sender_of, takes_control_messages, ticking, serving_gnb, serving_place, goal_of, rests, has_started, state_at, is_same_place, is_other_up, is_busy_with, is_interface, is_held_by_units}
 use Rattle.run_defs.specs.Events.{taken_off, carried_off, confirmed_off, pump_limit, static, order_each, start, with_terminal, attach, offered, offer_on_path, offer_by, offer, get_done, got_by, get_on, get, carry_done, carried_by, air_item, air_at, air, confirm_done, ack_items, ack_at, ack, landed_as, core_put, give_to, give_on, give, lose_message_on, lose_message, lose_items, lose_item_on, lose_item, pump_on, pump_times, pump, tick, poll_at, poll, fail, arrive, come_back, handover_to, handover, cancel, leaves, release, ask, core_injected, inject_to, inject_message, inject_item}
 use Rattle.law_downlink_scripts.proofs.wires.Endings.{Goes, then_line}
 use Rattle.law_downlink_scripts.proofs.wires.Tunnels.{items_at, opened_same}
@@ -70,7 +70,7 @@ module _ {M C L P : Type 0} (world : World M C L P) where
   kept_static : (plan : Plan) (on : OnLinks M) (s : State M C L P) → Kept world on s → find ue_cmp s.plans plan.ue ≡ None
       → Kept world on (statically plan s)
   kept_static plan on s k none =
-      let up = (up_of s.units plan.gnb plan.up).next_teid in
+      let up = (cu_up_of s.units plan.gnb plan.up).next_teid in
       let du = (du_of s.units plan.gnb plan.du).next_teid in
       let ups : List (TunnelEnd × List (Item L)) = tunnels_from (CuUp plan.gnb plan.up) up (2 * plan.bearers) s.tunnels in
       let t : State M C L P = record (seated plan s) { tunnels = tunnels_from (Du plan.gnb plan.du) du plan.bearers ups } in
@@ -88,9 +88,9 @@ module _ {M C L P : Type 0} (world : World M C L P) where
   unfolding static
   goes_static plan on s k =
       choose_by world on (was_attached s plan.ue || is_held_by_units plan s.units) (refused Attached s) _ (λ h. goes_refused world Attached on s k)
-      (λ h. choose world on (not (up_has_room (up_of s.units plan.gnb plan.up) plan)) _ _ (goes_refused world RefuseReasons.Quota on s k)
+      (λ h. choose world on (not (cu_up_has_room (cu_up_of s.units plan.gnb plan.up) plan)) _ _ (goes_refused world RefuseReasons.Quota on s k)
       (choose world on
-      (up_has_teids (up_of s.units plan.gnb plan.up) plan && du_has_teids (du_of s.units plan.gnb plan.du) plan)
+      (cu_up_has_teids (cu_up_of s.units plan.gnb plan.up) plan && du_has_teids (du_of s.units plan.gnb plan.du) plan)
       (goes_on (statically plan s)) (stops [] (spent_counter teids_spent))
       (record { it = (tt, kept_static plan on s k (is_some_not _ (neither _ (is_held_by_units plan s.units) h))) }) (record { it = tt })))
 
@@ -214,45 +214,45 @@ module _ {M C L P : Type 0} (world : World M C L P) where
 
   -- ---- give, lose and pump
 
-  goes_core : (number : ℕ) (l : Letter M) (on : OnLinks M) (s : State M C L P) → Kept world on s → letter s.bag number ≡ Some l
+  goes_core : (number : ℕ) (l : ControlMessage M) (on : OnLinks M) (s : State M C L P) → Kept world on s → control_message s.bag number ≡ Some l
       → (answer : CoreStepped M C L P) → KeepsTo world on (core_put world number l s answer)
   goes_core number l on s k found (core_stepped outputs core) =
-      choose world on (too_many_letters world outputs s) (stops [] (spent_counter letters_spent)) _ (record { it = tt })
+      choose world on (too_many_control_messages world outputs s) (stops [] (spent_counter control_messages_spent)) _ (record { it = tt })
       (a_step world on (Some Core) _
       (then_line (Kept world) (Kept world) on _ check_spans
       (then_line (Kept world) (Kept world) on (landed_as world number l (record s { core = core })) (put_out_all world Core None outputs)
       (goes_landed world on (record s { core = core }) k number l found) (goes_out_all world Core None outputs))
       (goes_checked world)))
 
-  goes_to_unit : (number : ℕ) (l : Letter M) (node : NodeId) (on : OnLinks M) (s : State M C L P) → Kept world on s → letter s.bag number ≡ Some l
+  goes_to_unit : (number : ℕ) (l : ControlMessage M) (node : NodeId) (on : OnLinks M) (s : State M C L P) → Kept world on s → control_message s.bag number ≡ Some l
       → KeepsTo world on
-      (if takes_letters s node then ordered_by world s (does world node (letter_for l.from l.message) None (landed_as world number l) s)
+      (if takes_control_messages s node then ordered_by world s (does world node (control_message_for l.from l.message) None (landed_as world number l) s)
       else as_step (Some node) (landed_as world number l s))
   goes_to_unit number l node on s k found =
       choose world on _ _ _
       (goes_ordered world on s k _
       (goes_does world node None (landed_as world number l) on s
-      (λ units. goes_landed world on (record s { units = units }) k number l found) (letter_for l.from l.message)))
+      (λ units. goes_landed world on (record s { units = units }) k number l found) (control_message_for l.from l.message)))
       (a_step world on (Some node) (landed_as world number l s) (goes_landed world on s k number l found))
 
-  goes_to : (number : ℕ) (l : Letter M) (node : NodeId) (on : OnLinks M) (s : State M C L P) → Kept world on s → letter s.bag number ≡ Some l
+  goes_to : (number : ℕ) (l : ControlMessage M) (node : NodeId) (on : OnLinks M) (s : State M C L P) → Kept world on s → control_message s.bag number ≡ Some l
       → KeepsTo world on (give_to world number l node s)
-  goes_to number l Core on s k found = goes_core number l on s k found (world.core_answer (sn_of s) s.core (letter_for l.from l.message))
+  goes_to number l Core on s k found = goes_core number l on s k found (world.core_answer (sn_of s) s.core (control_message_for l.from l.message))
   goes_to number l (CuCp gnb) on s k found = goes_to_unit number l (CuCp gnb) on s k found
   goes_to number l (CuUp gnb n) on s k found = goes_to_unit number l (CuUp gnb n) on s k found
   goes_to number l (Du gnb n) on s k found = goes_to_unit number l (Du gnb n) on s k found
   goes_to number l (Ue ue) on s k found = goes_to_unit number l (Ue ue) on s k found
 
-  goes_give_on : (number : ℕ) (on : OnLinks M) (s : State M C L P) → Kept world on s → (o : Option (Letter M)) → letter s.bag number ≡ o
+  goes_give_on : (number : ℕ) (on : OnLinks M) (s : State M C L P) → Kept world on s → (o : Option (ControlMessage M)) → control_message s.bag number ≡ o
       → KeepsTo world on (give_on world number s o)
   goes_give_on number on s k None found = goes_refused world _ on s k
   goes_give_on number on s k (Some l) found = goes_to number l l.to on s k found
 
   pub goes_give : (number : ℕ) → Keeps world (give world number)
   unfolding give
-  goes_give number on s k = goes_give_on number on s k (letter s.bag number) refl
+  goes_give number on s k = goes_give_on number on s k (control_message s.bag number) refl
 
-  goes_lose_message_on : (number : ℕ) (o : Option (Letter M)) → Keeps world (λ s. lose_message_on world number s o)
+  goes_lose_message_on : (number : ℕ) (o : Option (ControlMessage M)) → Keeps world (λ s. lose_message_on world number s o)
   unfolding landed
   goes_lose_message_on number None on s k = goes_refused world _ on s k
   goes_lose_message_on number (Some l) on s k =
@@ -261,7 +261,7 @@ module _ {M C L P : Type 0} (world : World M C L P) where
 
   pub goes_lose_message : (number : ℕ) → Keeps world (lose_message world number)
   unfolding lose_message
-  goes_lose_message number on s k = goes_lose_message_on number (letter s.bag number) on s k
+  goes_lose_message number on s k = goes_lose_message_on number (control_message s.bag number) on s k
 
   goes_lose_items : (end : TunnelEnd) (on : OnLinks M) (s : State M C L P) → Kept world on s → (items : List (Item L))
       → find tunnel_cmp s.tunnels end ≡ Some items → KeepsTo world on (lose_items world end s items)
@@ -347,8 +347,8 @@ module _ {M C L P : Type 0} (world : World M C L P) where
   unfolding cancel
   goes_cancel ue on s k =
       choose world on (not (is_attached s ue)) _ _ (goes_refused world NoUe on s k)
-      (choose world on (is_source s.units.cp_a ue) _ _ (goes_step world (CuCp A) (order_for (orders.Cancel ue)) on s k)
-      (choose world on (is_source s.units.cp_b ue) _ _ (goes_step world (CuCp B) (order_for (orders.Cancel ue)) on s k)
+      (choose world on (is_source s.units.cu_cp_a ue) _ _ (goes_step world (CuCp A) (order_for (orders.Cancel ue)) on s k)
+      (choose world on (is_source s.units.cu_cp_b ue) _ _ (goes_step world (CuCp B) (order_for (orders.Cancel ue)) on s k)
       (goes_refused world Empty on s k)))
 
   goes_leaves : (ue : UeId) (on : OnLinks M) (s : State M C L P) → Kept world on s → Goes (Kept world) on (leaves world ue s)

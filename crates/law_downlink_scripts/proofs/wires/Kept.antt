@@ -12,8 +12,8 @@ use Rattle.tables.specs.Tables.{find, put, without, at}
 use Rattle.tables.proofs.TableLaws.{at-put, at-without}
 use Rattle.scenario_text.specs.declared.line.Item.{Item as ShownItem}
 use Rattle.transport_defs.specs.declared.Item.{Item}
-use Rattle.transport_defs.specs.declared.Letter.{Letter}
-use Rattle.transport_defs.specs.Links.{Radio, is_epoch, letter, nth, emptied}
+use Rattle.transport_defs.specs.declared.ControlMessage.{ControlMessage}
+use Rattle.transport_defs.specs.Links.{Radio, is_epoch, control_message, nth, emptied}
 use Rattle.run_defs.specs.Lines.{RunLine, put_item, got_item, lost_items, tunnel_link, radio_link, shown}
 use Rattle.run_defs.specs.Said.{OnLinks, with_items}
 use Rattle.run_defs.specs.States.{State, World, goes, goes_on, told_before, radio_of, with_radio}
@@ -42,7 +42,7 @@ module _ {M C L P : Type 0} (world : World M C L P) where
   abbrev pub Kept : OnLinks M → State M C L P → Type 0
   Kept on s =
       OnTunnels tunnel_item on.items (items_at s.tunnels) × OnRadios radio_item on.items (radio_at s.radios) (find ue_cmp s.connected)
-      × InBag on.letters s.bag × AreSeated s.connected s.plans
+      × InBag on.control_messages s.bag × AreSeated s.connected s.plans
 
   module _ (on : OnLinks M) (s : State M C L P) (k : Kept on s) where
     -- ---- tunnels
@@ -123,17 +123,17 @@ module _ {M C L P : Type 0} (world : World M C L P) where
 
     -- ---- control messages
 
-    pub goes_in_bag : (l : Letter M) → Goes Kept on (put_control world l s)
+    pub goes_in_bag : (l : ControlMessage M) → Goes Kept on (put_control world l s)
     unfolding put_control
     goes_in_bag l = (
-      (next_number on.letters s.bag k.2, tt),
-      (k.0, radios_apart radio_item on.items _ _ _ (λ q e. refl) k.1, put_in_bag on.letters s.bag k.2 l, k.3),
+      (next_number on.control_messages s.bag k.2, tt),
+      (k.0, radios_apart radio_item on.items _ _ _ (λ q e. refl) k.1, put_in_bag on.control_messages s.bag k.2 l, k.3),
     )
 
-    pub goes_landed : (number : ℕ) (l : Letter M) → letter s.bag number ≡ Some l → Goes Kept on (landed_as world number l s)
+    pub goes_landed : (number : ℕ) (l : ControlMessage M) → control_message s.bag number ≡ Some l → Goes Kept on (landed_as world number l s)
     goes_landed number l found = (
-      (given_was_put on.letters s.bag k.2 number l found, tt),
-      (k.0, k.1, landed_in_bag on.letters s.bag k.2 number, k.3),
+      (given_was_put on.control_messages s.bag k.2 number l found, tt),
+      (k.0, k.1, landed_in_bag on.control_messages s.bag k.2 number, k.3),
     )
 
     -- ---- radios

@@ -16,7 +16,7 @@ use Rattle.unit_defs.specs.declared.UeState.{UeState}
 use Rattle.unit_defs.specs.declared.UeState.TheVariants as ue_states
 use Rattle.unit_defs.specs.Accessors.{is_unconfirmed}
 use Rattle.run_defs.specs.Lines.{RunLine, held_at, has_settled, has_not_settled, is_quiet, is_busy, radio_link}
-use Rattle.run_defs.specs.Units.{up_of}
+use Rattle.run_defs.specs.Units.{cu_up_of}
 use Rattle.transport_defs.specs.declared.Item.{Item}
 use Rattle.transport_defs.specs.Links.{nth}
 use Rattle.run_defs.specs.Said.{OnLinks, WiresFrom}
@@ -164,7 +164,7 @@ module _ {M C L P : Type 0} (world : World M C L P) where
   goes_poll_at : (e : UeId × BearerId) (o : Option (ℕ × ℕ)) → Keeps world (λ s. poll_at world e s o)
   goes_poll_at e None on s k = just_goes_on world on s k
   goes_poll_at e (Some place) on s k =
-      choose world on (is_unconfirmed (up_of s.units (serving_gnb s e.0) place.0) e.0 e.1) _ _
+      choose world on (is_unconfirmed (cu_up_of s.units (serving_gnb s e.0) place.0) e.0 e.1) _ _
       (goes_quiet_order (CuUp (serving_gnb s e.0) place.0) (orders.Poll e.0 e.1) on s k) (just_goes_on world on s k)
 
   goes_poll_each : (es : List (UeId × BearerId)) → Keeps world (poll_each world es)

@@ -11,7 +11,7 @@ use Rattle.unit_defs.specs.Ways.{Put, control, packet, radio, deliver, dropped, 
 use Rattle.run_defs.specs.Units.{Units}
 use Rattle.run_defs.specs.Said.{OnLinks}
 use Rattle.run_defs.specs.States.{State, Given, Stepped, stepped, step_spent, World, Stop, spent_counter, sn_of, stops, goes_on, ◌next◌, Within, Outcome, as_step, refused, entity}
-use Rattle.run_defs.specs.Steps.{letters_spent, first_outstanding, entities_of, checked_by, check_spans, noted, count_beside, item_of, letter_of, put_out, put_out_all, Done, is_done, is_held, is_refused, reconnect_node, too_many_letters, carried_out, done_with, does, ordered_by, step}
+use Rattle.run_defs.specs.Steps.{control_messages_spent, first_outstanding, entities_of, checked_by, check_spans, noted, count_beside, item_of, control_message_of, put_out, put_out_all, Done, is_done, is_held, is_refused, reconnect_node, too_many_control_messages, carried_out, done_with, does, ordered_by, step}
 use Rattle.law_downlink_scripts.proofs.wires.Endings.{Goes, GoesBySteps, then_line, then_step, in_a_step}
 use Rattle.law_downlink_scripts.proofs.wires.Kept.{Kept, goes_on_tunnel, goes_opened, goes_closed, goes_in_bag, goes_on_radio}
 use Rattle.law_downlink_scripts.proofs.wires.Lost.{goes_reconnected_node}
@@ -53,7 +53,7 @@ module _ {M C L P : Type 0} (world : World M C L P) where
   kept_noted key Same on s k = k
 
   goes_out : (node : NodeId) (taken : Option ℕ) (output : Put M L P) → KeepsWithin (put_out world node taken output)
-  goes_out node taken (control to ue message) on s k = goes_in_bag world on s k (letter_of world node to ue message)
+  goes_out node taken (control to ue message) on s k = goes_in_bag world on s k (control_message_of world node to ue message)
   goes_out node taken (packet to teid ue bearer dir tag load) on s k =
       goes_on_tunnel world on (noted (entity ue bearer dir) tag s) (kept_noted (entity ue bearer dir) tag on s k)
       (record { node = to; teid = teid }) (item_of world ue bearer dir (count_beside tag taken) load)
@@ -97,14 +97,14 @@ module _ {M C L P : Type 0} (world : World M C L P) where
         goes_checked
 
     goes_if_few : (outputs : List (Put M L P)) (units : Units M C) (t : Bool)
-        → DoneGoes on (if t then is_done (stops [] (spent_counter letters_spent)) else is_done (as_step (Some node) (carried_out world node taken first outputs units s)))
+        → DoneGoes on (if t then is_done (stops [] (spent_counter control_messages_spent)) else is_done (as_step (Some node) (carried_out world node taken first outputs units s)))
     goes_if_few outputs units true = record { it = tt }
     goes_if_few outputs units false = a_step on (Some node) (carried_out world node taken first outputs units s) (goes_carried_out outputs units)
 
     goes_done : (answer : Stepped M C L P) → DoneGoes on (done_with world node taken first s answer)
     goes_done (stepped (held reason ∷ []) units) = tt
     goes_done (stepped (no reason ∷ []) units) = tt
-    goes_done (stepped outputs units) = goes_if_few outputs units (too_many_letters world outputs s)
+    goes_done (stepped outputs units) = goes_if_few outputs units (too_many_control_messages world outputs s)
     goes_done (step_spent counter) = record { it = tt }
 
     pub goes_does : (given : Given M L P) → DoneKeeps on (does world node given taken first s)

@@ -10,8 +10,8 @@ use Rattle.tables.specs.Tables.{find}
 use Rattle.pdcp_defs.specs.Receivers.{Receiver, is_ahead}
 use Rattle.message_types.specs.declared.rrc.Token.{Token}
 use Rattle.unit_defs.specs.Ways.{Message, Pdu, packet_pdu, Load, numbered, uplink}
-use Rattle.unit_defs.specs.UpRecords.{UpBearer, UpContext, UpTunnel, TunnelKind, n3, f1u_uplink, forwarding_down, forwarding_up, CuUp, up_at}
-use Rattle.unit_defs.specs.UpItems.{held_reason}
+use Rattle.unit_defs.specs.CuUpRecords.{CuUpBearer, CuUpContext, CuUpTunnel, TunnelKind, n3, f1u_uplink, forwarding_down, forwarding_up, CuUp, cu_up_scope}
+use Rattle.unit_defs.specs.CuUpItems.{held_reason}
 use Rattle.unit_defs.specs.Ue.{UeBearer, UeNode}
 use Rattle.run_defs.specs.Lines.{delivers}
 use Rattle.run_defs.specs.Said.{lines_in}
@@ -34,16 +34,16 @@ Brings forwarding_down load count packet = ⊥
 -- At this CU-UP an item on this tunnel has the packet that a bearer awaits, of a context that is neither frozen nor released, and
 -- isn't held.
 pub record IsAwaitedAt (r : CuUp (Message Token) Token) (teid : ℕ) (load : Load Pdu) (count : ℕ) (packet : List ℕ) : Type 0 where
-  pub tunnel : UpTunnel
+  pub tunnel : CuUpTunnel
   pub is_open : find nat_cmp r.tunnels teid ≡ Some tunnel
-  pub context : UpContext
+  pub context : CuUpContext
   pub is_there : find ue_cmp r.contexts tunnel.ue ≡ Some context
-  pub bearer : UpBearer
+  pub bearer : CuUpBearer
   pub has : find bearer_cmp context.bearers tunnel.bearer ≡ Some bearer
   pub brings : Brings tunnel.kind load count packet
   pub frozen : context.flags.frozen ≡ false
   pub released : context.flags.released ≡ false
-  pub isnt_held : held_reason (up_at tunnel.ue context tunnel.bearer) bearer tunnel.kind (taken_of load) ≡ None
+  pub isnt_held : held_reason (cu_up_scope tunnel.ue context tunnel.bearer) bearer tunnel.kind (taken_of load) ≡ None
   pub awaits : Awaits bearer.receiver count
 
 -- at this terminal a bearer awaits a COUNT, and has room for it

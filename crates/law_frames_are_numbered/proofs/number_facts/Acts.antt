@@ -12,17 +12,17 @@ use Rattle.unit_defs.specs.Ways.{Message, Pdu, Input, control_input, Output, dro
 use Rattle.unit_defs.specs.Messages.{channel}
 use Rattle.unit_defs.specs.Transactions.{kind_of}
 use Rattle.unit_defs.specs.Ue.{UeNode, ue_acts}
-use Rattle.unit_defs.specs.UpRecords.{CuUp}
-use Rattle.unit_defs.specs.CuUp.{ue_in, is_own_cp, control_by, control_came, cu_up_acts}
+use Rattle.unit_defs.specs.CuUpRecords.{CuUp}
+use Rattle.unit_defs.specs.CuUp.{ue_in, is_own_cu_cp, control_by, control_received, cu_up_acts}
 use Rattle.unit_defs.specs.Du.{Du, du_acts}
-use Rattle.unit_defs.specs.CpRecords.{CuCpRecord}
+use Rattle.unit_defs.specs.CuCpRecords.{CuCpRecord}
 use Rattle.unit_defs.specs.CuCp.{cu_cp_acts}
-use Rattle.run_defs.specs.Units.{cp_of, with_cp, up_of, with_up, du_of, with_du, ue_of, with_ue}
+use Rattle.run_defs.specs.Units.{cu_cp_of, with_cu_cp, cu_up_of, with_cu_up, du_of, with_du, ue_of, with_ue}
 use Rattle.run_defs.specs.Written.{written_put, PlainStepped, WrittenStepped, written_step}
 use Rattle.run_defs.specs.States.{Lengths, stepped, step_spent}
 use Rattle.run_defs.specs.Runs.{Reading, PlainGiven, Plain, plain_way, input_of, stepped_with, ue_stepped, acts_on, plain_by, fault_of}
 use Rattle.proof_unit_steps.specs.answers.After.{HoldsAfter}
-use Rattle.law_tunnels_are_owned.specs.owner_facts.Owned.{UpOwns, DuOwns, AreOwned}
+use Rattle.law_tunnels_are_owned.specs.owner_facts.Owned.{CuUpOwns, DuOwns, AreOwned}
 use Rattle.law_tunnels_are_owned.proofs.tunnel_owners.CuUps.{cu_up_owns}
 use Rattle.law_tunnels_are_owned.proofs.tunnel_owners.Dus.{du_owns}
 use Rattle.law_tunnels_are_owned.proofs.tunnel_owners.Placed.{with_up_owned, with_du_owned, with_cp_owned}
@@ -34,7 +34,7 @@ use Rattle.law_requests_act_once.proofs.taken_requests.CuUps.{cu_up_still, cu_up
 use Rattle.law_frames_are_numbered.proofs.number_facts.Units.{Records, Phase, seen_at, Ups, with_up_counts}
 use Rattle.law_frames_are_numbered.proofs.number_facts.Links.{Keeps, up_here, keeps_up, own_or_not, Switch, TakenAt}
 
-pub keeps_cp : (u : Records) (gnb : Gnb) (r : CuCpRecord (Message Token) Token) → Keeps u (with_cp u gnb r)
+pub keeps_cp : (u : Records) (gnb : Gnb) (r : CuCpRecord (Message Token) Token) → Keeps u (with_cu_cp u gnb r)
 keeps_cp u A r g n c i was = was
 keeps_cp u B r g n c i was = was
 
@@ -67,28 +67,28 @@ module _ (end : TunnelEnd) where
         × (Keeps u v × TakenBy node o v)
     AnsweredWell sn node o (step_spent counter) = Unit {0}
 
-    with_cp_ups : (gnb : Gnb) (r : CuCpRecord (Message Token) Token) → Ups end q k (with_cp u gnb r)
+    with_cp_ups : (gnb : Gnb) (r : CuCpRecord (Message Token) Token) → Ups end q k (with_cu_cp u gnb r)
     with_cp_ups A r = ups
     with_cp_ups B r = ups
 
     same : Keeps u u
     same g n c i was = was
 
-    by_cp : (gnb : Gnb) (o : Option (Input Token Pdu)) (a : Plain (CuCpRecord (Message Token) Token)) → Answered (CuCp gnb) o (stepped_with reading (with_cp u gnb) a)
+    by_cp : (gnb : Gnb) (o : Option (Input Token Pdu)) (a : Plain (CuCpRecord (Message Token) Token)) → Answered (CuCp gnb) o (stepped_with reading (with_cu_cp u gnb) a)
     by_cp gnb o (gives os r) = (with_cp_owned u gnb r owned, (k, refl, with_cp_ups gnb r), (keeps_cp u gnb r, tt))
     by_cp gnb o (spent counter) = tt
 
     taken_there : (gnb : Gnb) (number : ℕ) (input : Input Token Pdu) (os : List (Output (Message Token) Pdu)) (r : CuUp (Message Token) Token)
-        → IsTaken (up_of u gnb number) input (gives os r) → TakenBy (up_id gnb number) (Some input) (with_up u gnb number r)
+        → IsTaken (cu_up_of u gnb number) input (gives os r) → TakenBy (up_id gnb number) (Some input) (with_cu_up u gnb number r)
     taken_there gnb number (control_input from m) os r h =
         λ own ue i kind.
         subst (λ (x : CuUp (Message Token) Token). WasTaken x.transactions (channel ue from) i) (sym (up_here u gnb number r))
         (h (own ∙ ap (λ (g : Gnb). CuCp g) (sym (ups.1 gnb number).0)) ue i kind)
     taken_there gnb number input os r h = tt
 
-    by_up : (gnb : Gnb) (number : ℕ) (input : Input Token Pdu) (a : Plain (CuUp (Message Token) Token)) → HoldsAfter UpOwns a
-        → NumbersTunnel (seen_at end q gnb number) k a → StillTaken (up_of u gnb number) a → IsTaken (up_of u gnb number) input a
-        → Answered (up_id gnb number) (Some input) (stepped_with reading (with_up u gnb number) a)
+    by_up : (gnb : Gnb) (number : ℕ) (input : Input Token Pdu) (a : Plain (CuUp (Message Token) Token)) → HoldsAfter CuUpOwns a
+        → NumbersTunnel (seen_at end q gnb number) k a → StillTaken (cu_up_of u gnb number) a → IsTaken (cu_up_of u gnb number) input a
+        → Answered (up_id gnb number) (Some input) (stepped_with reading (with_cu_up u gnb number) a)
     by_up gnb number input (gives os r) h n still taken = (
       with_up_owned u gnb number r owned h,
       (n.0, n.1, with_up_counts end q k n.0 u gnb number r ups n.2 n.3),
@@ -107,28 +107,28 @@ module _ (end : TunnelEnd) where
 
     -- a message of another node than the own CU-CP changes nothing
     numbers_of : (gnb : Gnb) (number : ℕ) (input : Input Token Pdu) → InputIs q k u (Some input) (up_id gnb number)
-        → NumbersTunnel (seen_at end q gnb number) k (cu_up_acts plain_way (up_of u gnb number) input)
-    unfolding cu_up_acts control_came
+        → NumbersTunnel (seen_at end q gnb number) k (cu_up_acts plain_way (cu_up_of u gnb number) input)
+    unfolding cu_up_acts control_received
     numbers_of gnb number (control_input from m) is = by (own_or_not gnb from)
       where
         r : CuUp (Message Token) Token
-        r = up_of u gnb number
+        r = cu_up_of u gnb number
 
-        by : (from ≡ CuCp gnb) ⊎ (is_own_cp plain_way gnb from ≡ false)
-            → NumbersTunnel (seen_at end q gnb number) k (cu_up_acts plain_way (up_of u gnb number) (control_input from m))
+        by : (from ≡ CuCp gnb) ⊎ (is_own_cu_cp plain_way gnb from ≡ false)
+            → NumbersTunnel (seen_at end q gnb number) k (cu_up_acts plain_way (cu_up_of u gnb number) (control_input from m))
         by (inl own) = cu_up_numbers (seen_at end q gnb number) plain_way k r (control_input from m) (owned.0 gnb number).1 (ups.1 gnb number) (is own)
         by (inr off) =
             subst (λ (b : Bool). NumbersTunnel {P = Pdu} (seen_at end q gnb number) k
             (if b then control_by plain_way (channel (ue_in plain_way (kind_of m)) from) m r (kind_of m) else drops Unexpected r))
-            (sym (ap (λ (g : Gnb). is_own_cp plain_way g from) (ups.1 gnb number).0 ∙ off)) (k, refl, ups.1 gnb number, λ none. refl)
+            (sym (ap (λ (g : Gnb). is_own_cu_cp plain_way g from) (ups.1 gnb number).0 ∙ off)) (k, refl, ups.1 gnb number, λ none. refl)
     numbers_of gnb number input is =
-        cu_up_numbers (seen_at end q gnb number) plain_way k (up_of u gnb number) input (owned.0 gnb number).1 (ups.1 gnb number) tt
+        cu_up_numbers (seen_at end q gnb number) plain_way k (cu_up_of u gnb number) input (owned.0 gnb number).1 (ups.1 gnb number) tt
 
     acted : (node : NodeId) (input : Input Token Pdu) → InputIs q k u (Some input) node → Answered node (Some input) (acts_on reading u node input)
-    acted (CuCp gnb) input is = by_cp gnb (Some input) (cu_cp_acts plain_way (cp_of u gnb) input)
+    acted (CuCp gnb) input is = by_cp gnb (Some input) (cu_cp_acts plain_way (cu_cp_of u gnb) input)
     acted (up_id gnb number) input is =
-        by_up gnb number input (cu_up_acts plain_way (up_of u gnb number) input) (cu_up_owns plain_way (up_of u gnb number) input (owned.0 gnb number))
-        (numbers_of gnb number input is) (cu_up_still plain_way (up_of u gnb number) input) (cu_up_taken plain_way (up_of u gnb number) input)
+        by_up gnb number input (cu_up_acts plain_way (cu_up_of u gnb number) input) (cu_up_owns plain_way (cu_up_of u gnb number) input (owned.0 gnb number))
+        (numbers_of gnb number input is) (cu_up_still plain_way (cu_up_of u gnb number) input) (cu_up_taken plain_way (cu_up_of u gnb number) input)
     acted (du_id gnb number) input is =
         by_du gnb number (Some input) (du_acts plain_way (du_of u gnb number) input) (du_owns plain_way (du_of u gnb number) input (owned.1 gnb number))
     acted (Ue ue) input is = there (ue_of u (record { 0 = ue }))

@@ -21,9 +21,9 @@ use Rattle.message_types.specs.declared.e1.E1Message.TheVariants as e1s
 use Rattle.unit_defs.specs.Ways.{Message, e1, Pdu, control_input}
 use Rattle.unit_defs.specs.Messages.{mode_switch, channel}
 use Rattle.unit_defs.specs.Transactions.{request, kind_of}
-use Rattle.unit_defs.specs.UpRecords.{CuUp}
-use Rattle.unit_defs.specs.CuUp.{new_cu_up, is_own_cp}
-use Rattle.run_defs.specs.Units.{up_of, with_up}
+use Rattle.unit_defs.specs.CuUpRecords.{CuUp}
+use Rattle.unit_defs.specs.CuUp.{new_cu_up, is_own_cu_cp}
+use Rattle.run_defs.specs.Units.{cu_up_of, with_cu_up}
 use Rattle.run_defs.specs.Runs.{plain_way}
 use Rattle.proof_unit_steps.specs.tunnel_frames.OneTunnel.{is_tunnel, IsGiven, SwitchesFirst}
 use Rattle.law_requests_act_once.specs.taken_requests.Taken.{WasTaken}
@@ -36,28 +36,28 @@ use Rattle.law_frames_are_numbered.proofs.number_facts.Units.{Records, clash, Ph
 
 abbrev pub Keeps : Records → Records → Type 0
 Keeps u v =
-    (gnb : Gnb) (number : ℕ) (c : Channel) (i : ℕ) → WasTaken (up_of u gnb number).transactions c i → WasTaken (up_of v gnb number).transactions c i
+    (gnb : Gnb) (number : ℕ) (c : Channel) (i : ℕ) → WasTaken (cu_up_of u gnb number).transactions c i → WasTaken (cu_up_of v gnb number).transactions c i
 
 pub keeps_then : (u v w : Records) → Keeps u v → Keeps v w → Keeps u w
 keeps_then u v w p q gnb number c i was = q gnb number c i (p gnb number c i was)
 
-pub up_here : (u : Records) (gnb : Gnb) (number : ℕ) (r : CuUp (Message Token) Token) → up_of (with_up u gnb number r) gnb number ≡ r
+pub up_here : (u : Records) (gnb : Gnb) (number : ℕ) (r : CuUp (Message Token) Token) → cu_up_of (with_cu_up u gnb number r) gnb number ≡ r
 up_here u gnb number r =
     at-put node_total (new_cu_up gnb number) u.ups (up_id gnb number) r (up_id gnb number)
-    ∙ ap (λ (b : Bool). cond b r (up_of u gnb number)) (ap is_eq (tied_itself node_total (up_id gnb number)))
+    ∙ ap (λ (b : Bool). cond b r (cu_up_of u gnb number)) (ap is_eq (tied_itself node_total (up_id gnb number)))
 
 pub keeps_up : (u : Records) (gnb : Gnb) (number : ℕ) (r : CuUp (Message Token) Token)
-    → ((c : Channel) (i : ℕ) → WasTaken (up_of u gnb number).transactions c i → WasTaken r.transactions c i) → Keeps u (with_up u gnb number r)
+    → ((c : Channel) (i : ℕ) → WasTaken (cu_up_of u gnb number).transactions c i → WasTaken r.transactions c i) → Keeps u (with_cu_up u gnb number r)
 keeps_up u gnb number r more g n c i was =
     subst (λ (x : CuUp (Message Token) Token). WasTaken x.transactions c i) (sym (at-put node_total (new_cu_up g n) u.ups (up_id gnb number) r (up_id g n)))
     (by (eq_by_cmp node_cmp (up_id g n) (up_id gnb number)) refl)
   where
-    by : (t : Bool) → eq_by_cmp node_cmp (up_id g n) (up_id gnb number) ≡ t → WasTaken (cond t r (up_of u g n)).transactions c i
+    by : (t : Bool) → eq_by_cmp node_cmp (up_id g n) (up_id gnb number) ≡ t → WasTaken (cond t r (cu_up_of u g n)).transactions c i
     by true tie =
         let same : up_id g n ≡ up_id gnb number = node_exact (up_id g n) (up_id gnb number) ((Equal-is (node_cmp (up_id g n) (up_id gnb number))).0 tie) in
         let gnbs : g ≡ gnb = cc in
         let numbers : n ≡ number = cc in
-        more c i (subst (λ (p : Gnb × ℕ). WasTaken (up_of u p.0 p.1).transactions c i) (λ j. (gnbs j, numbers j)) was)
+        more c i (subst (λ (p : Gnb × ℕ). WasTaken (cu_up_of u p.0 p.1).transactions c i) (λ j. (gnbs j, numbers j)) was)
     by false off = was
 
 -- ---- the bearer that was switched there: it was placed there, or in a request that its CU-UP took
@@ -65,7 +65,7 @@ keeps_up u gnb number r more g n c i was =
 abbrev pub LinkedAt : Story → NodeId → UeId × BearerId → Records → Type 0
 LinkedAt s (up_id gnb number) o u =
     (s.place ≡ placed)
-    ⊎ ((i : ℕ) × (s.place ≡ asked (channel o.0.0 (up_id gnb number)) i o.1) × WasTaken (up_of u gnb number).transactions (channel o.0.0 (CuCp gnb)) i)
+    ⊎ ((i : ℕ) × (s.place ≡ asked (channel o.0.0 (up_id gnb number)) i o.1) × WasTaken (cu_up_of u gnb number).transactions (channel o.0.0 (CuCp gnb)) i)
 LinkedAt s node o u = ⊥
 
 abbrev pub Linked : Story → Phase → Records → Type 0
@@ -103,7 +103,7 @@ linked_away s (Some o) u off h = absurd (at_away s o.0 o.1 u off h)
 
 -- a request for what was switched there was taken
 was_taken : (s : Story) (node : NodeId) (o : UeId × BearerId) (u : Records) (g : Gnb) (n : ℕ) (ue : UeId) (i : ℕ) (b : BearerId) → LinkedAt s node o u
-    → s.place ≡ asked (channel ue.0 (up_id g n)) i b → WasTaken (up_of u g n).transactions (channel ue.0 (CuCp g)) i
+    → s.place ≡ asked (channel ue.0 (up_id g n)) i b → WasTaken (cu_up_of u g n).transactions (channel ue.0 (CuCp g)) i
 was_taken s (up_id h m) o u g n ue i b (inl is) at =
     let e : placed ≡ asked (channel ue.0 (up_id g n)) i b = sym is ∙ at in absurd cc
 was_taken s (up_id h m) o u g n ue i b (inr k) at =
@@ -114,17 +114,17 @@ was_taken s (up_id h m) o u g n ue i b (inr k) at =
     let nodes : up_id h m ≡ up_id g n = ap (λ (c : Channel). c.peer) channels in
     let gnbs : h ≡ g = cc in
     let numbers : m ≡ n = cc in
-    subst (λ (p : (Gnb × ℕ) × (ℕ × ℕ)). WasTaken (up_of u p.0.0 p.0.1).transactions (channel p.1.0 (CuCp p.0.0)) p.1.1)
+    subst (λ (p : (Gnb × ℕ) × (ℕ × ℕ)). WasTaken (cu_up_of u p.0.0 p.0.1).transactions (channel p.1.0 (CuCp p.0.0)) p.1.1)
     (λ j. ((gnbs j, numbers j), (ues j, instances j))) k.2
 was_taken s node o u g n ue i b h at = absurd h
 
 -- ---- the own CU-CP, or another node
 
-pub own_is : (g : Gnb) → is_own_cp plain_way g (CuCp g) ≡ true
+pub own_is : (g : Gnb) → is_own_cu_cp plain_way g (CuCp g) ≡ true
 own_is A = refl
 own_is B = refl
 
-pub own_or_not : (g : Gnb) (from : NodeId) → (from ≡ CuCp g) ⊎ (is_own_cp plain_way g from ≡ false)
+pub own_or_not : (g : Gnb) (from : NodeId) → (from ≡ CuCp g) ⊎ (is_own_cu_cp plain_way g from ≡ false)
 own_or_not A (CuCp A) = inl refl
 own_or_not B (CuCp B) = inl refl
 own_or_not A (CuCp B) = inr refl
@@ -171,10 +171,10 @@ pulled Q (x ∷ xs) all = (λ a. (all a).0, pulled Q xs (λ a. (all a).1))
 module _ (end : TunnelEnd) where
   -- a message of the own CU-CP switches the first bearer there, or none
   abbrev pub Switch : Phase → ℕ → Records → Gnb → ℕ → NodeId → Message Token → Type 0
-  Switch q k u g n from m = from ≡ CuCp g → SwitchesFirst {P = Pdu} (seen_at end q g n) k (up_of u g n) (control_input from m)
+  Switch q k u g n from m = from ≡ CuCp g → SwitchesFirst {P = Pdu} (seen_at end q g n) k (cu_up_of u g n) (control_input from m)
 
   abbrev pub TakenAt : Records → Gnb → ℕ → NodeId → Message Token → Type 0
-  TakenAt v g n from m = from ≡ CuCp g → (ue i : ℕ) → kind_of m ≡ request ue i → WasTaken (up_of v g n).transactions (channel ue from) i
+  TakenAt v g n from m = from ≡ CuCp g → (ue i : ℕ) → kind_of m ≡ request ue i → WasTaken (cu_up_of v g n).transactions (channel ue from) i
 
   abbrev pub Chosen : Story → ℕ → Records → Gnb → ℕ → NodeId → Message Token → Type 0
   Chosen s k u g n from m =
@@ -206,14 +206,14 @@ module _ (end : TunnelEnd) where
 
     -- where a bearer was switched there before, no request that does so is new
     later_switch : (s : Story) (o : NodeId × (UeId × BearerId)) (k : ℕ) (u : Records) (g : Gnb) (n : ℕ) (from : NodeId) (m : Message Token)
-        → (up_of u g n).gnb ≡ g → Linked s (Some o) u → (from ≡ CuCp t.gnb → SwitchIs t s.place (up_id g n) m) → Switch (Some o) k u g n from m
+        → (cu_up_of u g n).gnb ≡ g → Linked s (Some o) u → (from ≡ CuCp t.gnb → SwitchIs t s.place (up_id g n) m) → Switch (Some o) k u g n from m
     later_switch s o k u g n from (e1 (e1s.BearerContextModificationRequest ue i (Some list) mode peer down up ss (Some du))) gnbs linked once =
         λ own switches fresh.
         subst (λ (h : Gnb). AllByRecursion (IsGiven (seen_at end (Some o) g n) k h ue du) list) (sym gnbs)
         (all_as (λ (x : Tunnel). is_tunnel end (du_id g du) x.teid ≡ true → s.place ≡ asked (channel ue.0 (up_id g n)) i x.bearer)
         (IsGiven (seen_at end (Some o) g n) k g ue du) list
-        (λ x p is. absurd (not_new (up_of u g n).transactions.callee (channel ue.0 from) i
-        (subst (λ (node : NodeId). WasTaken (up_of u g n).transactions (channel ue.0 node) i) (sym own)
+        (λ x p is. absurd (not_new (cu_up_of u g n).transactions.callee (channel ue.0 from) i
+        (subst (λ (node : NodeId). WasTaken (cu_up_of u g n).transactions (channel ue.0 node) i) (sym own)
         (was_taken s o.0 o.1 u g n ue i x.bearer linked (p is))) fresh))
         (asked_each s g n from ue i du list own (λ e d. once e switches d)))
     later_switch s o k u g n from m gnbs linked once = λ own. tt
@@ -231,7 +231,7 @@ module _ (end : TunnelEnd) where
         is_asked : BearerId → Type 0
         is_asked b = s.place ≡ asked (channel ue.0 (up_id g n)) i b
 
-        given : (r : Phase) → AllByRecursion (IsGiven (seen_at end r g n) k g ue du) list → AllByRecursion (IsGiven (seen_at end r g n) k (up_of u g n).gnb ue du) list
+        given : (r : Phase) → AllByRecursion (IsGiven (seen_at end r g n) k g ue du) list → AllByRecursion (IsGiven (seen_at end r g n) k (cu_up_of u g n).gnb ue du) list
         given r all = subst (λ (h : Gnb). AllByRecursion (IsGiven (seen_at end r g n) k h ue du) list) (sym (ups.1 g n).0) all
 
         first : (b : BearerId) → is_asked b
@@ -251,7 +251,7 @@ module _ (end : TunnelEnd) where
           Some (up_id g n, (ue, b.0)),
           free_ups end k u (up_id g n, (ue, b.0)) ups,
           λ same_cp switches fresh. given (Some (up_id g n, (ue, b.0))) (first b.0 b.1 all),
-          λ v keep taken. inr (i, b.1, subst (λ (node : NodeId). WasTaken (up_of v g n).transactions (channel ue.0 node) i) own (taken own ue.0 i refl)),
+          λ v keep taken. inr (i, b.1, subst (λ (node : NodeId). WasTaken (cu_up_of v g n).transactions (channel ue.0 node) i) own (taken own ue.0 i refl)),
         )
         chosen own all (inr none) = (
           None,
@@ -262,11 +262,11 @@ module _ (end : TunnelEnd) where
           λ v keep taken. tt,
         )
 
-        by : (from ≡ CuCp g) ⊎ (is_own_cp plain_way g from ≡ false) → (b : Bool) → mode == mode_switch ≡ b → Choice
+        by : (from ≡ CuCp g) ⊎ (is_own_cu_cp plain_way g from ≡ false) → (b : Bool) → mode == mode_switch ≡ b → Choice
         by (inr off) b is = (
           None,
           ups,
-          λ own. absurd (clash (sym (own_is g) ∙ ap (λ (x : NodeId). is_own_cp plain_way g x) (sym own) ∙ off)),
+          λ own. absurd (clash (sym (own_is g) ∙ ap (λ (x : NodeId). is_own_cu_cp plain_way g x) (sym own) ∙ off)),
           λ v keep taken. tt,
         )
         by (inl own) false is = (None, ups, λ same_cp switches fresh. absurd (clash (sym (eq-eqb mode mode_switch switches) ∙ is)), λ v keep taken. tt)

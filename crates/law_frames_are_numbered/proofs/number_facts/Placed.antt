@@ -20,16 +20,16 @@ use Rattle.tables.proofs.TableLaws.{find-put}
 use Rattle.message_types.specs.declared.rrc.Token.{Token}
 use Rattle.unit_defs.specs.Ways.{Message}
 use Rattle.unit_defs.specs.Ue.{new_ue, placed as placed_ue}
-use Rattle.unit_defs.specs.UpRecords.{UpBearer, UpContext, CuUp}
-use Rattle.unit_defs.specs.UpBearers.{teids_of_bearer}
+use Rattle.unit_defs.specs.CuUpRecords.{CuUpBearer, CuUpContext, CuUp}
+use Rattle.unit_defs.specs.CuUpBearers.{teids_of_bearer}
 use Rattle.unit_defs.specs.CuUp.{new_cu_up, bearers_from, bearers_made}
-use Rattle.unit_defs.specs.CpRecords.{CuCpRecord}
-use Rattle.unit_defs.specs.Static.{du_has_teids, with_downlinks, up_context, up_placed, du_placed, cp_placed, up_set_up}
-use Rattle.run_defs.specs.Units.{cp_of, with_cp, up_of, with_up, du_of, with_du, with_ue}
+use Rattle.unit_defs.specs.CuCpRecords.{CuCpRecord}
+use Rattle.unit_defs.specs.Static.{du_has_teids, with_downlinks, cu_up_context, cu_up_placed, du_placed, cu_cp_placed, cu_up_set_up}
+use Rattle.run_defs.specs.Units.{cu_cp_of, with_cu_cp, cu_up_of, with_cu_up, du_of, with_du, with_ue}
 use Rattle.run_defs.specs.Conditions.{units_placed, all_set_up}
 use Rattle.proof_run_steps.proofs.teids.Placed.{find_mapped}
 use Rattle.proof_run_steps.proofs.teids.CuUps.{how_many}
-use Rattle.proof_unit_steps.specs.tunnel_frames.OneTunnel.{OwnedTunnel, is_tunnel, Leads, NextIs, BearerCounts, UpCounts}
+use Rattle.proof_unit_steps.specs.tunnel_frames.OneTunnel.{OwnedTunnel, is_tunnel, Leads, NextIs, BearerCounts, CuUpCounts}
 use Rattle.proof_unit_steps.proofs.tunnel_frames.Contexts.{found_all}
 use Rattle.law_requests_act_once.specs.taken_requests.Taken.{WasTaken}
 use Rattle.proof_unit_steps.specs.downlink_names.Places.{DownlinkTeid}
@@ -49,39 +49,39 @@ keeps_set_up : (u : Records) → Keeps u (all_set_up u)
 unfolding at
 keeps_set_up u g n c i was =
     subst (λ (o : Option (CuUp (Message Token) Token)). WasTaken (unwrap_or o (new_cu_up g n)).transactions c i)
-    (sym (find_mapped node_cmp up_set_up u.ups (up_id g n))) (by (find node_cmp u.ups (up_id g n)) was)
+    (sym (find_mapped node_cmp cu_up_set_up u.ups (up_id g n))) (by (find node_cmp u.ups (up_id g n)) was)
   where
     by : (o : Option (CuUp (Message Token) Token)) → WasTaken (unwrap_or o (new_cu_up g n)).transactions c i
-        → WasTaken (unwrap_or (option_map up_set_up o) (new_cu_up g n)).transactions c i
+        → WasTaken (unwrap_or (option_map cu_up_set_up o) (new_cu_up g n)).transactions c i
     by None h = h
     by (Some r) h = h
 
 pub keeps_placed : (u : Records) (plan : Plan) → Keeps u (all_set_up (units_placed plan u))
-unfolding up_placed
+unfolding cu_up_placed
 keeps_placed u plan =
-    let up : CuUp (Message Token) Token = up_of u plan.gnb plan.up in
+    let up : CuUp (Message Token) Token = cu_up_of u plan.gnb plan.up in
     let du = du_of u plan.gnb plan.du in
     let a : Records = with_ue u plan.ue (placed_ue (new_ue plan)) in
-    let b : Records = with_up a plan.gnb plan.up (up_placed up plan du.next_teid) in
+    let b : Records = with_cu_up a plan.gnb plan.up (cu_up_placed up plan du.next_teid) in
     let c : Records = with_du b plan.gnb plan.du (du_placed du plan (up.next_teid + 1)) in
     keeps_then u (units_placed plan u) (all_set_up (units_placed plan u))
-    (keeps_then u c (units_placed plan u) (keeps_up a plan.gnb plan.up (up_placed up plan du.next_teid) (λ ch i was. was))
-    (keeps_cp c plan.gnb (cp_placed (cp_of u plan.gnb) plan)))
+    (keeps_then u c (units_placed plan u) (keeps_up a plan.gnb plan.up (cu_up_placed up plan du.next_teid) (λ ch i was. was))
+    (keeps_cp c plan.gnb (cu_cp_placed (cu_cp_of u plan.gnb) plan)))
     (keeps_set_up (units_placed plan u))
 
 module _ (end : TunnelEnd) where
   -- ---- which of its bearers leads there
 
-  abbrev NoneLeads : BearerId × UpBearer → Type 0
+  abbrev NoneLeads : BearerId × CuUpBearer → Type 0
   NoneLeads e = Leads end e.1.downlink → ⊥
 
-  abbrev OneLeads : BearerId → BearerId × UpBearer → Type 0
+  abbrev OneLeads : BearerId → BearerId × CuUpBearer → Type 0
   OneLeads b e = Leads end e.1.downlink → (b ≡ e.0) × NextIs 0 e.1.downlink
 
   teid_is : (gnb : Gnb) (du teid : ℕ) → is_tunnel end (du_id gnb du) teid ≡ true → teid ≡ end.teid
   teid_is gnb du teid is = eqb-true teid end.teid (and_parts (eq_by_cmp node_cmp (du_id gnb du) end.node) (teid == end.teid) is).1
 
-  none_above : (gnb : Gnb) (du next : ℕ) (es : List (BearerId × UpBearer)) (b : BearerId) → end.teid + 1 ≤ next
+  none_above : (gnb : Gnb) (du next : ℕ) (es : List (BearerId × CuUpBearer)) (b : BearerId) → end.teid + 1 ≤ next
       → AllByRecursion (OneLeads b) (with_downlinks gnb du next es)
   none_above gnb du next [] b above = tt
   none_above gnb du next (e ∷ es) b above = (
@@ -89,13 +89,13 @@ module _ (end : TunnelEnd) where
     none_above gnb du (next + 1) es b (omega (arith, above)),
   )
 
-  abbrev pub Led : Gnb → ℕ → ℕ → List (BearerId × UpBearer) → Type 0
+  abbrev pub Led : Gnb → ℕ → ℕ → List (BearerId × CuUpBearer) → Type 0
   Led gnb du next es =
       AllByRecursion NoneLeads (with_downlinks gnb du next es)
       ⊎ ((b : BearerId) × AllByRecursion (OneLeads b) (with_downlinks gnb du next es) × (next ≤ end.teid) × (end.teid + 1 ≤ next + length es)
       × (is_tunnel end (du_id gnb du) end.teid ≡ true))
 
-  led_by : (gnb : Gnb) (du next : ℕ) (es : List (BearerId × UpBearer)) → Led gnb du next es
+  led_by : (gnb : Gnb) (du next : ℕ) (es : List (BearerId × CuUpBearer)) → Led gnb du next es
   led_by gnb du next [] = inl tt
   led_by gnb du next (e ∷ es) = by (is_tunnel end (du_id gnb du) next) refl (led_by gnb du (next + 1) es)
     where
@@ -114,15 +114,15 @@ module _ (end : TunnelEnd) where
           let low = h.2 in
           let high = h.3 in inr (h.0, (λ l. absurd (clash (sym l ∙ off)), h.1), omega (arith, low), omega (arith, high), h.4)
 
-  abbrev pub EachCounts : OwnedTunnel → ℕ → UeId → List (BearerId × UpBearer) → Type 0
-  EachCounts t k ue es = AllByRecursion (λ (e : BearerId × UpBearer). BearerCounts t k ue e.0 e.1.downlink) es
+  abbrev pub EachCounts : OwnedTunnel → ℕ → UeId → List (BearerId × CuUpBearer) → Type 0
+  EachCounts t k ue es = AllByRecursion (λ (e : BearerId × CuUpBearer). BearerCounts t k ue e.0 e.1.downlink) es
 
-  none_counts : (t : OwnedTunnel) (k : ℕ) (ue : UeId) (es : List (BearerId × UpBearer)) → t.end ≡ end → AllByRecursion NoneLeads es → EachCounts t k ue es
+  none_counts : (t : OwnedTunnel) (k : ℕ) (ue : UeId) (es : List (BearerId × CuUpBearer)) → t.end ≡ end → AllByRecursion NoneLeads es → EachCounts t k ue es
   none_counts t k ue [] same all = tt
   none_counts t k ue (e ∷ es) same all =
       (λ l. absurd (all.0 (subst (λ (x : TunnelEnd). Leads x e.1.downlink) same l)), none_counts t k ue es same all.1)
 
-  one_counts : (t : OwnedTunnel) (ue : UeId) (b : BearerId) (es : List (BearerId × UpBearer)) → t.end ≡ end → t.owner ≡ Some (ue, b)
+  one_counts : (t : OwnedTunnel) (ue : UeId) (b : BearerId) (es : List (BearerId × CuUpBearer)) → t.end ≡ end → t.owner ≡ Some (ue, b)
       → AllByRecursion (OneLeads b) es → EachCounts t 0 ue es
   one_counts t ue b [] same own all = tt
   one_counts t ue b (e ∷ es) same own all = (
@@ -132,52 +132,52 @@ module _ (end : TunnelEnd) where
     one_counts t ue b es same own all.1,
   )
 
-  placed_counts : (t : OwnedTunnel) (k : ℕ) (r : CuUp (Message Token) Token) (plan : Plan) (downlink : ℕ) → UpCounts t k r
-      → EachCounts t k plan.ue (up_context r plan downlink).bearers → UpCounts t k (up_placed r plan downlink)
-  unfolding up_placed
+  placed_counts : (t : OwnedTunnel) (k : ℕ) (r : CuUp (Message Token) Token) (plan : Plan) (downlink : ℕ) → CuUpCounts t k r
+      → EachCounts t k plan.ue (cu_up_context r plan downlink).bearers → CuUpCounts t k (cu_up_placed r plan downlink)
+  unfolding cu_up_placed
   placed_counts t k r plan downlink p all =
-      (p.0, λ u x b y at found. by u x b y found (eq_by_cmp ue_cmp u plan.ue) refl (sym (find-put ue_total r.contexts plan.ue (up_context r plan downlink) u) ∙ at))
+      (p.0, λ u x b y at found. by u x b y found (eq_by_cmp ue_cmp u plan.ue) refl (sym (find-put ue_total r.contexts plan.ue (cu_up_context r plan downlink) u) ∙ at))
     where
-      by : (u : UeId) (x : UpContext) (b : BearerId) (y : UpBearer) → find bearer_cmp x.bearers b ≡ Some y → (tie : Bool) → eq_by_cmp ue_cmp u plan.ue ≡ tie
-          → cond tie (Some (up_context r plan downlink)) (find ue_cmp r.contexts u) ≡ Some x → BearerCounts t k u b y.downlink
+      by : (u : UeId) (x : CuUpContext) (b : BearerId) (y : CuUpBearer) → find bearer_cmp x.bearers b ≡ Some y → (tie : Bool) → eq_by_cmp ue_cmp u plan.ue ≡ tie
+          → cond tie (Some (cu_up_context r plan downlink)) (find ue_cmp r.contexts u) ≡ Some x → BearerCounts t k u b y.downlink
       by u x b y found true tie e =
           let is : u ≡ plan.ue = ue_exact u plan.ue ((Equal-is (ue_cmp u plan.ue)).0 tie) in
-          let those : up_context r plan downlink ≡ x = cc in
+          let those : cu_up_context r plan downlink ≡ x = cc in
           subst (λ (v : UeId). BearerCounts t k v b y.downlink) (sym is)
-          (found_all (λ c z. BearerCounts t k plan.ue c z.downlink) (up_context r plan downlink).bearers all b y
-          (subst (λ (z : UpContext). find bearer_cmp z.bearers b ≡ Some y) (sym those) found))
+          (found_all (λ c z. BearerCounts t k plan.ue c z.downlink) (cu_up_context r plan downlink).bearers all b y
+          (subst (λ (z : CuUpContext). find bearer_cmp z.bearers b ≡ Some y) (sym those) found))
       by u x b y found false off e = p.1 u x b y e found
 
   set_up_ups : (q : Phase) (k : ℕ) (u : Records) → Ups end q k u → Ups end q k (all_set_up u)
   unfolding at
   set_up_ups q k u ups = (ups.0, each)
     where
-      up_by : (g : Gnb) (n : ℕ) (o : Option (CuUp (Message Token) Token)) → UpCounts (seen_at end q g n) k (unwrap_or o (new_cu_up g n))
-          → UpCounts (seen_at end q g n) k (unwrap_or (option_map up_set_up o) (new_cu_up g n))
+      up_by : (g : Gnb) (n : ℕ) (o : Option (CuUp (Message Token) Token)) → CuUpCounts (seen_at end q g n) k (unwrap_or o (new_cu_up g n))
+          → CuUpCounts (seen_at end q g n) k (unwrap_or (option_map cu_up_set_up o) (new_cu_up g n))
       up_by g n None h = h
       up_by g n (Some r) h = h
 
-      each : (g : Gnb) (n : ℕ) → UpCounts (seen_at end q g n) k (up_of (all_set_up u) g n)
+      each : (g : Gnb) (n : ℕ) → CuUpCounts (seen_at end q g n) k (cu_up_of (all_set_up u) g n)
       each g n =
-          subst (λ (o : Option (CuUp (Message Token) Token)). UpCounts (seen_at end q g n) k (unwrap_or o (new_cu_up g n)))
-          (sym (find_mapped node_cmp up_set_up u.ups (up_id g n))) (up_by g n (find node_cmp u.ups (up_id g n)) (ups.1 g n))
+          subst (λ (o : Option (CuUp (Message Token) Token)). CuUpCounts (seen_at end q g n) k (unwrap_or o (new_cu_up g n)))
+          (sym (find_mapped node_cmp cu_up_set_up u.ups (up_id g n))) (up_by g n (find node_cmp u.ups (up_id g n)) (ups.1 g n))
 
-  with_cp_ups : (q : Phase) (k : ℕ) (u : Records) (g : Gnb) (r : CuCpRecord (Message Token) Token) → Ups end q k u → Ups end q k (with_cp u g r)
+  with_cp_ups : (q : Phase) (k : ℕ) (u : Records) (g : Gnb) (r : CuCpRecord (Message Token) Token) → Ups end q k u → Ups end q k (with_cu_cp u g r)
   with_cp_ups q k u A r ups = ups
   with_cp_ups q k u B r ups = ups
 
   placed_ups : (q : Phase) (k : ℕ) (u : Records) (plan : Plan) → Ups end q k u
-      → EachCounts (seen_at end q plan.gnb plan.up) k plan.ue (up_context (up_of u plan.gnb plan.up) plan (du_of u plan.gnb plan.du).next_teid).bearers
+      → EachCounts (seen_at end q plan.gnb plan.up) k plan.ue (cu_up_context (cu_up_of u plan.gnb plan.up) plan (du_of u plan.gnb plan.du).next_teid).bearers
       → Ups end q k (all_set_up (units_placed plan u))
   placed_ups q k u plan ups all =
-      let up : CuUp (Message Token) Token = up_of u plan.gnb plan.up in
+      let up : CuUp (Message Token) Token = cu_up_of u plan.gnb plan.up in
       let du = du_of u plan.gnb plan.du in
       let a : Records = with_ue u plan.ue (placed_ue (new_ue plan)) in
-      let b : Records = with_up a plan.gnb plan.up (up_placed up plan du.next_teid) in
+      let b : Records = with_cu_up a plan.gnb plan.up (cu_up_placed up plan du.next_teid) in
       let c : Records = with_du b plan.gnb plan.du (du_placed du plan (up.next_teid + 1)) in
       set_up_ups q k (units_placed plan u)
-      (with_cp_ups q k c plan.gnb (cp_placed (cp_of u plan.gnb) plan)
-      (with_up_counts end q k k a plan.gnb plan.up (up_placed up plan du.next_teid) ups
+      (with_cp_ups q k c plan.gnb (cu_cp_placed (cu_cp_of u plan.gnb) plan)
+      (with_up_counts end q k k a plan.gnb plan.up (cu_up_placed up plan du.next_teid) ups
       (placed_counts (seen_at end q plan.gnb plan.up) k up plan du.next_teid (ups.1 plan.gnb plan.up) all) (λ none. refl)))
 
   module _ (t : DownlinkTeid) (same : IsEnd end t) where
@@ -191,12 +191,12 @@ module _ (end : TunnelEnd) where
     places q k u plan left ups = by (led_by up.gnb plan.du next es)
       where
         up : CuUp (Message Token) Token
-        up = up_of u plan.gnb plan.up
+        up = cu_up_of u plan.gnb plan.up
 
         next : ℕ
         next = (du_of u plan.gnb plan.du).next_teid
 
-        es : List (BearerId × UpBearer)
+        es : List (BearerId × CuUpBearer)
         es = bearers_made false up.next_teid (bearers_from 1 plan.bearers)
 
         first : BearerId → Phase

@@ -14,10 +14,10 @@ use Rattle.gnb_types.proofs.OrderLemmas.{node_total, node_exact}
 use Rattle.tables.proofs.TableLaws.{at-put}
 use Rattle.message_types.specs.declared.rrc.Token.{Token}
 use Rattle.unit_defs.specs.Ways.{Message}
-use Rattle.unit_defs.specs.UpRecords.{CuUp}
+use Rattle.unit_defs.specs.CuUpRecords.{CuUp}
 use Rattle.unit_defs.specs.CuUp.{new_cu_up}
-use Rattle.run_defs.specs.Units.{Units, up_of, with_up}
-use Rattle.proof_unit_steps.specs.tunnel_frames.OneTunnel.{OwnedTunnel, UpCounts}
+use Rattle.run_defs.specs.Units.{Units, cu_up_of, with_cu_up}
+use Rattle.proof_unit_steps.specs.tunnel_frames.OneTunnel.{OwnedTunnel, CuUpCounts}
 use Rattle.proof_unit_steps.proofs.tunnel_frames.Contexts.{counts_on}
 
 abbrev pub Records : Type 0
@@ -43,14 +43,14 @@ module _ (end : TunnelEnd) where
   IsFirst (Some o) k = Unit {0}
 
   abbrev pub Ups : Phase → ℕ → Records → Type 0
-  Ups phase k u = IsFirst phase k × ((gnb : Gnb) (number : ℕ) → UpCounts (seen_at phase gnb number) k (up_of u gnb number))
+  Ups phase k u = IsFirst phase k × ((gnb : Gnb) (number : ℕ) → CuUpCounts (seen_at phase gnb number) k (cu_up_of u gnb number))
 
   pub same_node : (n : NodeId) → eq_by_cmp node_cmp n n ≡ true
   same_node n = ap is_eq (tied_itself node_total n)
 
   -- where none leads there, it may be anyone's
   free_counts : (k j : ℕ) (gnb : Gnb) (number : ℕ) (owner : Option (UeId × BearerId)) (r : CuUp (Message Token) Token)
-      → UpCounts (record { gnb = gnb; end = end; owner = None }) k r → UpCounts (record { gnb = gnb; end = end; owner = owner }) j r
+      → CuUpCounts (record { gnb = gnb; end = end; owner = None }) k r → CuUpCounts (record { gnb = gnb; end = end; owner = owner }) j r
   free_counts k j gnb number owner r p =
       (p.0, λ ue c b x at found l. absurd (none_some ue b (p.1 ue c b x at found l).0))
     where
@@ -58,7 +58,7 @@ module _ (end : TunnelEnd) where
       none_some ue b e = absurd cc
 
   pub free_ups : (k : ℕ) (u : Records) (o : NodeId × (UeId × BearerId)) → Ups None k u → Ups (Some o) k u
-  free_ups k u o ups = (tt, λ g n. free_counts k k g n (owner_at (Some o) g n) (up_of u g n) (ups.1 g n))
+  free_ups k u o ups = (tt, λ g n. free_counts k k g n (owner_at (Some o) g n) (cu_up_of u g n) (ups.1 g n))
 
   pub owns : (g : Gnb) (n : ℕ) (o : UeId × BearerId) → owner_at (Some (up_id g n, o)) g n ≡ Some o
   owns g n o = ap (λ (t : Bool). if t then Some o else None) (same_node (up_id g n))
@@ -86,20 +86,20 @@ module _ (end : TunnelEnd) where
   first_after (Some o) k j gnb number first none = tt
 
   pub with_up_counts : (q : Phase) (k j : ℕ) (u : Records) (gnb : Gnb) (number : ℕ) (r : CuUp (Message Token) Token) → Ups q k u
-      → UpCounts (seen_at q gnb number) j r → (owner_at q gnb number ≡ None → j ≡ k) → Ups q j (with_up u gnb number r)
+      → CuUpCounts (seen_at q gnb number) j r → (owner_at q gnb number ≡ None → j ≡ k) → Ups q j (with_cu_up u gnb number r)
   with_up_counts q k j u gnb number r ups counts none = (
     first_after q k j gnb number ups.0 none,
     λ g n.
-        subst (λ (s : CuUp (Message Token) Token). UpCounts (seen_at q g n) j s) (sym (at-put node_total (new_cu_up g n) u.ups (up_id gnb number) r (up_id g n)))
+        subst (λ (s : CuUp (Message Token) Token). CuUpCounts (seen_at q g n) j s) (sym (at-put node_total (new_cu_up g n) u.ups (up_id gnb number) r (up_id g n)))
         (by g n (eq_by_cmp node_cmp (up_id g n) (up_id gnb number)) refl),
   )
     where
-      by : (g : Gnb) (n : ℕ) (t : Bool) → eq_by_cmp node_cmp (up_id g n) (up_id gnb number) ≡ t → UpCounts (seen_at q g n) j (cond t r (up_of u g n))
+      by : (g : Gnb) (n : ℕ) (t : Bool) → eq_by_cmp node_cmp (up_id g n) (up_id gnb number) ≡ t → CuUpCounts (seen_at q g n) j (cond t r (cu_up_of u g n))
       by g n true tie =
           let same : up_id g n ≡ up_id gnb number = node_exact (up_id g n) (up_id gnb number) ((Equal-is (node_cmp (up_id g n) (up_id gnb number))).0 tie) in
           let gnbs : gnb ≡ g = cc in
           let numbers : number ≡ n = cc in
-          subst (λ (p : Gnb × ℕ). UpCounts (seen_at q p.0 p.1) j r) (λ i. (gnbs i, numbers i)) counts
+          subst (λ (p : Gnb × ℕ). CuUpCounts (seen_at q p.0 p.1) j r) (λ i. (gnbs i, numbers i)) counts
       by g n false off =
           let old = ups.1 g n in (
             old.0,

@@ -15,9 +15,9 @@ use Rattle.tables.proofs.TableLaws.{at-put}
 use Rattle.message_types.specs.declared.rrc.Token.{Token}
 use Rattle.unit_defs.specs.Ways.{Message}
 use Rattle.unit_defs.specs.Du.{Du, new_du}
-use Rattle.unit_defs.specs.CpRecords.{CuCpRecord}
-use Rattle.unit_defs.specs.Static.{cp_set_up, du_set_up}
-use Rattle.run_defs.specs.Units.{Units, cp_of, with_cp, du_of, with_du}
+use Rattle.unit_defs.specs.CuCpRecords.{CuCpRecord}
+use Rattle.unit_defs.specs.Static.{cu_cp_set_up, du_set_up}
+use Rattle.run_defs.specs.Units.{Units, cu_cp_of, with_cu_cp, du_of, with_du}
 use Rattle.run_defs.specs.Conditions.{all_set_up}
 use Rattle.proof_run_steps.proofs.teids.Placed.{find_mapped}
 
@@ -56,21 +56,21 @@ apart_node g h n m off same =
 
 -- ---- CU-CPs
 
-pub cp_same : (g : Gnb) (u v : Records) → v.cp_a ≡ u.cp_a → v.cp_b ≡ u.cp_b → cp_of v g ≡ cp_of u g
+pub cp_same : (g : Gnb) (u v : Records) → v.cu_cp_a ≡ u.cu_cp_a → v.cu_cp_b ≡ u.cu_cp_b → cu_cp_of v g ≡ cu_cp_of u g
 cp_same A u v a b = a
 cp_same B u v a b = b
 
-pub cp_here : (u : Records) (g : Gnb) (r : PlainCp) → cp_of (with_cp u g r) g ≡ r
+pub cp_here : (u : Records) (g : Gnb) (r : PlainCp) → cu_cp_of (with_cu_cp u g r) g ≡ r
 cp_here u A r = refl
 cp_here u B r = refl
 
-pub cp_apart : (u : Records) (g h : Gnb) (r : PlainCp) → (h ≡ g → ⊥) → cp_of (with_cp u g r) h ≡ cp_of u h
+pub cp_apart : (u : Records) (g h : Gnb) (r : PlainCp) → (h ≡ g → ⊥) → cu_cp_of (with_cu_cp u g r) h ≡ cu_cp_of u h
 cp_apart u A A r off = absurd (off refl)
 cp_apart u A B r off = refl
 cp_apart u B A r off = refl
 cp_apart u B B r off = absurd (off refl)
 
-pub du_beside : (u : Records) (g h : Gnb) (n : ℕ) (r : PlainCp) → du_of (with_cp u g r) h n ≡ du_of u h n
+pub du_beside : (u : Records) (g h : Gnb) (n : ℕ) (r : PlainCp) → du_of (with_cu_cp u g r) h n ≡ du_of u h n
 du_beside u A h n r = refl
 du_beside u B h n r = refl
 
@@ -88,7 +88,7 @@ du_apart u g h n m r off =
 
 -- ---- all are set up
 
-pub cp_of_set_up : (u : Records) (g : Gnb) → cp_of (all_set_up u) g ≡ cp_set_up (cp_of u g)
+pub cp_of_set_up : (u : Records) (g : Gnb) → cu_cp_of (all_set_up u) g ≡ cu_cp_set_up (cu_cp_of u g)
 cp_of_set_up u A = refl
 cp_of_set_up u B = refl
 

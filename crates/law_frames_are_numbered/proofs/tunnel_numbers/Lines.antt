@@ -23,7 +23,7 @@ use Rattle.run_defs.specs.States.{State, Stop, Lengths, goes, stops, told_before
 use Rattle.run_defs.specs.Steps.{first_outstanding, entities_of, checked_by, check_spans, noted, count_beside, item_of, on_tunnel, put_on_tunnel, put_on_connected, put_on_radio, put_control, opens, closes, lost_if, radio_lost, lose_each, lose_radios_of, lose_radios, radios_of, same_epoch, epoch_now, connect_in, reconnect, reconnect_node, put_out, put_out_all, carried_out}
 use Rattle.run_defs.specs.Written.{Written, written_pdu, written_put}
 use Rattle.run_defs.specs.Runs.{Reading, plain_world}
-use Rattle.proof_run_steps.specs.steps.Causes.{Cause, by_order, by_tick, by_octets, by_octets_on, by_attach, by_release, by_offer, by_item, by_air, by_ack, by_letter, node_of, count_of, first_of}
+use Rattle.proof_run_steps.specs.steps.Causes.{Cause, by_order, by_tick, by_octets, by_octets_on, by_attach, by_release, by_offer, by_item, by_air, by_ack, by_control_message, node_of, count_of, first_of}
 use Rattle.proof_unit_steps.specs.frames.Numbered.{frame_of, frames_in, frames_by}
 use Rattle.proof_unit_steps.specs.tunnel_frames.OneTunnel.{is_tunnel, number_on, numbers_on, CountTo}
 use Rattle.law_frames_are_numbered.specs.tunnel_numbers.Tunnels.{IsNoFrame, AreNumbered, put_on}
@@ -254,7 +254,7 @@ module _ (end : TunnelEnd) where
     first_tells (by_item on item rest) k s = refl
     first_tells (by_air key home item) k s = refl
     first_tells (by_ack key home item rest) k s = refl
-    first_tells (by_letter number l to) k s = refl
+    first_tells (by_control_message number l to) k s = refl
 
     pub act_tells : (sn : Lengths) (cause : Cause (Message Token) (Written (Load Pdu)) (Written Pdu)) (os : List (Put (Message Token) (Load Pdu) Pdu)) (units : Units (Message Token) Token)
         (k j : ℕ) (s : PlainState) → CountTo k (numbers_on end (frames_by os)) j

@@ -22,28 +22,28 @@ use Rattle.message_types.specs.declared.rrc.Token.{Token}
 use Rattle.scenario_text.specs.declared.event.Event.{Event}
 use Rattle.unit_defs.specs.Ways.{Message, Pdu, Load, Put, Output}
 use Rattle.unit_defs.specs.CuUp.{new_cu_up}
-use Rattle.unit_defs.specs.Static.{up_has_room, up_has_teids, du_has_teids}
-use Rattle.transport_defs.specs.Links.{letter, landed}
+use Rattle.unit_defs.specs.Static.{cu_up_has_room, cu_up_has_teids, du_has_teids}
+use Rattle.transport_defs.specs.Links.{control_message, landed}
 use Rattle.run_defs.specs.Lines.{RunLine, got_message, held_at, tunnel_link, radio_link}
-use Rattle.run_defs.specs.Units.{new_units, up_of, du_of}
+use Rattle.run_defs.specs.Units.{new_units, cu_up_of, du_of}
 use Rattle.run_defs.specs.Written.{Written, written_put, written_step}
 use Rattle.run_defs.specs.States.{State, new_state, stepped, goes, stops, told_before, ◌next◌, Within, Outcome, RunStep, as_step, sn_of, was_attached}
 use Rattle.run_defs.specs.Steps.{check_spans, put_out_all, carried_out}
 use Rattle.run_defs.specs.Conditions.{is_held_by_units, units_placed, all_set_up, statically, n3_from, epoch_of, receiver_of}
 use Rattle.run_defs.specs.Events.{landed_as}
 use Rattle.run_defs.specs.Runs.{Reading, Happened, plain_world, plain_by, input_of, happens, run_on, run_from, run, Run}
-use Rattle.proof_run_steps.specs.steps.Causes.{Cause, by_order, by_tick, by_octets, by_octets_on, by_attach, by_release, by_offer, by_item, by_air, by_ack, by_letter, node_of, given_of, count_of, first_of, Stands}
-use Rattle.proof_run_steps.specs.steps.Made.{Made, stays, ends, then_made, sets_up, starts, acts, holds_item, holds_pdu, offers, core_takes, core_reads, lands, loses_letter, loses_item, remarks}
+use Rattle.proof_run_steps.specs.steps.Causes.{Cause, by_order, by_tick, by_octets, by_octets_on, by_attach, by_release, by_offer, by_item, by_air, by_ack, by_control_message, node_of, given_of, count_of, first_of, Stands}
+use Rattle.proof_run_steps.specs.steps.IsOutcome.{IsOutcome, stays, ends, then_made, sets_up, starts, acts, holds_item, holds_pdu, offers, core_takes, core_reads, lands, loses_control_message, loses_item, remarks}
 use Rattle.proof_run_steps.proofs.steps.Runs.{made_of_steps}
 use Rattle.proof_run_steps.proofs.steps.Frames.{HasUnits, then_units, keep_checked, keep_put_on_tunnel, keep_put_all, units_by, act_units}
 use Rattle.law_tunnels_are_owned.specs.owner_facts.Owned.{AreOwned}
 use Rattle.law_tunnels_are_owned.proofs.tunnel_owners.Placed.{placed_owned, first_owned}
-use Rattle.proof_unit_steps.specs.tunnel_frames.OneTunnel.{UpCounts}
+use Rattle.proof_unit_steps.specs.tunnel_frames.OneTunnel.{CuUpCounts}
 use Rattle.proof_run_steps.specs.control.Control.{control_of}
 use Rattle.proof_run_steps.proofs.control.Runs.{made_holds}
 use Rattle.proof_unit_steps.specs.downlink_names.Places.{DownlinkTeid, Story, SwitchIs}
 use Rattle.proof_unit_steps.specs.downlink_grants.Grants.{IsLeft}
-use Rattle.law_frames_are_numbered.proofs.run_switches.Steps.{PlainLetter, LetterIs}
+use Rattle.law_frames_are_numbered.proofs.run_switches.Steps.{PlainControlMessage, ControlMessageIs}
 use Rattle.law_frames_are_numbered.proofs.run_switches.Runs.{IsGood, all_kept, good_placed, good_from_here, unnamed, first_good}
 use Rattle.law_frames_are_numbered.specs.tunnel_numbers.Tunnels.{AreNumbered, put_on, puts_by, puts_in, put_there}
 use Rattle.law_frames_are_numbered.proofs.tunnel_numbers.Lines.{numbered_then, Tells, act_tells}
@@ -53,11 +53,11 @@ use Rattle.law_frames_are_numbered.proofs.number_facts.Acts.{CountBy, InputIs, T
 use Rattle.law_frames_are_numbered.proofs.number_facts.Placed.{keeps_placed, PlacedUps, places}
 
 -- what holds of all letters holds of one that is found
-found_letter : (Q : PlainLetter → Type 0) (es : List (ℕ × PlainLetter)) (number : ℕ) (l : PlainLetter) → AllByRecursion Q (map (λ e. e.1) es)
+found_control_message : (Q : PlainControlMessage → Type 0) (es : List (ℕ × PlainControlMessage)) (number : ℕ) (l : PlainControlMessage) → AllByRecursion Q (map (λ e. e.1) es)
     → find nat_cmp es number ≡ Some l → Q l
 unfolding find
-found_letter Q [] number l all is = absurd cc
-found_letter Q (e ∷ es) number l all is = by (found_letter Q es number l all.1) (is_at (nat_cmp number) e.0) is
+found_control_message Q [] number l all is = absurd cc
+found_control_message Q (e ∷ es) number l all is = by (found_control_message Q es number l all.1) (is_at (nat_cmp number) e.0) is
   where
     by : (find nat_cmp es number ≡ Some l → Q l) → (b : Bool) → cond b (Some e.1) (lookup (is_at (nat_cmp number)) es) ≡ Some l → Q l
     by later true h = let same : e.1 ≡ l = cc in subst Q same all.0
@@ -89,7 +89,7 @@ module _ (end : TunnelEnd) (t : DownlinkTeid) (same : IsEnd end t) (reading : Re
   GoodAfter story (goes steps s) = IsGood t reading story (control_of s)
   GoodAfter story (stops steps why) = Unit {0}
 
-  good_after : (story : Story) (event : Event) (s : PlainState) (e : PlainOutcome) → Made (plain_world reading) event s e → IsGood t reading story (control_of s)
+  good_after : (story : Story) (event : Event) (s : PlainState) (e : PlainOutcome) → IsOutcome (plain_world reading) event s e → IsGood t reading story (control_of s)
       → GoodAfter story e
   good_after story event s (goes steps x) made h =
       made_holds (plain_world reading) (IsGood t reading story) (all_kept t reading story) event s (goes steps x) made h
@@ -180,18 +180,18 @@ module _ (end : TunnelEnd) (t : DownlinkTeid) (same : IsEnd end t) (reading : Re
     not_moved cause is = as_it_is cause (node_of cause) is
 
     chosen_for : (event : Event) (cause : PlainCause) → Stands event s cause → ChosenFor cause (node_of cause)
-    unfolding letter
-    chosen_for event (by_letter number l to) at = by to at.1
+    unfolding control_message
+    chosen_for event (by_control_message number l to) at = by to at.1
       where
-        by : (node : NodeId) → l.to ≡ node → ChosenFor (by_letter number l to) node
+        by : (node : NodeId) → l.to ≡ node → ChosenFor (by_control_message number l to) node
         by (up_id g n) is =
             choose end t same c.good.story c.phase k s.units g n l.from l.message c.ups linked_now
             (λ own. subst (λ (node : NodeId). SwitchIs t c.good.story.place node l.message) is
-            ((found_letter (LetterIs t c.good.story) s.bag.letters number l c.good.has.letters at.0).0 own))
-        by (CuCp g) is = as_it_is (by_letter number l to) (CuCp g) tt
-        by (du_id g n) is = as_it_is (by_letter number l to) (du_id g n) tt
-        by (Ue ue) is = as_it_is (by_letter number l to) (Ue ue) tt
-        by Core is = as_it_is (by_letter number l to) Core tt
+            ((found_control_message (ControlMessageIs t c.good.story) s.bag.control_messages number l c.good.has.control_messages at.0).0 own))
+        by (CuCp g) is = as_it_is (by_control_message number l to) (CuCp g) tt
+        by (du_id g n) is = as_it_is (by_control_message number l to) (du_id g n) tt
+        by (Ue ue) is = as_it_is (by_control_message number l to) (Ue ue) tt
+        by Core is = as_it_is (by_control_message number l to) Core tt
     chosen_for event (by_order node order) at = not_moved (by_order node order) tt
     chosen_for event (by_tick node) at = not_moved (by_tick node) tt
     chosen_for event (by_octets from to octets) at = not_moved (by_octets from to octets) tt
@@ -260,17 +260,17 @@ module _ (end : TunnelEnd) (t : DownlinkTeid) (same : IsEnd end t) (reading : Re
     -- ---- a terminal is set up without messages
 
     placed_counted : (plan : Plan) → was_attached s plan.ue || is_held_by_units plan s.units ≡ false
-        → up_has_room (up_of s.units plan.gnb plan.up) plan ≡ true
-        → up_has_teids (up_of s.units plan.gnb plan.up) plan && du_has_teids (du_of s.units plan.gnb plan.du) plan ≡ true → IsCounted k (statically plan s)
+        → cu_up_has_room (cu_up_of s.units plan.gnb plan.up) plan ≡ true
+        → cu_up_has_teids (cu_up_of s.units plan.gnb plan.up) plan && du_has_teids (du_of s.units plan.gnb plan.du) plan ≡ true → IsCounted k (statically plan s)
     placed_counted plan is_free room teids =
-        by (places end t same c.phase k s.units plan (and_parts (up_has_teids (up_of s.units plan.gnb plan.up) plan) (du_has_teids (du_of s.units plan.gnb plan.du) plan) teids).1 c.ups)
+        by (places end t same c.phase k s.units plan (and_parts (cu_up_has_teids (cu_up_of s.units plan.gnb plan.up) plan) (du_has_teids (du_of s.units plan.gnb plan.du) plan) teids).1 c.ups)
       where
         owned : AreOwned (all_set_up (units_placed plan s.units))
         owned = placed_owned s.units plan (or_parts (was_attached s plan.ue) (is_held_by_units plan s.units) is_free).1 teids c.owned
 
         by : PlacedUps end t same c.phase k s.units plan → IsCounted k (statically plan s)
         by (inl ups) =
-            let p = good_placed t reading c.good.story (control_of s) plan (n3_from 1 (up_of s.units plan.gnb plan.up).next_teid plan.bearers) room teids good_now in
+            let p = good_placed t reading c.good.story (control_of s) plan (n3_from 1 (cu_up_of s.units plan.gnb plan.up).next_teid plan.bearers) room teids good_now in
             record {
               phase = c.phase;
               story = c.good.story;
@@ -280,7 +280,7 @@ module _ (end : TunnelEnd) (t : DownlinkTeid) (same : IsEnd end t) (reading : Re
               good = p.0;
             }
         by (inr h) =
-            let p = good_placed t reading c.good.story (control_of s) plan (n3_from 1 (up_of s.units plan.gnb plan.up).next_teid plan.bearers) room teids good_now in
+            let p = good_placed t reading c.good.story (control_of s) plan (n3_from 1 (cu_up_of s.units plan.gnb plan.up).next_teid plan.bearers) room teids good_now in
             let off = (c.good.has.du.left (subst (λ (x : Gnb × ℕ). IsLeft (du_of s.units x.0 x.1).next_teid t.teid) h.0.0 h.0.1.0)).1 in
             let none : c.phase ≡ None = linked_away c.good.story c.phase s.units off linked_now in
             record {
@@ -304,7 +304,7 @@ module _ (end : TunnelEnd) (t : DownlinkTeid) (same : IsEnd end t) (reading : Re
   idle_line (Ue ue) line none = refl
   idle_line Core line none = refl
 
-  made_numbers : (event : Event) (s : PlainState) (e : PlainOutcome) → Made (plain_world reading) event s e → (k : ℕ) → IsCounted k s → Numbers k e
+  made_numbers : (event : Event) (s : PlainState) (e : PlainOutcome) → IsOutcome (plain_world reading) event s e → (k : ℕ) → IsCounted k s → Numbers k e
   unfolding landed
   made_numbers event s e (stays x) k c = (k, refl, c)
   made_numbers event s e (ends x why) k c = (k, refl)
@@ -337,7 +337,7 @@ module _ (end : TunnelEnd) (t : DownlinkTeid) (same : IsEnd end t) (reading : Re
   made_numbers event s e (lands x number l to found at) k c =
       idle_step k (record x { bag = landed x.bag number }) (Some to) (got_message number l)
       (record { phase = c.phase; story = c.story; owned = c.owned; ups = c.ups; linked = c.linked; good = c.good }) (idle_line to (got_message number l) refl)
-  made_numbers event s e (loses_letter x number) k c =
+  made_numbers event s e (loses_control_message x number) k c =
       (k, refl, record { phase = c.phase; story = c.story; owned = c.owned; ups = c.ups; linked = c.linked; good = c.good })
   made_numbers event s e (loses_item x on item rest found) k c =
       (k, refl, record { phase = c.phase; story = c.story; owned = c.owned; ups = c.ups; linked = c.linked; good = c.good })
@@ -363,23 +363,23 @@ module _ (end : TunnelEnd) (t : DownlinkTeid) (same : IsEnd end t) (reading : Re
 
   -- ---- the first state
 
-  new_counts : (g h : Gnb) (n m : ℕ) → h ≡ g → UpCounts (seen_at end None g n) 0 (new_cu_up {M = Message Token} {C = Token} h m)
+  new_counts : (g h : Gnb) (n m : ℕ) → h ≡ g → CuUpCounts (seen_at end None g n) 0 (new_cu_up {M = Message Token} {C = Token} h m)
   unfolding find
   new_counts g h n m is = (is, λ ue c b x at found. absurd cc)
 
-  first_ups : (g : Gnb) (n : ℕ) → UpCounts (seen_at end None g n) 0 (up_of (new_units {M = Message Token} {C = Token}) g n)
+  first_ups : (g : Gnb) (n : ℕ) → CuUpCounts (seen_at end None g n) 0 (cu_up_of (new_units {M = Message Token} {C = Token}) g n)
   unfolding at find
   first_ups g n =
       by (is_at (node_cmp (up_id g n)) (up_id A 1)) (is_at (node_cmp (up_id g n)) (up_id A 2)) (is_at (node_cmp (up_id g n)) (up_id B 1))
-      (is_at (node_cmp (up_id g n)) (up_id B 2)) (tied A 1) (tied A 2) (tied B 1) (tied B 2)
+      (is_at (node_cmp (up_id g n)) (up_id B 2)) (reached A 1) (reached A 2) (reached B 1) (reached B 2)
     where
-      tied : (h : Gnb) (m : ℕ) → is_at (node_cmp (up_id g n)) (up_id h m) ≡ true → h ≡ g
-      tied h m tie =
+      reached : (h : Gnb) (m : ℕ) → is_at (node_cmp (up_id g n)) (up_id h m) ≡ true → h ≡ g
+      reached h m tie =
           let both : up_id g n ≡ up_id h m = node_exact (up_id g n) (up_id h m) ((Equal-is (node_cmp (up_id g n) (up_id h m))).0 tie) in
           let gnbs : h ≡ g = cc in gnbs
 
       by : (a b c d : Bool) → (a ≡ true → A ≡ g) → (b ≡ true → A ≡ g) → (c ≡ true → B ≡ g) → (d ≡ true → B ≡ g)
-          → UpCounts (seen_at end None g n) 0 (unwrap_or (cond a (Some (new_cu_up {M = Message Token} {C = Token} A 1)) (cond b (Some (new_cu_up A 2)) (cond c (Some (new_cu_up B 1))
+          → CuUpCounts (seen_at end None g n) 0 (unwrap_or (cond a (Some (new_cu_up {M = Message Token} {C = Token} A 1)) (cond b (Some (new_cu_up A 2)) (cond c (Some (new_cu_up B 1))
           (cond d (Some (new_cu_up B 2)) None)))) (new_cu_up g n))
       by true b c d p q r t = new_counts g A n 1 (p refl)
       by false true c d p q r t = new_counts g A n 2 (q refl)

@@ -6,14 +6,14 @@ use Rattle.gnb_types.specs.declared.names.BearerId.{BearerId}
 use Rattle.gnb_types.specs.declared.plans.SnStatus.{SnStatus}
 use Rattle.pdcp_defs.specs.Senders.{is_set, is_reported}
 use Rattle.pdcp_defs.specs.Receivers.{Receiver, received_bits, deliver}
-use Rattle.unit_defs.specs.UpRecords.{UpBearer, UpFlags}
-use Rattle.unit_defs.specs.UpBearers.{bits_in, some_bits, status_of, thawed}
+use Rattle.unit_defs.specs.CuUpRecords.{CuUpBearer, CuUpFlags}
+use Rattle.unit_defs.specs.CuUpBearers.{bits_in, some_bits, status_of, thawed}
 use Rattle.bearer_defs.specs.chain_defs.Orders.{known}
-use Rattle.bearer_defs.specs.uplink_defs.Parts.{Member, Part, start}
-use Rattle.bearer_defs.specs.uplink_defs.Orders.{Order, knows, switches, after, run}
-use Rattle.bearer_defs.specs.uplink_defs.Guards.{IsOwed, AreKept}
+use Rattle.bearer_defs.specs.uplink_defs.Models.{Member, Model, initial}
+use Rattle.bearer_defs.specs.uplink_defs.Orders.{ModelStep, knows, switches, after, run}
+use Rattle.bearer_defs.specs.uplink_defs.Assumptions.{IsAssumed, AreKept}
 use Rattle.proof_cu_up_orders.specs.orders.Up.{IsUp}
-use Rattle.proof_cu_up_orders.specs.context_orders.Orders.{UpPart}
+use Rattle.proof_cu_up_orders.specs.context_orders.Orders.{CuUpModel}
 use Rattle.law_uplink_order.specs.uplink.Words.{Reports}
 use Rattle.law_uplink_order.proofs.uplink.Reports.{reports_carried}
 use Rattle.law_downlink_order.proofs.chain.Frames.{set_here}
@@ -23,45 +23,45 @@ use Rattle.law_handover_delivers.specs.down_report_frames.Statuses.{BitsAreTrue,
 
 -- ---- orders after orders
 
-pub run_more : (u : Part) (os more : List Order) → run u (os ++ more) ≡ run (run u os) more
+pub run_more : (u : Model) (os more : List ModelStep) → run u (os ++ more) ≡ run (run u os) more
 unfolding run
 run_more u [] more = refl
 run_more u (o ∷ os) more = run_more (after u o) os more
 
-pub kept_more : (u : Part) (os more : List Order) → AreKept u os → AreKept (run u os) more → AreKept u (os ++ more)
+pub kept_more : (u : Model) (os more : List ModelStep) → AreKept u os → AreKept (run u os) more → AreKept u (os ++ more)
 unfolding AreKept run
 kept_more u [] more h k = k
 kept_more u (o ∷ os) more h k = (h.0, h.1, kept_more (after u o) os more h.2 k)
 
-pub first_kept : (u : Part) (o : Order) (os : List Order) → AreKept u (o ∷ os) → AreKept u (o ∷ [])
+pub first_kept : (u : Model) (o : ModelStep) (os : List ModelStep) → AreKept u (o ∷ os) → AreKept u (o ∷ [])
 unfolding AreKept
 first_kept u o os kept = (kept.0, kept.1, tt)
 
-one_run : (u : Part) (o : Order) → run u (o ∷ []) ≡ after u o
+one_run : (u : Model) (o : ModelStep) → run u (o ∷ []) ≡ after u o
 unfolding run
 one_run u o = refl
 
-no_run : (u : Part) → run u [] ≡ u
+no_run : (u : Model) → run u [] ≡ u
 unfolding run
 no_run u = refl
 
-pub nothing_came : (first teid : ℕ) → UpCameAbout (start first teid)
+pub nothing_came : (first teid : ℕ) → UpCameAbout (initial first teid)
 unfolding AreKept run
 nothing_came first teid = record { first = first; teid = teid; orders = []; is = refl; kept = tt }
 
-pub more_came : (u v : Part) (os : List Order) → UpCameAbout u → v ≡ run u os → AreKept u os → UpCameAbout v
+pub more_came : (u v : Model) (os : List ModelStep) → UpCameAbout u → v ≡ run u os → AreKept u os → UpCameAbout v
 more_came u v os came is kept =
-    let begun : Part = start came.first came.teid in record {
+    let begun : Model = initial came.first came.teid in record {
       first = came.first;
       teid = came.teid;
       orders = came.orders ++ os;
-      is = is ∙ ap (λ (w : Part). run w os) came.is ∙ sym (run_more begun came.orders os);
-      kept = kept_more begun came.orders os came.kept (subst (λ (w : Part). AreKept w os) came.is kept);
+      is = is ∙ ap (λ (w : Model). run w os) came.is ∙ sym (run_more begun came.orders os);
+      kept = kept_more begun came.orders os came.kept (subst (λ (w : Model). AreKept w os) came.is kept);
     }
 
 -- ---- what a status report of the terminal's context says
 
-says_there : (v : Part) (x : ℕ) (m : Member) (i : ℕ) → v.station ≡ x → v.members x ≡ m → m.flags.may_serve ≡ true
+says_there : (v : Model) (x : ℕ) (m : Member) (i : ℕ) → v.station ≡ x → v.members x ≡ m → m.flags.may_serve ≡ true
     → is_reported m.bearer.receiver.deliv (received_bits m.bearer.receiver) i ≡ true → Reports v i
 unfolding Reports
 says_there v x m i at is known said =
@@ -85,23 +85,23 @@ reported fmc bits i above set = by (nat_lt i fmc) (nat_lt fmc i) refl
 pub bits_later : (reached later : ℕ) (status : SnStatus) → reached ≤ later → BitsAreTrue reached status → BitsAreTrue later status
 bits_later reached later status more bits = λ i above set. (let low : i < reached = bits i above set in omega (arith, low, more))
 
-module _ (u : Part) (came : UpCameAbout u) where
+module _ (u : Model) (came : UpCameAbout u) where
   reported_here : (i : ℕ) → Reports u i → i < u.reached
   reported_here i said =
-      let begun : Part = start came.first came.teid in
-      subst (λ (w : Part). i < w.reached) (no_run (run begun came.orders) ∙ sym came.is)
-      (reports_carried came.first came.teid came.orders [] i came.kept (subst (λ (w : Part). Reports w i) came.is said))
+      let begun : Model = initial came.first came.teid in
+      subst (λ (w : Model). i < w.reached) (no_run (run begun came.orders) ∙ sym came.is)
+      (reports_carried came.first came.teid came.orders [] i came.kept (subst (λ (w : Model). Reports w i) came.is said))
 
-  reported_below : (o : Order) → AreKept u (o ∷ []) → (i : ℕ) → Reports (after u o) i → i < (after u o).reached
+  reported_below : (o : ModelStep) → AreKept u (o ∷ []) → (i : ℕ) → Reports (after u o) i → i < (after u o).reached
   reported_below o kept i said =
-      let begun : Part = start came.first came.teid in
-      let whole : List Order = came.orders ++ o ∷ [] in
+      let begun : Model = initial came.first came.teid in
+      let whole : List ModelStep = came.orders ++ o ∷ [] in
       let there : run begun whole ≡ after u o
-      = run_more begun came.orders (o ∷ []) ∙ ap (λ (w : Part). run w (o ∷ [])) (sym came.is) ∙ one_run u o in
+      = run_more begun came.orders (o ∷ []) ∙ ap (λ (w : Model). run w (o ∷ [])) (sym came.is) ∙ one_run u o in
       let all_kept : AreKept begun whole
-      = kept_more begun came.orders (o ∷ []) came.kept (subst (λ (w : Part). AreKept w (o ∷ [])) came.is kept) in
-      subst (λ (w : Part). i < w.reached) (no_run (run begun whole) ∙ there)
-      (reports_carried came.first came.teid whole [] i all_kept (subst (λ (w : Part). Reports w i) (sym there) said))
+      = kept_more begun came.orders (o ∷ []) came.kept (subst (λ (w : Model). AreKept w (o ∷ [])) came.is kept) in
+      subst (λ (w : Model). i < w.reached) (no_run (run begun whole) ∙ there)
+      (reports_carried came.first came.teid whole [] i all_kept (subst (λ (w : Model). Reports w i) (sym there) said))
 
   module _ (x : ℕ) where
     abbrev m : Member
@@ -109,24 +109,24 @@ module _ (u : Part) (came : UpCameAbout u) where
 
     -- ---- what its source says, in an SN status
 
-    pub source_says : (p : UpPart) (bearer : BearerId) → IsUp m p → x ≡ u.station → p.at.flags.may_serve ≡ true
+    pub source_says : (p : CuUpModel) (bearer : BearerId) → IsUp m p → x ≡ u.station → p.at.flags.may_serve ≡ true
         → BitsAreTrue u.reached (status_of bearer p.bearer)
     source_says p bearer up at known = λ i above set.
-        let same : m.bearer.receiver ≡ p.bearer.receiver = ap (λ (b : UpBearer). b.receiver) up.bearer in
+        let same : m.bearer.receiver ≡ p.bearer.receiver = ap (λ (b : CuUpBearer). b.receiver) up.bearer in
         let its : is_set (received_bits p.bearer.receiver) (i - p.bearer.receiver.deliv - 1) ≡ true
         = subst (λ (bits : List Bool). is_set bits (i - p.bearer.receiver.deliv - 1) ≡ true) (bits_back (received_bits p.bearer.receiver)) set in
         reported_here i
-        (says_there u x m i (sym at) refl (ap (λ (f : UpFlags). f.may_serve) up.flags ∙ known)
+        (says_there u x m i (sym at) refl (ap (λ (f : CuUpFlags). f.may_serve) up.flags ∙ known)
         (subst (λ (r : Receiver (List ℕ)). is_reported r.deliv (received_bits r) i ≡ true) (sym same)
         (reported p.bearer.receiver.deliv (received_bits p.bearer.receiver) i above its)))
 
     -- ---- at a switch
 
-    pub switch_reports : (p : UpPart) (du : NodeId) (teid : ℕ) → IsUp m p → AreKept u (switches x ∷ []) → p.at.flags.may_serve ≡ true
+    pub switch_reports : (p : CuUpModel) (du : NodeId) (teid : ℕ) → IsUp m p → AreKept u (switches x ∷ []) → p.at.flags.may_serve ≡ true
         → ReportIsTrue u.reached (switched_to p du teid).receiver.deliv (received_bits (switched_to p du teid).receiver)
-    unfolding after AreKept IsOwed
+    unfolding after AreKept IsAssumed
     switch_reports p du teid up kept known = λ i said.
-        let same : m.bearer.receiver ≡ p.bearer.receiver = ap (λ (b : UpBearer). b.receiver) up.bearer in
+        let same : m.bearer.receiver ≡ p.bearer.receiver = ap (λ (b : CuUpBearer). b.receiver) up.bearer in
         let now : Member = record m {
           flags = record m.flags { frozen = false; arrived = true };
           bearer = record (thawed m.bearer) { receiver = (deliver m.bearer.receiver).after };
@@ -135,7 +135,7 @@ module _ (u : Part) (came : UpCameAbout u) where
         = subst (λ (r : Receiver (List ℕ)). is_reported (deliver r).after.deliv (received_bits (deliver r).after) i ≡ true) (sym same) said in
         reported_below (switches x) kept i
         (says_there (after u (switches x)) x now i (sym kept.1) (set_here u.members x now)
-        (ap (λ (f : UpFlags). f.may_serve) up.flags ∙ known) said_there)
+        (ap (λ (f : CuUpFlags). f.may_serve) up.flags ∙ known) said_there)
 
     -- ---- at an SN status
 

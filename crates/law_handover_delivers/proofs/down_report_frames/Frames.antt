@@ -6,10 +6,10 @@ use Rattle.gnb_types.specs.declared.names.NodeId.{NodeId}
 use Rattle.pdcp_defs.specs.Senders.{confirmed_by, may_restore}
 use Rattle.pdcp_defs.specs.Receivers.{received_bits}
 use Rattle.unit_defs.specs.Ways.{Pdu, packet_pdu, report_pdu, packet_content, report_content, Taken, fresh_item, numbered_item, uplink_item, status_item}
-use Rattle.unit_defs.specs.UpRecords.{Downlink, UpBearer, TunnelKind, n3, f1u_uplink, forwarding_down}
-use Rattle.unit_defs.specs.UpBearers.{bits_in, owed, thawed}
+use Rattle.unit_defs.specs.CuUpRecords.{DownlinkTunnel, CuUpBearer, TunnelKind, n3, f1u_uplink, forwarding_down}
+use Rattle.unit_defs.specs.CuUpBearers.{bits_in, owed, thawed}
 use Rattle.bearer_defs.specs.chain_defs.Orders.{known, waits}
-use Rattle.proof_cu_up_orders.specs.context_orders.Orders.{UpPart, UpOrder, makes, adds, switches, freezes, knows, resumes, releases, closes, takes, polls, on_switch, on_status, on_resume}
+use Rattle.proof_cu_up_orders.specs.context_orders.Orders.{CuUpModel, ContextStep, makes, adds, switches, freezes, knows, resumes, releases, closes, takes, polls, on_switch, on_status, on_resume}
 use Rattle.proof_cu_up_orders.specs.down_orders.Down.{confirmed_if, packets_if}
 use Rattle.law_downlink_order.specs.path.Paths.{Frame, Sending, frame_on, packets_sent}
 use Rattle.law_downlink_order.specs.path.Steps.{sent_again, sent_anew}
@@ -22,12 +22,12 @@ module _ (reached : ℕ) where
   abbrev AreTrue : Sending → Type 0
   AreTrue s = FramesAreTrue reached s.frames
 
-  frame_true : (poll restart : Bool) (pdu : Option Pdu) (b : UpBearer) (o : Option Downlink) → PayloadIsTrue reached pdu
+  frame_true : (poll restart : Bool) (pdu : Option Pdu) (b : CuUpBearer) (o : Option DownlinkTunnel) → PayloadIsTrue reached pdu
       → AreTrue (frame_on poll restart pdu b o)
   frame_true poll restart pdu b None told = tt
   frame_true poll restart pdu b (Some d) told = (told, tt)
 
-  packets_true : (es : List (ℕ × List ℕ)) (b : UpBearer) → AreTrue (packets_sent es b)
+  packets_true : (es : List (ℕ × List ℕ)) (b : CuUpBearer) → AreTrue (packets_sent es b)
   unfolding packets_sent
   packets_true [] b = tt
   packets_true (e ∷ es) b =
@@ -35,23 +35,23 @@ module _ (reached : ℕ) where
       all_append (λ (f : Frame). PayloadIsTrue reached f.pdu) one.frames (packets_sent es one.bearer).frames
       (frame_true false b.restart (Some (packet_pdu e.0 e.1)) b b.downlink tt) (packets_true es one.bearer)
 
-  again_true : (f : Bool) (lost : List (ℕ × ℕ)) (b : UpBearer) → AreTrue (sent_again f lost b)
+  again_true : (f : Bool) (lost : List (ℕ × ℕ)) (b : CuUpBearer) → AreTrue (sent_again f lost b)
   again_true true [] b = tt
   again_true false [] b = tt
   again_true true (range ∷ ranges) b = tt
   again_true false (range ∷ ranges) b = packets_true b.sender.unconfirmed (record b { restart = true })
 
-  anew_true : (fmc : ℕ) (bits : List Bool) (b : UpBearer) → ReportIsTrue reached fmc bits → AreTrue (sent_anew fmc bits b)
+  anew_true : (fmc : ℕ) (bits : List Bool) (b : CuUpBearer) → ReportIsTrue reached fmc bits → AreTrue (sent_anew fmc bits b)
   anew_true fmc bits b told =
       let one : Sending = frame_on false false (Some (report_pdu fmc bits)) b b.downlink in
       all_append (λ (f : Frame). PayloadIsTrue reached f.pdu) one.frames (packets_sent one.bearer.sender.unconfirmed one.bearer).frames
       (frame_true false false (Some (report_pdu fmc bits)) b b.downlink told) (packets_true one.bearer.sender.unconfirmed one.bearer)
 
-  both_true : (one : Sending) (more : UpBearer → Sending) → AreTrue one → ((b : UpBearer) → AreTrue (more b)) → AreTrue (and_then one more)
+  both_true : (one : Sending) (more : CuUpBearer → Sending) → AreTrue one → ((b : CuUpBearer) → AreTrue (more b)) → AreTrue (and_then one more)
   both_true one more first others =
       all_append (λ (f : Frame). PayloadIsTrue reached f.pdu) one.frames (more one.bearer).frames first (others one.bearer)
 
-  module _ (p : UpPart) where
+  module _ (p : CuUpModel) where
     numbered_true : (count : ℕ) (packet : List ℕ) → AreTrue (sent_for_item {P = Pdu} p forwarding_down (numbered_item (Some count) packet))
     numbered_true count packet = by p.at.flags.released (may_restore p.at.sn p.at.quota p.bearer.sender count) p.at.flags.frozen
       where
@@ -62,7 +62,7 @@ module _ (reached : ℕ) where
         by false true false = packets_true ((count, packet) ∷ []) p.bearer
         by false false f = tt
 
-    status_true : (lost : List (ℕ × ℕ)) (c : UpBearer) → AreTrue (and_then (sent_again p.at.flags.frozen lost c) (λ b. packets_sent (packets_if p.at c) b))
+    status_true : (lost : List (ℕ × ℕ)) (c : CuUpBearer) → AreTrue (and_then (sent_again p.at.flags.frozen lost c) (λ b. packets_sent (packets_if p.at c) b))
     status_true lost c =
         both_true (sent_again p.at.flags.frozen lost c) (λ b. packets_sent (packets_if p.at c) b) (again_true p.at.flags.frozen lost c)
         (λ b. packets_true (packets_if p.at c) b)
@@ -81,7 +81,7 @@ module _ (reached : ℕ) where
     switch_true : (du : NodeId) (teid : ℕ) → OrderIsTrue reached p (switches du teid) → AreTrue (sent_by_switch p du teid)
     switch_true du teid told = by p.at.flags.may_serve told
       where
-        c : UpBearer
+        c : CuUpBearer
         c = switched_to p du teid
 
         by : (t : Bool) → (t ≡ true → ReportIsTrue reached (switched_to p du teid).receiver.deliv (received_bits (switched_to p du teid).receiver))
@@ -94,12 +94,12 @@ module _ (reached : ℕ) where
             (anew_true c.receiver.deliv (received_bits c.receiver) c (said refl)) (λ b. packets_true (packets_if (on_switch p).at c) b)
         by false said = tt
 
-    pub order_true : (order : UpOrder Pdu) → OrderIsTrue reached p order → AreTrue (sent_by p order)
+    pub order_true : (order : ContextStep Pdu) → OrderIsTrue reached p order → AreTrue (sent_by p order)
     order_true (takes kind teid item) told = item_true kind item
     order_true (switches du teid) told = switch_true du teid told
     order_true (knows status) told = by p.at.flags.arrived told
       where
-        c : UpBearer
+        c : CuUpBearer
         c = handed_up (known p.bearer status)
 
         by : (t : Bool) → (t ≡ true → ReportIsTrue reached status.ul_first (bits_in status.ul_received))
@@ -112,7 +112,7 @@ module _ (reached : ℕ) where
             (anew_true status.ul_first (bits_in status.ul_received) c (said refl)) (λ b. packets_true (packets_if (on_status p).at c) b)
         by false said = tt
     order_true resumes told =
-        let c : UpBearer = record (thawed p.bearer) { restart = p.bearer.restart || p.bearer.loss_while_frozen } in
+        let c : CuUpBearer = record (thawed p.bearer) { restart = p.bearer.restart || p.bearer.loss_while_frozen } in
         both_true (packets_sent (owed p.bearer) c) (λ b. packets_sent (packets_if (on_resume p).at c) b) (packets_true (owed p.bearer) c)
         (λ b. packets_true (packets_if (on_resume p).at c) b)
     order_true polls told = frame_true true false None p.bearer p.bearer.downlink tt

@@ -20,7 +20,7 @@ use Rattle.proof_run_steps.specs.facts.UnitFacts.{written_facts}
 use Rattle.law_tunnels_are_owned.specs.link_items.Items.{MayPut, IsForwardedUp}
 use Rattle.law_tunnels_are_owned.proofs.link_items.Names.{link_items}
 use Rattle.proof_cu_up_orders.specs.context_tests.Tests.{EndsAfter}
-use Rattle.proof_cu_up_orders.specs.context_orders.Orders.{UpPart, UpOrder, closes, begun, done, carried}
+use Rattle.proof_cu_up_orders.specs.context_orders.Orders.{CuUpModel, ContextStep, closes, begun, done, carried}
 use Rattle.proof_cu_up_orders.specs.context_orders.Shown.{is_bearer, is_on, on_bearer}
 use Rattle.proof_cu_up_orders.specs.bearer_orders.Happenings.{kept_of}
 use Rattle.law_downlink_order.specs.path.Paths.{Frame, Sending}
@@ -37,7 +37,7 @@ abbrev pub Outs : Type 0
 Outs = List (Output (Message Token) Pdu)
 
 abbrev pub Row : Type 0
-Row = Answer (Message Token) Pdu (Option UpPart)
+Row = Answer (Message Token) Pdu (Option CuUpModel)
 
 module _ (reached : ℕ) where
   -- what is put down reports only what was carried up
@@ -102,12 +102,12 @@ module _ (reached : ℕ) where
   with_true os (spent k) first rest = tt
 
   module _ (ue : UeId) (bearer : BearerId) where
-    abbrev pub AllTrue : List (UpOrder Pdu) → Option UpPart → Type 0
+    abbrev pub AllTrue : List (ContextStep Pdu) → Option CuUpModel → Type 0
     AllTrue [] o = Unit {0}
     AllTrue (order ∷ os) None = AllTrue os (begun ue bearer order)
     AllTrue (order ∷ os) (Some p) = OrderIsTrue reached p order × AllTrue os (kept_of (Some p) (done plain_way order p))
 
-    pub all_true : (os : List (UpOrder Pdu)) (o : Option UpPart) → AllTrue os o → RowIsTrue (carried plain_way ue bearer os o)
+    pub all_true : (os : List (ContextStep Pdu)) (o : Option CuUpModel) → AllTrue os o → RowIsTrue (carried plain_way ue bearer os o)
     all_true [] o told = tt
     all_true (order ∷ os) None told =
         with_true [] (carried plain_way ue bearer os (begun ue bearer order)) tt (all_true os (begun ue bearer order) told)
@@ -116,25 +116,25 @@ module _ (reached : ℕ) where
         (row_true p.at.sn (sent_by p order) (done plain_way order p) (order_puts plain_way p order) (order_true reached p order told.0))
         told.1 (λ q rest. all_true os q rest)
       where
-        by : (a : Row) → RowIsTrue a → AllTrue os (kept_of (Some p) a) → ((q : Option UpPart) → AllTrue os q → RowIsTrue (carried plain_way ue bearer os q))
+        by : (a : Row) → RowIsTrue a → AllTrue os (kept_of (Some p) a) → ((q : Option CuUpModel) → AllTrue os q → RowIsTrue (carried plain_way ue bearer os q))
             → RowIsTrue (a then carried plain_way ue bearer os)
         by (gives xs q) row rest more = with_true xs (carried plain_way ue bearer os q) row (more q rest)
         by (spent k) row rest more = tt
 
     -- after the first order the context's end at most
 
-    pub shape : (a : Row) (os : List (UpOrder Pdu)) → EndsAfter os a → (os ≡ []) ⊎ (os ≡ closes ∷ [])
+    pub shape : (a : Row) (os : List (ContextStep Pdu)) → EndsAfter os a → (os ≡ []) ⊎ (os ≡ closes ∷ [])
     shape a [] h = inl refl
     shape a (closes ∷ []) h = inr refl
     shape a os h = absurd h
 
-    end_true : (o : Option UpPart) → AllTrue (closes ∷ []) o
+    end_true : (o : Option CuUpModel) → AllTrue (closes ∷ []) o
     end_true None = tt
     end_true (Some p) = (tt, tt)
 
-    pub rest_true : (os : List (UpOrder Pdu)) (o : Option UpPart) → (os ≡ []) ⊎ (os ≡ closes ∷ []) → AllTrue os o
-    rest_true os o (inl none) = subst (λ (w : List (UpOrder Pdu)). AllTrue w o) (sym none) tt
-    rest_true os o (inr ends) = subst (λ (w : List (UpOrder Pdu)). AllTrue w o) (sym ends) (end_true o)
+    pub rest_true : (os : List (ContextStep Pdu)) (o : Option CuUpModel) → (os ≡ []) ⊎ (os ≡ closes ∷ []) → AllTrue os o
+    rest_true os o (inl none) = subst (λ (w : List (ContextStep Pdu)). AllTrue w o) (sym none) tt
+    rest_true os o (inr ends) = subst (λ (w : List (ContextStep Pdu)). AllTrue w o) (sym ends) (end_true o)
 
     -- ---- so what the unit puts on the bearer does
 
@@ -175,10 +175,10 @@ module _ (reached : ℕ) where
               → AllDownTrue (cond t (packet to teid who q Dl tag load ∷ on_bearer ue bearer outputs) (on_bearer ue bearer outputs))
               → (AllDownTrue (on_bearer ue bearer outputs) → PutsAreTrue ue bearer reached (map (written_put lengths) outputs))
               → (is_of ue bearer who q ≡ true → LoadIsTrue reached load) × PutsAreTrue ue bearer reached (map (written_put lengths) outputs)
-          by true own all more = ((λ tie. all.0), more all.1)
-          by false own all more = ((λ tie. let never : true ≡ false = sym tie ∙ own in absurd cc), more all)
+          by true own all more = ((λ refinement. all.0), more all.1)
+          by false own all more = ((λ refinement. let never : true ≡ false = sym refinement ∙ own in absurd cc), more all)
       outputs_tell (packet to teid who q Ul tag load ∷ outputs) fit told = (
-        (λ tie. up_may to load fit.0.0.1),
+        (λ refinement. up_may to load fit.0.0.1),
         outputs_tell outputs fit.1 (rest_of (is_bearer ue bearer who q) (packet to teid who q Ul tag load) (on_bearer ue bearer outputs) told),
       )
       outputs_tell (deliver u b dir count x ∷ outputs) fit told = (

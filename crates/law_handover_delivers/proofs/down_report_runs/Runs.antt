@@ -1,4 +1,5 @@
--- Steps of a run keep what stands on links and reports to a terminal what was carried up; so that of a report that it takes nothing is owed.
+-- Steps of a run keep what stands on links and reports to a terminal what was carried up; so that of a report that it takes nothing is
+-- assumed.
 use Rattle.std.proofs.Common.{ℕ, ◌≤◌, map, refl, sym, ap, subst}
 use Rattle.gnb_types.specs.declared.names.NodeId.{NodeId}
 use Rattle.gnb_types.specs.declared.names.NodeId.TheVariants.{Du}
@@ -13,47 +14,47 @@ use Rattle.run_defs.specs.Runs.{Reading}
 use Rattle.proof_run_steps.specs.steps.Causes.{by_air}
 use Rattle.proof_run_steps.specs.radio_steps.Radios.{on_air}
 use Rattle.proof_run_steps.specs.teids.Given.{GiveOnce}
-use Rattle.proof_bearer_refinement.specs.radio_downs.Down.{down_key}
-use Rattle.proof_bearer_refinement.specs.radio_ties.Radio.{RunState, up_key}
-use Rattle.bearer_defs.specs.uplink_defs.Parts as up_parts
+use Rattle.proof_bearer_refinement.specs.downlink_radio.Down.{down_key}
+use Rattle.proof_bearer_refinement.specs.uplink_radio.Radio.{RunState, up_key}
+use Rattle.bearer_defs.specs.uplink_defs.Models as up_models
 use Rattle.proof_bearer_refinement.specs.run_bearers.Bearers.{Numbering}
-use Rattle.proof_bearer_refinement.specs.tie_facts.Asked.{AreSound}
-use Rattle.law_handover_delivers.specs.owed_runs.Owing.{NoneIsZero}
-use Rattle.law_handover_delivers.specs.owed_runs.Owing as owed
-use Rattle.law_handover_delivers.specs.fresh_uplinks.Later as later
-use Rattle.proof_bearer_refinement.specs.first_ties.First as first_run
-use Rattle.law_handover_delivers.specs.first_runs.First.{DeliverInOrder}
-use Rattle.proof_bearer_refinement.specs.tied_runs.Steps.{Point, AreOrders}
-use Rattle.proof_bearer_refinement.specs.tied_runs.Steps as tied
-use Rattle.proof_bearer_refinement.specs.put_ties.Worked.{terminal, bearer as its_bearer, plan}
-use Rattle.proof_bearer_refinement.specs.tied_runs.Fair.{IsFair}
-use Rattle.law_handover_delivers.specs.path_ties.Paths as path
+use Rattle.proof_bearer_refinement.specs.refinement_facts.Asked.{AreSound}
+use Rattle.law_handover_delivers.specs.assumed_runs.Assuming.{NoneIsZero}
+use Rattle.law_handover_delivers.specs.assumed_runs.Assuming as assumed
+use Rattle.law_handover_delivers.specs.unused_uplinks.Later as later
+use Rattle.proof_bearer_refinement.specs.initial.First as first_run
+use Rattle.law_handover_delivers.specs.initial_runs.First.{DeliverInOrder}
+use Rattle.proof_bearer_refinement.specs.runs.Steps.{Point, AreOrders}
+use Rattle.proof_bearer_refinement.specs.runs.Steps as refined
+use Rattle.proof_bearer_refinement.specs.du_puts.Worked.{terminal, bearer as its_bearer, plan}
+use Rattle.proof_bearer_refinement.specs.runs.Fair.{IsFair}
+use Rattle.law_handover_delivers.specs.core_path.Paths as path
 use Rattle.law_handover_delivers.specs.report_runs.Steps as reports
-use Rattle.proof_bearer_refinement.proofs.tied_runs.Fair.{fair_sound}
-use Rattle.proof_bearer_refinement.proofs.tied_runs.Runs.{step_then}
-use Rattle.proof_bearer_refinement.proofs.first_ties.Start.{starts, tied as tied_there}
-use Rattle.law_handover_delivers.proofs.first_runs.Runs.{begins}
-use Rattle.law_handover_delivers.proofs.fresh_uplinks.Runs.{starts_fresh, one_step as fresh_step}
-use Rattle.law_handover_delivers.proofs.owed_runs.Runs.{first_steady, first_old, one_step as owed_step}
-use Rattle.law_handover_delivers.proofs.path_ties.Runs.{IsAlong, one_step as path_step, leads_there}
+use Rattle.proof_bearer_refinement.proofs.runs.Fair.{fair_sound}
+use Rattle.proof_bearer_refinement.proofs.runs.Runs.{step_then}
+use Rattle.proof_bearer_refinement.proofs.initial.Start.{starts, refined as refined_there}
+use Rattle.law_handover_delivers.proofs.initial_runs.Runs.{begins}
+use Rattle.law_handover_delivers.proofs.unused_uplinks.Runs.{starts_fresh, one_step as fresh_step}
+use Rattle.law_handover_delivers.proofs.assumed_runs.Runs.{first_well_linked, first_old, one_step as assumed_step}
+use Rattle.law_handover_delivers.proofs.core_path.Runs.{IsAlong, one_step as path_step, leads_there}
 use Rattle.law_handover_delivers.proofs.report_runs.Runs.{one_step as told_step, first_about, told_there, known_there}
-use Rattle.law_handover_delivers.proofs.report_orders.Owed.{all_owed}
+use Rattle.law_handover_delivers.proofs.reports_at_cu_up.Assumed.{all_assumed}
 use Rattle.law_handover_delivers.specs.whole_runs.Whole as whole
 use Rattle.law_handover_delivers.specs.whole_runs.Whole.{both, IsWhole}
 use Rattle.law_handover_delivers.proofs.whole_runs.Runs.{one_step as whole_step, delivers_on as whole_delivers, shown_there}
 use Rattle.law_handover_delivers.specs.down_reports.Reports.{ReportsDownAreTrue}
 use Rattle.law_handover_delivers.proofs.down_reports.Airs.{told_at_first, told_later, told_alike, told_first_lost}
 use Rattle.law_handover_delivers.proofs.down_reports.Grows.{all_grow}
-use Rattle.law_handover_delivers.specs.down_report_ties.Nodes.{PutsNoReport}
-use Rattle.law_handover_delivers.proofs.down_report_ties.Quiet.{quiet_keeps}
-use Rattle.law_handover_delivers.proofs.down_report_ties.Dus.{du_keeps}
-use Rattle.law_handover_delivers.proofs.down_report_ties.Cores.{message_keeps, offer_keeps}
-use Rattle.law_handover_delivers.proofs.down_report_ties.Rest.{set_up_told, octets_told}
-use Rattle.law_handover_delivers.proofs.down_report_ties.Heard.{taken_owed, heard_owed}
+use Rattle.law_handover_delivers.specs.down_reports_elsewhere.Nodes.{PutsNoReport}
+use Rattle.law_handover_delivers.proofs.down_reports_elsewhere.Quiet.{quiet_keeps}
+use Rattle.law_handover_delivers.proofs.down_reports_elsewhere.Dus.{du_keeps}
+use Rattle.law_handover_delivers.proofs.down_reports_elsewhere.Cores.{message_keeps, offer_keeps}
+use Rattle.law_handover_delivers.proofs.down_reports_elsewhere.Rest.{set_up_told, octets_told}
+use Rattle.law_handover_delivers.proofs.down_reports_elsewhere.Received.{taken_assumed, received_assumed}
 use Rattle.law_handover_delivers.specs.down_report_frames.Statuses.{UpCameAbout}
 use Rattle.law_handover_delivers.proofs.down_report_frames.Carried.{nothing_came, more_came}
 use Rattle.law_handover_delivers.proofs.down_report_frames.Steps.{cu_up_keeps}
-use Rattle.law_handover_delivers.specs.down_report_runs.Steps.{ReportsDownAreTrueAt, OwesStatuses, UeActs, Step, the_terminal, all_else, Steps, not_yet, further}
+use Rattle.law_handover_delivers.specs.down_report_runs.Steps.{ReportsDownAreTrueAt, AssumesStatuses, UeActs, Step, the_terminal, all_else, Steps, not_yet, further}
 
 module _ (reading : Reading) (n : Numbering) (ue : UeId) (bearer : BearerId) (sn : SnBits) (quota : ℕ) (positive : NoneIsZero n) where
   abbrev Whole : Point → Type 0
@@ -66,23 +67,23 @@ module _ (reading : Reading) (n : Numbering) (ue : UeId) (bearer : BearerId) (sn
     sound : AreSound p.state q.state
     sound = fair_sound p.state q.state before after
 
-    -- ---- what the parts do meanwhile is orders, each of which asks what it does
+    -- ---- what the models do meanwhile is orders, each of which asks what it does
 
     along : IsAlong reading n ue bearer sn quota positive p
-    along = record { ties = all.ties; fresh = all.fresh; steady = all.steady; came = all.came; leads = all.leads }
+    along = record { refinements = all.refinements; fresh = all.fresh; well_linked = all.well_linked; came = all.came; leads = all.leads }
 
     their_orders : whole.Step reading n ue bearer sn quota p q → AreOrders reading n ue bearer sn quota p q
     their_orders step =
         let its : reports.Step reading n ue bearer sn quota p q = (whole_step reading n ue bearer sn quota positive p q before after comes all step).0 in
         let on_path : path.Step reading n ue bearer sn quota p q
         = (told_step reading n ue bearer sn quota p q before all.came all.told all.known its).0 in
-        let is_owed : owed.Step reading n ue bearer sn quota p q
+        let is_assumed : assumed.Step reading n ue bearer sn quota p q
         = (path_step reading n ue bearer sn quota positive p q before after comes along on_path).0 in
         let is_later : later.Step reading n ue bearer sn quota p q
-        = (owed_step reading n ue bearer sn quota positive p q before after comes all.ties all.steady is_owed).0 in
-        let is_tied : tied.Step reading n ue bearer sn quota p q
-        = (fresh_step reading n ue bearer sn quota p q before after comes all.ties all.fresh is_later).0 in
-        (step_then reading n ue bearer sn quota p q sound all.ties is_tied).1
+        = (assumed_step reading n ue bearer sn quota positive p q before after comes all.refinements all.well_linked is_assumed).0 in
+        let is_refined : refined.Step reading n ue bearer sn quota p q
+        = (fresh_step reading n ue bearer sn quota p q before after comes all.refinements all.fresh is_later).0 in
+        (step_then reading n ue bearer sn quota p q sound all.refinements is_refined).1
 
     -- ---- what stands after the step reports only what was carried up before it
 
@@ -93,12 +94,12 @@ module _ (reading : Reading) (n : Numbering) (ue : UeId) (bearer : BearerId) (sn
       abbrev Left : Type 0
       Left = ReportsDownAreTrue ue bearer reached q.state
 
-      leaves : (step : whole.Step reading n ue bearer sn quota p q) → OwesStatuses reading n ue bearer sn quota p q step → Left
+      leaves : (step : whole.Step reading n ue bearer sn quota p q) → AssumesStatuses reading n ue bearer sn quota p q step → Left
       leaves (whole.a_cu_up a) statuses =
           cu_up_keeps reading n ue bearer sn quota a.event p.state q.state a.gnb a.number a.cause a.input a.outputs a.left a.beside a.acts before after
-          p.down p.up all.ties all.steady came
-          (all_owed reading n ue bearer sn quota p.state q.state a.gnb a.number a.cause a.input a.outputs a.left a.acts
-          (fair_sound p.state p.state before before).own a.beside p.down p.up all.told a.owes)
+          p.down p.up all.refinements all.well_linked came
+          (all_assumed reading n ue bearer sn quota p.state q.state a.gnb a.number a.cause a.input a.outputs a.left a.acts
+          (fair_sound p.state p.state before before).own a.beside p.down p.up all.told a.assumes)
           statuses a.acted told
       leaves (whole.a_du a) statuses =
           du_keeps reading a.event p.state q.state ue bearer reached a.gnb a.number a.cause a.input a.outputs a.left before a.acted a.acts told
@@ -106,7 +107,7 @@ module _ (reading : Reading) (n : Numbering) (ue : UeId) (bearer : BearerId) (sn
           du_keeps reading a.event p.state q.state ue bearer reached a.gnb a.number (by_air (up_key ue bearer) (Du a.gnb a.number) a.item) a.input a.outputs
           a.left before a.acted a.acts told
       leaves (whole.an_offer a) statuses = offer_keeps reading p.state q.state ue bearer reached a.who a.which a.packet a.path a.offers told
-      leaves (whole.a_message a) statuses = message_keeps reading p.state q.state ue bearer reached a.number a.letter a.outputs a.core before a.takes told
+      leaves (whole.a_message a) statuses = message_keeps reading p.state q.state ue bearer reached a.number a.control_message a.outputs a.core before a.takes told
       leaves (whole.the_terminal a) statuses =
           quiet_keeps reading ue bearer reached p.state q.state a.event a.cause (map (written_put (sn_of p.state)) a.outputs) (with_ue p.state.units ue a.left)
           a.acts.lines before a.acted (subst (λ (node : NodeId). PutsNoReport node) (sym a.acts.node) tt) a.acts.goes_on told
@@ -128,14 +129,14 @@ module _ (reading : Reading) (n : Numbering) (ue : UeId) (bearer : BearerId) (sn
           told_alike ue bearer reached p.state q.state (ap (λ (t : RunState). t.tunnels) a.after)
           (ap (λ (t : RunState). on_air t (down_key ue bearer)) a.after) told
 
-      pub one_step : (step : whole.Step reading n ue bearer sn quota p q) → OwesStatuses reading n ue bearer sn quota p q step
+      pub one_step : (step : whole.Step reading n ue bearer sn quota p q) → AssumesStatuses reading n ue bearer sn quota p q step
           → UpCameAbout q.up × Told q
       one_step step statuses =
           let os : AreOrders reading n ue bearer sn quota p q = their_orders step in
-          let more : reached ≤ q.up.reached = subst (λ (u : up_parts.Part). reached ≤ u.reached) (sym os.up) (all_grow p.up os.ups) in
+          let more : reached ≤ q.up.reached = subst (λ (u : up_models.Model). reached ≤ u.reached) (sym os.up) (all_grow p.up os.ups) in
           (more_came p.up q.up os.ups came os.up os.up_kept, told_later ue bearer reached q.up.reached q.state more (leaves step statuses))
 
-      -- ---- so of a report that the terminal takes nothing is owed
+      -- ---- so of a report that the terminal takes nothing is assumed
 
       acts_whole : (a : UeActs reading n ue bearer sn quota p q) → whole.UeActs reading n ue bearer sn quota p q
       acts_whole a = record {
@@ -150,14 +151,14 @@ module _ (reading : Reading) (n : Numbering) (ue : UeId) (bearer : BearerId) (sn
         to = a.to;
         acts = a.acts;
         acted = a.acted;
-        owed = heard_owed a.terminal (both p) bearer a.to a.input
-            (taken_owed reading a.event p.state ue bearer a.terminal (both p) a.cause a.input before a.acts.node a.acts.given a.acts.stands told) a.owed;
+        assumed = received_assumed a.terminal (both p) bearer a.to a.input
+            (taken_assumed reading a.event p.state ue bearer a.terminal (both p) a.cause a.input before a.acts.node a.acts.given a.acts.stands told) a.assumed;
         down = a.down;
         up = a.up;
       }
 
       pub as_whole : Step reading n ue bearer sn quota p q
-          → (step : whole.Step reading n ue bearer sn quota p q) × OwesStatuses reading n ue bearer sn quota p q step
+          → (step : whole.Step reading n ue bearer sn quota p q) × AssumesStatuses reading n ue bearer sn quota p q step
       as_whole (the_terminal a) = (whole.the_terminal (acts_whole a), tt)
       as_whole (all_else step statuses) = (step, statuses)
 
@@ -181,10 +182,10 @@ module _ (reading : Reading) (n : Numbering) (positive : NoneIsZero n) where
 
   whole_there : IsWhole reading n terminal its_bearer Len12 64 there
   whole_there = record {
-    ties = tied_there reading n;
+    refinements = refined_there reading n;
     fresh = starts_fresh n there.state there.up (first_run.first n) (starts reading n).0 refl;
-    steady = first_steady reading n terminal its_bearer Len12 64 positive (first_run.first n) (starts reading n).0 (starts reading n).1 there
-        (record { down = refl; up = refl }) (tied_there reading n) (first_old reading n positive);
+    well_linked = first_well_linked reading n terminal its_bearer Len12 64 positive (first_run.first n) (starts reading n).0 (starts reading n).1 there
+        (record { down = refl; up = refl }) (refined_there reading n) (first_old reading n positive);
     came = first_about Len12 64 there (first_run.first n) (starts reading n).0 (starts reading n).1 (record { down = refl; up = refl });
     leads = leads_there reading n;
     told = told_there reading n;

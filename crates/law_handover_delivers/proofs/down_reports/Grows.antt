@@ -1,11 +1,11 @@
--- No order of the part up takes back what was carried up.
+-- No order of the model up takes back what was carried up.
 use Rattle.std.proofs.Common.{◌≡◌, ℕ, ◌≤◌, Bool, true, false, nat_lt, List, [], ◌∷◌, Option, Some, None, refl, arith}
 use Rattle.pdcp_defs.specs.Receivers.{is_duplicate}
-use Rattle.unit_defs.specs.UpRecords.{SourceHop}
-use Rattle.bearer_defs.specs.uplink_defs.Parts.{uplink_tunnel, forwarding, Member, Part, with_rest}
-use Rattle.bearer_defs.specs.uplink_defs.Orders.{Order, carries, takes, ends_uplink, ends_hop, after, run, stored_at, new_at, late_at, taken_at, ended_if, ended_at, is_up_over, without_uplink}
+use Rattle.unit_defs.specs.CuUpRecords.{SourceHop}
+use Rattle.bearer_defs.specs.uplink_defs.Models.{uplink_tunnel, forwarding, Member, Model, with_rest}
+use Rattle.bearer_defs.specs.uplink_defs.Orders.{ModelStep, carries, takes, ends_uplink, ends_hop, after, run, stored_at, new_at, late_at, taken_at, ended_if, ended_at, is_up_over, without_uplink}
 
-module _ (s : Part) (x : ℕ) (m : Member) where
+module _ (s : Model) (x : ℕ) (m : Member) where
   ended_reached : (hop : Option SourceHop) → (ended_at s x m hop).reached ≡ s.reached
   ended_reached None = refl
   ended_reached (Some hop) = by (is_up_over m hop)
@@ -33,7 +33,7 @@ module _ (s : Part) (x : ℕ) (m : Member) where
 same_or_more : (a b : ℕ) → b ≡ a → a ≤ b
 same_or_more a b e = omega arith
 
-pub one_grows : (s : Part) (o : Order) → s.reached ≤ (after s o).reached
+pub one_grows : (s : Model) (o : ModelStep) → s.reached ≤ (after s o).reached
 unfolding after
 one_grows s (carries teid count packet rest) = omega arith
 one_grows s (takes x from count packet rest) = same_or_more s.reached (after s (takes x from count packet rest)).reached
@@ -47,7 +47,7 @@ one_grows s (ends_hop x rest) =
     (ended_reached s x (record m { bearer = record m.bearer { up_ended = true } }) m.bearer.hop)
 one_grows s o = omega arith
 
-pub all_grow : (s : Part) (os : List Order) → s.reached ≤ (run s os).reached
+pub all_grow : (s : Model) (os : List ModelStep) → s.reached ≤ (run s os).reached
 unfolding run
 all_grow s [] = omega arith
 all_grow s (o ∷ os) = let l = one_grows s o in let k = all_grow (after s o) os in omega arith

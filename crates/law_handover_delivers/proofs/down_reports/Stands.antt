@@ -16,9 +16,9 @@ use Rattle.intervals.proofs.Intervals.{all_append}
 use Rattle.unit_defs.specs.Ways.{Pdu, packet_pdu, report_pdu, Load, fresh, numbered, frame, uplink, status, end_marker, control, packet, radio, deliver, dropped, held, opened, closed, failed, no}
 use Rattle.run_defs.specs.Steps.{count_beside}
 use Rattle.run_defs.specs.States.{entity}
-use Rattle.proof_run_steps.specs.steps.Causes.{by_order, by_tick, by_octets, by_octets_on, by_attach, by_release, by_offer, by_item, by_air, by_ack, by_letter, Stands}
+use Rattle.proof_run_steps.specs.steps.Causes.{by_order, by_tick, by_octets, by_octets_on, by_attach, by_release, by_offer, by_item, by_air, by_ack, by_control_message, Stands}
 use Rattle.proof_run_steps.specs.tunnel_steps.Standing.{standing, is_end, with_item, after_put, after_puts, after_taking}
-use Rattle.proof_bearer_refinement.specs.radio_ties.Radio.{RunState, RunCause}
+use Rattle.proof_bearer_refinement.specs.uplink_radio.Radio.{RunState, RunCause}
 use Rattle.law_handover_delivers.specs.down_reports.Reports.{PduIsTrue, PayloadIsTrue, LoadIsTrue, RunItem, ItemIsTrue, StandingIsTrue, RunPut, PutIsTrue, PutsAreTrue}
 
 -- ---- where more was carried up
@@ -77,7 +77,7 @@ module _ (ue : UeId) (bearer : BearerId) where
     taken_told event s (by_offer who q sdu) stands told end = told end
     taken_told event s (by_air from home item) stands told end = told end
     taken_told event s (by_ack from home item rest) stands told end = told end
-    taken_told event s (by_letter number l to) stands told end = told end
+    taken_told event s (by_control_message number l to) stands told end = told end
 
     pub lost_told : (s t : RunState) (from : TunnelEnd) (item : RunItem) (rest : List RunItem) → standing s from ≡ Some (item ∷ rest)
         → t.tunnels ≡ put tunnel_cmp s.tunnels from rest → ((end : TunnelEnd) → AreTrue (standing s end)) → (end : TunnelEnd) → AreTrue (standing t end)

@@ -1,9 +1,9 @@
 -- Steps of a run are steps between fair states.
 use Rattle.run_defs.specs.Runs.{Reading}
 use Rattle.proof_run_steps.specs.teids.Given.{GiveOnce}
-use Rattle.proof_bearer_refinement.specs.tied_runs.Steps.{Point}
-use Rattle.proof_bearer_refinement.specs.tied_runs.Fair.{IsFair}
-use Rattle.proof_bearer_refinement.proofs.tied_runs.Fair.{passed_is_fair, comes_gives}
+use Rattle.proof_bearer_refinement.specs.runs.Steps.{Point}
+use Rattle.proof_bearer_refinement.specs.runs.Fair.{IsFair}
+use Rattle.proof_bearer_refinement.proofs.runs.Fair.{passed_is_fair, comes_gives}
 use Rattle.law_handover_delivers.specs.guarded_runs.Passed.{PassedSteps, not_yet, further}
 
 module _ (reading : Reading) (Step Steps : Point → Point → Type 0) (none : (p : Point) → Steps p p)

@@ -24,12 +24,12 @@ use Rattle.run_defs.specs.Written.{Written}
 use Rattle.run_defs.specs.States.{new_state, goes, entity, radio_of, ◌next◌}
 use Rattle.run_defs.specs.Steps.{carried_out, check_spans, put_out_all, count_beside, same_epoch, epoch_now}
 use Rattle.run_defs.specs.Runs.{Reading, plain_world}
-use Rattle.proof_run_steps.specs.steps.Causes.{by_order, by_tick, by_octets, by_octets_on, by_attach, by_release, by_offer, by_item, by_air, by_ack, by_letter, Stands, node_of, count_of, first_of}
+use Rattle.proof_run_steps.specs.steps.Causes.{by_order, by_tick, by_octets, by_octets_on, by_attach, by_release, by_offer, by_item, by_air, by_ack, by_control_message, Stands, node_of, count_of, first_of}
 use Rattle.proof_run_steps.specs.tunnel_steps.Standing.{standing, after_taking as tunnel_taking}
 use Rattle.proof_run_steps.proofs.tunnel_steps.Tracks.{acts_so as tunnel_acts, puts_so as tunnel_puts_so}
 use Rattle.proof_run_steps.specs.radio_steps.Radios.{OnAir, on_air, lost_in, after_taking, with_item, after_put, after_puts, moved_to, followed}
 use Rattle.proof_run_steps.proofs.radio_steps.Tracks.{acts_so, puts_so}
-use Rattle.proof_bearer_refinement.specs.radio_ties.Radio.{RunState, RunCause, OnRadio, up_key}
+use Rattle.proof_bearer_refinement.specs.uplink_radio.Radio.{RunState, RunCause, OnRadio, up_key}
 use Rattle.law_handover_delivers.specs.report_links.Reports.{PduIsTrue, RadioIsTrue, ReportsAreTrue, StandingIsTrue, RunItem, RunPut, PutIsTrue, PutsAreTrue}
 use Rattle.law_handover_delivers.proofs.report_links.Stands.{pdu_later, standing_later, taken_told, puts_told, lost_told}
 
@@ -62,9 +62,9 @@ module _ (ue : UeId) (bearer : BearerId) (deliv : ℕ) where
     where
       by : (t : Bool) → eq_by_cmp entity_cmp key from ≡ t
           → RadioIsTrue deliv (if t then record (on_air s key) { radio = record { items = rest; carried = (on_air s key).radio.carried - 1 } } else on_air s key)
-      by false tie = told
-      by true tie =
-          let same : key ≡ from = entity_exact key from ((Equal-is (entity_cmp key from)).0 tie) in
+      by false refinement = told
+      by true refinement =
+          let same : key ≡ from = entity_exact key from ((Equal-is (entity_cmp key from)).0 refinement) in
           (subst (λ (xs : List OnRadio). AllByRecursion (λ (i : OnRadio). PduIsTrue deliv i.content.says) xs)
           (ap (λ (k : EntityKey). (radio_of s k).items) same ∙ stands.1) told).1
   taken_air event s (by_release gnb who) stands told =
@@ -76,7 +76,7 @@ module _ (ue : UeId) (bearer : BearerId) (deliv : ℕ) where
   taken_air event s (by_attach plan) stands told = told
   taken_air event s (by_offer who q sdu) stands told = told
   taken_air event s (by_item end item rest) stands told = told
-  taken_air event s (by_letter number l to) stands told = told
+  taken_air event s (by_control_message number l to) stands told = told
 
   -- ---- the radio follows its terminal
 
@@ -101,9 +101,9 @@ module _ (ue : UeId) (bearer : BearerId) (deliv : ℕ) where
       item = record { key = entity who q dir; count = count_beside tag taken; content = pdu }
 
       by : (t : Bool) → eq_by_cmp entity_cmp key (entity who q dir) ≡ t → (e : Bool) → RadioIsTrue deliv (if t && e then with_item item a else a)
-      by false tie e = told
-      by true tie false = told
-      by true tie true = all_append (λ (i : OnRadio). PduIsTrue deliv i.content.says) a.radio.items (item ∷ []) told (tells tie, tt)
+      by false refinement e = told
+      by true refinement false = told
+      by true refinement true = all_append (λ (i : OnRadio). PduIsTrue deliv i.content.says) a.radio.items (item ∷ []) told (tells refinement, tt)
   put_air taken (control to who m) tells a told = told
   put_air taken (packet to teid who q dir tag load) tells a told = told
   put_air taken (deliver who q dir count p) tells a told = told

@@ -13,34 +13,34 @@ use Rattle.tables.specs.Tables.{find, put}
 use Rattle.tables.proofs.TableLaws.{find-put}
 use Rattle.scenario_text.specs.declared.event.Event.{Event}
 use Rattle.intervals.proofs.Intervals.{all_append}
-use Rattle.bearer_defs.specs.chain_defs.Parts.{Part}
-use Rattle.unit_defs.specs.UpRecords.{TunnelKind, n3, f1u_uplink, forwarding_down, forwarding_up}
+use Rattle.bearer_defs.specs.chain_defs.Models.{Model}
+use Rattle.unit_defs.specs.CuUpRecords.{TunnelKind, n3, f1u_uplink, forwarding_down, forwarding_up}
 use Rattle.unit_defs.specs.Ways.{Pdu, packet_pdu, report_pdu, Load, fresh, numbered, frame, uplink, status, end_marker, control, packet, radio, deliver, dropped, held, opened, closed, failed, no}
 use Rattle.run_defs.specs.Steps.{count_beside}
 use Rattle.run_defs.specs.States.{entity}
 use Rattle.run_defs.specs.Runs.{taken_of}
-use Rattle.bearer_defs.specs.chain_defs.Guards as guards
-use Rattle.proof_cu_up_orders.specs.kept.Down.{ItemOwes}
-use Rattle.proof_run_steps.specs.steps.Causes.{by_order, by_tick, by_octets, by_octets_on, by_attach, by_release, by_offer, by_item, by_air, by_ack, by_letter, Stands}
+use Rattle.bearer_defs.specs.chain_defs.Assumptions as guards
+use Rattle.proof_cu_up_orders.specs.kept.Down.{ItemAssumes}
+use Rattle.proof_run_steps.specs.steps.Causes.{by_order, by_tick, by_octets, by_octets_on, by_attach, by_release, by_offer, by_item, by_air, by_ack, by_control_message, Stands}
 use Rattle.proof_run_steps.specs.tunnel_steps.Standing.{standing, is_end, with_item, after_put, after_puts, after_taking}
-use Rattle.proof_bearer_refinement.specs.radio_ties.Radio.{RunState, RunCause}
+use Rattle.proof_bearer_refinement.specs.uplink_radio.Radio.{RunState, RunCause}
 use Rattle.law_handover_delivers.specs.report_links.Reports.{PduIsTrue, CountIsTrue, LoadIsTrue, RunItem, ItemIsTrue, StandingIsTrue, RunPut, PutIsTrue, PutsAreTrue}
 
--- ---- what is owed of an item that is taken
+-- ---- what is assumed of an item that is taken
 
-pub is_owed : (d : Part) (x : ℕ) (kind : TunnelKind) (load : Load Pdu) → LoadIsTrue d.terminal.deliv load → ItemOwes d x kind (taken_of load)
-unfolding guards.IsOwed
-is_owed d x f1u_uplink (uplink (report_pdu fmc bits)) told = told
-is_owed d x f1u_uplink (uplink (packet_pdu count sdu)) told = tt
-is_owed d x f1u_uplink (status lost (Some count)) told = told
-is_owed d x f1u_uplink (status lost None) told = tt
-is_owed d x f1u_uplink (fresh p) told = tt
-is_owed d x f1u_uplink (numbered sn count p) told = tt
-is_owed d x f1u_uplink (frame poll restart number pdu) told = tt
-is_owed d x f1u_uplink end_marker told = tt
-is_owed d x n3 load told = tt
-is_owed d x forwarding_down load told = tt
-is_owed d x forwarding_up load told = tt
+pub is_assumed : (d : Model) (x : ℕ) (kind : TunnelKind) (load : Load Pdu) → LoadIsTrue d.terminal.deliv load → ItemAssumes d x kind (taken_of load)
+unfolding guards.IsAssumed
+is_assumed d x f1u_uplink (uplink (report_pdu fmc bits)) told = told
+is_assumed d x f1u_uplink (uplink (packet_pdu count sdu)) told = tt
+is_assumed d x f1u_uplink (status lost (Some count)) told = told
+is_assumed d x f1u_uplink (status lost None) told = tt
+is_assumed d x f1u_uplink (fresh p) told = tt
+is_assumed d x f1u_uplink (numbered sn count p) told = tt
+is_assumed d x f1u_uplink (frame poll restart number pdu) told = tt
+is_assumed d x f1u_uplink end_marker told = tt
+is_assumed d x n3 load told = tt
+is_assumed d x forwarding_down load told = tt
+is_assumed d x forwarding_up load told = tt
 
 -- ---- where more was received
 
@@ -97,7 +97,7 @@ module _ (ue : UeId) (bearer : BearerId) where
     taken_told event s (by_offer who q sdu) stands told end = told end
     taken_told event s (by_air from home item) stands told end = told end
     taken_told event s (by_ack from home item rest) stands told end = told end
-    taken_told event s (by_letter number l to) stands told end = told end
+    taken_told event s (by_control_message number l to) stands told end = told end
 
     pub lost_told : (s t : RunState) (from : TunnelEnd) (item : RunItem) (rest : List RunItem) → standing s from ≡ Some (item ∷ rest)
         → t.tunnels ≡ put tunnel_cmp s.tunnels from rest → ((end : TunnelEnd) → AreTrue (standing s end)) → (end : TunnelEnd) → AreTrue (standing t end)

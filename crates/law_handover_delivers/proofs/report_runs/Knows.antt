@@ -15,7 +15,7 @@ use Rattle.message_types.specs.declared.rrc.Token.{Token}
 use Rattle.unit_defs.specs.Ways.{Message, Pdu, fresh, Output, packet}
 use Rattle.unit_defs.specs.Messages.{teid_of}
 use Rattle.unit_defs.specs.Core.{CorePath, CoreRecord}
-use Rattle.transport_defs.specs.declared.Letter.{Letter}
+use Rattle.transport_defs.specs.declared.ControlMessage.{ControlMessage}
 use Rattle.transport_defs.specs.Links.{landed}
 use Rattle.run_defs.specs.Lines.{got_message}
 use Rattle.run_defs.specs.Written.{written_put}
@@ -24,14 +24,14 @@ use Rattle.run_defs.specs.Steps.{check_spans, put_on_tunnel, put_out_all}
 use Rattle.run_defs.specs.Conditions.{receiver_of}
 use Rattle.run_defs.specs.Events.{offered}
 use Rattle.run_defs.specs.Runs.{Reading, plain_world}
-use Rattle.proof_run_steps.specs.steps.Causes.{by_order, by_tick, by_octets, by_octets_on, by_attach, by_release, by_offer, by_item, by_air, by_ack, by_letter, node_of}
-use Rattle.proof_bearer_refinement.proofs.put_ties.Stands.{Ends, after_told, and_no_more}
-use Rattle.proof_bearer_refinement.specs.core_ties.Core.{IsCoreStep, IsOffer}
-use Rattle.proof_bearer_refinement.specs.radio_ties.Radio.{RunState, RunCause, IsOther}
-use Rattle.proof_bearer_refinement.specs.radio_downs.Down.{down_key}
+use Rattle.proof_run_steps.specs.steps.Causes.{by_order, by_tick, by_octets, by_octets_on, by_attach, by_release, by_offer, by_item, by_air, by_ack, by_control_message, node_of}
+use Rattle.proof_bearer_refinement.proofs.du_puts.Stands.{Ends, after_told, and_no_more}
+use Rattle.proof_bearer_refinement.specs.core_step.Core.{IsCoreStep, IsOffer}
+use Rattle.proof_bearer_refinement.specs.uplink_radio.Radio.{RunState, RunCause, IsOther}
+use Rattle.proof_bearer_refinement.specs.downlink_radio.Down.{down_key}
 use Rattle.law_handover_delivers.specs.report_links.Reports.{RunPut}
-use Rattle.proof_bearer_refinement.specs.known_airs.Known.{AreKnown, Hears}
-use Rattle.proof_bearer_refinement.proofs.known_airs.Steps.{known_put}
+use Rattle.proof_bearer_refinement.specs.carried_was_received.Known.{AreKnown, Receives}
+use Rattle.proof_bearer_refinement.proofs.carried_was_received.Steps.{known_put}
 
 module _ (ue : UeId) (bearer : BearerId) (deliv : ℕ) where
   abbrev key : EntityKey
@@ -39,9 +39,9 @@ module _ (ue : UeId) (bearer : BearerId) (deliv : ℕ) where
 
   -- ---- others take nothing of this radio
 
-  pub unheard : (cause : RunCause) (node : NodeId) → node_of cause ≡ node → IsOther ue node → Hears key deliv cause
-  unheard (by_air from home item) node is other = λ tie.
-      let same : key ≡ from = entity_exact key from ((Equal-is (entity_cmp key from)).0 tie) in
+  pub unheard : (cause : RunCause) (node : NodeId) → node_of cause ≡ node → IsOther ue node → Receives key deliv cause
+  unheard (by_air from home item) node is other = λ refinement.
+      let same : key ≡ from = entity_exact key from ((Equal-is (entity_cmp key from)).0 refinement) in
       let there : Ue ue.0 ≡ node = ap (λ (k : EntityKey). receiver_of k home) same ∙ is in
       let apart : eq_by_cmp ue_cmp ue (record { 0 = ue.0 }) ≡ false = subst (IsOther ue) (sym there) other in
       let never : true ≡ false = sym (ap is_eq (tied_itself ue_total ue)) ∙ apart in absurd cc
@@ -54,12 +54,12 @@ module _ (ue : UeId) (bearer : BearerId) (deliv : ℕ) where
   unheard (by_offer who q sdu) node is other = tt
   unheard (by_item end item rest) node is other = tt
   unheard (by_ack from home item rest) node is other = tt
-  unheard (by_letter number l to) node is other = tt
+  unheard (by_control_message number l to) node is other = tt
 
   -- ---- the core puts
 
   module _ (reading : Reading) (s t : RunState) where
-    pub message_knows : (number : ℕ) (l : Letter (Message Token)) (outputs : List (Output (Message Token) Pdu)) (core : CoreRecord (Message Token) Token)
+    pub message_knows : (number : ℕ) (l : ControlMessage (Message Token)) (outputs : List (Output (Message Token) Pdu)) (core : CoreRecord (Message Token) Token)
         → IsCoreStep reading s t number l outputs core → AreKnown (radio_of s key) deliv → AreKnown (radio_of t key) deliv
     message_knows number l outputs core step h =
         let puts : List RunPut = map (written_put (sn_of s)) outputs in

@@ -15,7 +15,7 @@ use Rattle.tables.specs.Tables.{find, at}
 use Rattle.tables.proofs.TableLaws.{find-put}
 use Rattle.message_types.specs.declared.rrc.Token.{Token}
 use Rattle.unit_defs.specs.Ways.{Message, Pdu, Load, control, packet, radio, deliver, dropped, held, opened, closed, failed, no}
-use Rattle.run_defs.specs.Units.{up_of, du_of}
+use Rattle.run_defs.specs.Units.{cu_up_of, du_of}
 use Rattle.run_defs.specs.Written.{Written}
 use Rattle.run_defs.specs.States.{CoreStepped, core_stepped}
 use Rattle.run_defs.specs.Steps.{with_tunnel}
@@ -25,11 +25,11 @@ use Rattle.proof_run_steps.specs.steps.Causes.{count_of}
 use Rattle.proof_run_steps.specs.facts.Facts.{PutsFit}
 use Rattle.proof_run_steps.specs.facts.UnitFacts.{written_facts}
 use Rattle.law_tunnels_are_owned.proofs.link_items.Names.{link_items}
-use Rattle.proof_bearer_refinement.specs.radio_ties.Radio.{RunState, up_key, IsOff}
-use Rattle.proof_bearer_refinement.specs.tied_runs.Fair.{IsFair}
+use Rattle.proof_bearer_refinement.specs.uplink_radio.Radio.{RunState, up_key, IsOff}
+use Rattle.proof_bearer_refinement.specs.runs.Fair.{IsFair}
 use Rattle.law_handover_delivers.specs.report_links.Reports.{StandingIsTrue, ReportsAreTrue, RunItem, RunPut, PutsAreTrue}
 use Rattle.law_handover_delivers.proofs.report_links.Airs.{told_then, told_put}
-use Rattle.proof_bearer_refinement.proofs.tied_runs.Fair.{puts_fit}
+use Rattle.proof_bearer_refinement.proofs.runs.Fair.{puts_fit}
 use Rattle.law_handover_delivers.specs.report_runs.Steps.{OtherActs, CoreReads}
 
 module _ (ue : UeId) (bearer : BearerId) (deliv : ℕ) where
@@ -63,8 +63,8 @@ module _ (ue : UeId) (bearer : BearerId) (deliv : ℕ) where
   set_up_told plan s told = record {
     tunnels =
         from_told (du_id plan.gnb plan.du) (du_of s.units plan.gnb plan.du).next_teid plan.bearers
-        (tunnels_from (up_id plan.gnb plan.up) (up_of s.units plan.gnb plan.up).next_teid (2 * plan.bearers) s.tunnels)
-        (from_told (up_id plan.gnb plan.up) (up_of s.units plan.gnb plan.up).next_teid (2 * plan.bearers) s.tunnels told.tunnels);
+        (tunnels_from (up_id plan.gnb plan.up) (cu_up_of s.units plan.gnb plan.up).next_teid (2 * plan.bearers) s.tunnels)
+        (from_told (up_id plan.gnb plan.up) (cu_up_of s.units plan.gnb plan.up).next_teid (2 * plan.bearers) s.tunnels told.tunnels);
     radio = told.radio;
   }
 
@@ -86,7 +86,7 @@ module _ (ue : UeId) (bearer : BearerId) (deliv : ℕ) where
       → AllByRecursion (IsOff (up_key ue bearer)) outputs → PutsAreTrue ue bearer deliv outputs
   others_tell number taken [] fit off = tt
   others_tell number taken (radio who q dir epoch tag pdu ∷ outputs) fit off =
-      ((λ tie. let never : true ≡ false = sym tie ∙ off.0 in absurd cc), others_tell number taken outputs fit.1 off.1)
+      ((λ refinement. let never : true ≡ false = sym refinement ∙ off.0 in absurd cc), others_tell number taken outputs fit.1 off.1)
   others_tell number taken (packet to teid who q dir tag load ∷ outputs) fit off = absurd fit.0.0.1
   others_tell number taken (control to u m ∷ outputs) fit off = (tt, others_tell number taken outputs fit.1 off.1)
   others_tell number taken (deliver u b dir count x ∷ outputs) fit off = (tt, others_tell number taken outputs fit.1 off.1)

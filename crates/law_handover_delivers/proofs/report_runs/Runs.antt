@@ -1,4 +1,4 @@
--- Steps of a run, one after another, keep reports true, and so are steps of `path_ties`.
+-- Steps of a run, one after another, keep reports true, and so are steps of `core_path`.
 use Rattle.std.proofs.Common.{◌≡◌, ◌==◌, ◌≤◌, ℕ, Bool, true, false, List, [], ◌∷◌, map, None, refl, sym, ap, subst, arith}
 use Rattle.std.specs.Prelude.{if◌then◌else◌}
 use Rattle.gnb_types.specs.declared.names.NodeId.{NodeId}
@@ -10,69 +10,69 @@ use Rattle.gnb_types.specs.declared.names.SnBits.TheVariants.{Len12}
 use Rattle.gnb_types.specs.declared.names.UeId.{UeId}
 use Rattle.gnb_types.specs.declared.names.BearerId.{BearerId}
 use Rattle.unit_defs.specs.Ways.{Pdu}
-use Rattle.unit_defs.specs.UpRecords.{Downlink}
+use Rattle.unit_defs.specs.CuUpRecords.{DownlinkTunnel}
 use Rattle.tables.specs.Tables.{at, find}
-use Rattle.run_defs.specs.Units.{with_up, with_du, with_ue}
+use Rattle.run_defs.specs.Units.{with_cu_up, with_du, with_ue}
 use Rattle.run_defs.specs.Written.{written_put}
 use Rattle.run_defs.specs.States.{new_state, radio_of, sn_of}
 use Rattle.run_defs.specs.Runs.{Reading, plain_way}
 use Rattle.proof_run_steps.specs.steps.Causes.{node_of}
-use Rattle.bearer_defs.specs.chain_defs.Parts as down_parts
+use Rattle.bearer_defs.specs.chain_defs.Models as down_models
 use Rattle.bearer_defs.specs.chain_defs.Orders as down
-use Rattle.bearer_defs.specs.chain_defs.Guards as down_guards
+use Rattle.bearer_defs.specs.chain_defs.Assumptions as down_assumptions
 use Rattle.proof_cu_up_orders.specs.bearer_orders.Happenings.{Happening, Contexts, context_after}
 use Rattle.proof_cu_up_orders.specs.bearer_orders.Down as downs
 use Rattle.proof_bearer_refinement.specs.run_bearers.Things.{PlainUnits}
 use Rattle.proof_bearer_refinement.specs.run_bearers.Bearers.{Numbering, contexts_of}
-use Rattle.proof_bearer_refinement.specs.tie_facts.Ties.{RunState}
-use Rattle.proof_bearer_refinement.specs.tie_facts.Asked.{down_after}
-use Rattle.proof_bearer_refinement.specs.put_ties.Worked.{terminal, bearer as its_bearer, plan}
-use Rattle.proof_bearer_refinement.specs.tied_runs.Steps.{Point, IsTied}
-use Rattle.proof_bearer_refinement.proofs.tied_runs.Fair.{fair_sound}
-use Rattle.proof_bearer_refinement.specs.first_ties.First as first_run
-use Rattle.proof_bearer_refinement.proofs.first_ties.Start.{starts, tied as tied_there}
-use Rattle.law_handover_delivers.specs.first_runs.First.{AreFirst, DeliverInOrder}
-use Rattle.law_handover_delivers.proofs.first_runs.Runs.{begins}
-use Rattle.law_handover_delivers.proofs.fresh_uplinks.Runs.{starts_fresh}
-use Rattle.law_handover_delivers.specs.owed_orders.Steady.{IsOld}
-use Rattle.law_handover_delivers.specs.owed_orders.Owed.{final_asks}
-use Rattle.law_handover_delivers.specs.owed_runs.Owing.{NoneIsZero}
-use Rattle.law_handover_delivers.proofs.owed_runs.Runs.{first_steady, first_old}
-use Rattle.law_handover_delivers.specs.path_ties.Paths as path
-use Rattle.law_handover_delivers.specs.path_ties.Paths.{CameAbout, LeadsAt}
-use Rattle.law_handover_delivers.proofs.path_ties.Runs.{IsAlong, one_step as path_step, leads_there, delivers as path_delivers}
-use Rattle.proof_bearer_refinement.specs.beside_downs.Nodes.{HasNoRadio}
-use Rattle.proof_bearer_refinement.specs.radio_downs.Down.{down_key}
-use Rattle.proof_bearer_refinement.specs.radio_downs.Heard.{IsKept}
-use Rattle.proof_bearer_refinement.specs.known_airs.Known.{AreKnown, Hears}
-use Rattle.proof_bearer_refinement.specs.tied_runs.Fair.{IsFair}
-use Rattle.proof_bearer_refinement.proofs.known_airs.Hears.{taken_known}
-use Rattle.proof_bearer_refinement.proofs.known_airs.Steps.{known_later, silent_known, known_then, known_put}
+use Rattle.proof_bearer_refinement.specs.refinement_facts.Refinements.{RunState}
+use Rattle.proof_bearer_refinement.specs.refinement_facts.Asked.{down_after}
+use Rattle.proof_bearer_refinement.specs.du_puts.Worked.{terminal, bearer as its_bearer, plan}
+use Rattle.proof_bearer_refinement.specs.runs.Steps.{Point, IsRefined}
+use Rattle.proof_bearer_refinement.proofs.runs.Fair.{fair_sound}
+use Rattle.proof_bearer_refinement.specs.initial.First as first_run
+use Rattle.proof_bearer_refinement.proofs.initial.Start.{starts, refined as refined_there}
+use Rattle.law_handover_delivers.specs.initial_runs.First.{AreInitial, DeliverInOrder}
+use Rattle.law_handover_delivers.proofs.initial_runs.Runs.{begins}
+use Rattle.law_handover_delivers.proofs.unused_uplinks.Runs.{starts_fresh}
+use Rattle.law_handover_delivers.specs.assumptions.WellLinked.{IsOld}
+use Rattle.law_handover_delivers.specs.assumptions.Assumed.{final_asks}
+use Rattle.law_handover_delivers.specs.assumed_runs.Assuming.{NoneIsZero}
+use Rattle.law_handover_delivers.proofs.assumed_runs.Runs.{first_well_linked, first_old}
+use Rattle.law_handover_delivers.specs.core_path.Paths as path
+use Rattle.law_handover_delivers.specs.core_path.Paths.{CameAbout, LeadsAt}
+use Rattle.law_handover_delivers.proofs.core_path.Runs.{IsAlong, one_step as path_step, leads_there, delivers as path_delivers}
+use Rattle.proof_bearer_refinement.specs.frame_downlink_radio.Nodes.{HasNoRadio}
+use Rattle.proof_bearer_refinement.specs.downlink_radio.Down.{down_key}
+use Rattle.proof_bearer_refinement.specs.downlink_radio.Received.{IsKept}
+use Rattle.proof_bearer_refinement.specs.carried_was_received.Known.{AreKnown, Receives}
+use Rattle.proof_bearer_refinement.specs.runs.Fair.{IsFair}
+use Rattle.proof_bearer_refinement.proofs.carried_was_received.Receives.{taken_known}
+use Rattle.proof_bearer_refinement.proofs.carried_was_received.Steps.{known_later, silent_known, known_then, known_put}
 use Rattle.law_handover_delivers.specs.report_links.Reports.{ReportsAreTrue}
 use Rattle.law_handover_delivers.proofs.report_links.Airs.{told_first_lost, told_alike, told_later, told_at_first}
 use Rattle.law_handover_delivers.proofs.report_terminals.Steps.{all_grow, terminal_keeps}
-use Rattle.law_handover_delivers.proofs.report_ties.Quiet.{quiet_keeps}
-use Rattle.law_handover_delivers.proofs.report_ties.Dus.{du_keeps}
-use Rattle.law_handover_delivers.proofs.report_ties.Cores.{message_keeps, offer_keeps}
-use Rattle.law_handover_delivers.proofs.report_orders.Owed.{all_owed}
+use Rattle.law_handover_delivers.proofs.reports_elsewhere.Quiet.{quiet_keeps}
+use Rattle.law_handover_delivers.proofs.reports_elsewhere.Dus.{du_keeps}
+use Rattle.law_handover_delivers.proofs.reports_elsewhere.Cores.{message_keeps, offer_keeps}
+use Rattle.law_handover_delivers.proofs.reports_at_cu_up.Assumed.{all_assumed}
 use Rattle.law_handover_delivers.specs.report_runs.Steps.{ReportsAreTrueAt, IsKnownAt, TerminalActs, Makes, the_terminal, a_cu_cp, another_terminal, a_set_up, the_core_reads, a_loss, nothing_else, Step, a_cu_up, a_du, an_offer, a_message, all_else, Steps, not_yet, further}
 use Rattle.law_handover_delivers.proofs.report_runs.Rest.{set_up_told, octets_told, other_told}
 use Rattle.law_handover_delivers.proofs.report_runs.Knows.{unheard, message_knows, offer_knows}
 
--- ---- the first parts came about, with the switch by which the first context has its downlink
+-- ---- the initial models came about, with the switch by which the first context has its downlink
 
 number_same : (a : ℕ) → (a == a) ≡ true
 number_same a = grind arith
 
-pub first_about : (sn : SnBits) (quota : ℕ) (p : Point) (first teid : ℕ) (d : Downlink) → AreFirst first teid d p → CameAbout sn quota p.down
-unfolding down_guards.AreKept down_guards.IsReady down_guards.IsOwed down_parts.start
+pub first_about : (sn : SnBits) (quota : ℕ) (p : Point) (first teid : ℕ) (d : DownlinkTunnel) → AreInitial first teid d p → CameAbout sn quota p.down
+unfolding down_assumptions.AreKept down_assumptions.IsReady down_assumptions.IsAssumed down_models.initial
 first_about sn quota p first teid d are = record {
   first = first;
   teid = teid;
   orders = down.switches first d 0 ∷ [];
   is = are.down;
   kept = (
-    ap (λ (t : Bool). (if t then down_parts.new_member false teid else down_parts.no_member).is_there) (number_same first),
+    ap (λ (t : Bool). (if t then down_models.new_member false teid else down_models.no_member).is_there) (number_same first),
     (refl, omega arith),
     tt,
   );
@@ -87,11 +87,11 @@ through : (a b c : ℕ) → a ≤ b → b ≤ c → a ≤ c
 through a b c low high = omega (arith, low, high)
 
 module _ (n : Numbering) (ue : UeId) (bearer : BearerId) (units : PlainUnits) (sn : SnBits) (quota : ℕ) where
-  after_grows : (d : down_parts.Part) (cs : Contexts) (hs : List (Happening Pdu))
+  after_grows : (d : down_models.Model) (cs : Contexts) (hs : List (Happening Pdu))
       → d.terminal.deliv ≤ (down_after n ue bearer units sn quota d cs hs).terminal.deliv
   after_grows d cs [] = at_most d.terminal.deliv
   after_grows d cs (h ∷ hs) =
-      let one : down_parts.Part = down.run d (downs.orders_by cs h) in
+      let one : down_models.Model = down.run d (downs.orders_by cs h) in
       let after : Contexts = context_after plain_way ue bearer cs h in
       through d.terminal.deliv one.terminal.deliv (down_after n ue bearer units sn quota one after hs).terminal.deliv
       (all_grow d (downs.orders_by cs h)) (after_grows one after hs)
@@ -113,7 +113,7 @@ module _ (reading : Reading) (n : Numbering) (ue : UeId) (bearer : BearerId) (sn
     abbrev Left : Type 0
     Left = ReportsAreTrue ue bearer deliv q.state
 
-    abbrev Grows : down_parts.Part → Type 0
+    abbrev Grows : down_models.Model → Type 0
     Grows d = deliv ≤ d.terminal.deliv
 
     kept : IsKept sn quota p.down
@@ -129,8 +129,8 @@ module _ (reading : Reading) (n : Numbering) (ue : UeId) (bearer : BearerId) (sn
       left = a.left;
       beside = a.beside;
       acts = a.acts;
-      owes = all_owed reading n ue bearer sn quota p.state q.state a.gnb a.number a.cause a.input a.outputs a.left a.acts
-          (fair_sound p.state p.state fair fair).own a.beside p.down p.up told a.owes;
+      assumes = all_assumed reading n ue bearer sn quota p.state q.state a.gnb a.number a.cause a.input a.outputs a.left a.acts
+          (fair_sound p.state p.state fair fair).own a.beside p.down p.up told a.assumes;
       down = a.down;
       up = a.up;
     })
@@ -150,7 +150,7 @@ module _ (reading : Reading) (n : Numbering) (ue : UeId) (bearer : BearerId) (sn
 
     made : Makes reading n ue bearer sn quota p q → Left
     made (the_terminal a) =
-        terminal_keeps reading a.event p.state q.state ue bearer (record { up = p.up; down = p.down }) a.tie sn quota kept a.left a.cause a.input a.outputs
+        terminal_keeps reading a.event p.state q.state ue bearer (record { up = p.up; down = p.down }) a.refinement sn quota kept a.left a.cause a.input a.outputs
         a.acts told
     made (a_cu_cp a) =
         quiet_keeps reading ue bearer deliv p.state q.state a.event a.cause a.outputs a.units a.lines fair a.acted
@@ -164,13 +164,13 @@ module _ (reading : Reading) (n : Numbering) (ue : UeId) (bearer : BearerId) (sn
     leaves : Step reading n ue bearer sn quota p q → Left
     leaves (a_cu_up a) =
         quiet_keeps reading ue bearer deliv p.state q.state a.event a.cause (map (written_put (sn_of p.state)) a.outputs)
-        (with_up p.state.units a.gnb a.number a.left) a.acts.lines fair a.acted
+        (with_cu_up p.state.units a.gnb a.number a.left) a.acts.lines fair a.acted
         (subst (λ (node : NodeId). HasNoRadio node) (sym a.acts.node) tt) a.acts.goes_on told
     leaves (a_du a) =
         du_keeps reading a.event p.state q.state ue bearer deliv a.gnb a.number a.cause a.input a.outputs a.left fair
         a.acted a.acts known told
     leaves (an_offer a) = offer_keeps reading p.state q.state ue bearer deliv a.who a.which a.packet a.path a.offers told
-    leaves (a_message a) = message_keeps reading p.state q.state ue bearer deliv a.number a.letter a.outputs a.core fair a.takes told
+    leaves (a_message a) = message_keeps reading p.state q.state ue bearer deliv a.number a.control_message a.outputs a.core fair a.takes told
     leaves (all_else a) = made a.makes
 
     -- ---- what was carried down and isn't confirmed was received, now that so much was received
@@ -185,17 +185,17 @@ module _ (reading : Reading) (n : Numbering) (ue : UeId) (bearer : BearerId) (sn
       before : AreKnown (radio_of p.state key) later
       before = known_later (radio_of p.state key) deliv later more known
 
-      hears : (a : TerminalActs reading n ue bearer sn quota p q) → Hears key later a.cause
-      hears a =
-          subst (λ (d : down_parts.Part). Hears key d.terminal.deliv a.cause) (sym a.down)
-          (taken_known a.tie.terminal (record { up = p.up; down = p.down }) bearer a.to sn quota kept a.some reading a.event p.state
+      receives : (a : TerminalActs reading n ue bearer sn quota p q) → Receives key later a.cause
+      receives a =
+          subst (λ (d : down_models.Model). Receives key d.terminal.deliv a.cause) (sym a.down)
+          (taken_known a.refinement.terminal (record { up = p.up; down = p.down }) bearer a.to sn quota kept a.some reading a.event p.state
           fair.sound.radios ue a.input a.cause a.acts.given
-          a.acts.stands a.owed)
+          a.acts.stands a.assumed)
 
       made_knows : Makes reading n ue bearer sn quota p q → Known q
       made_knows (the_terminal a) =
           known_then later key reading a.event p.state q.state a.cause (map (written_put (sn_of p.state)) a.outputs) (with_ue p.state.units ue a.left)
-          a.acts.lines a.acts.stands (hears a) a.acts.goes_on before
+          a.acts.lines a.acts.stands (receives a) a.acts.goes_on before
       made_knows (a_cu_cp a) =
           known_then later key reading a.event p.state q.state a.cause a.outputs a.units a.lines a.acted.stands
           (unheard ue bearer later a.cause (CuCp a.gnb) a.node tt) a.goes_on before
@@ -211,14 +211,14 @@ module _ (reading : Reading) (n : Numbering) (ue : UeId) (bearer : BearerId) (sn
       knows : Step reading n ue bearer sn quota p q → Known q
       knows (a_cu_up a) =
           known_then later key reading a.event p.state q.state a.cause (map (written_put (sn_of p.state)) a.outputs)
-          (with_up p.state.units a.gnb a.number a.left) a.acts.lines a.acted.stands
+          (with_cu_up p.state.units a.gnb a.number a.left) a.acts.lines a.acted.stands
           (unheard ue bearer later a.cause (CuUp a.gnb a.number) a.acts.node tt) a.acts.goes_on before
       knows (a_du a) =
           known_then later key reading a.event p.state q.state a.cause (map (written_put (sn_of p.state)) a.outputs)
           (with_du p.state.units a.gnb a.number a.left) a.acts.lines a.acted.stands
           (unheard ue bearer later a.cause (Du a.gnb a.number) a.acts.node tt) a.acts.goes_on before
       knows (an_offer a) = offer_knows ue bearer later reading p.state q.state a.who a.which a.packet a.path a.offers before
-      knows (a_message a) = message_knows ue bearer later reading p.state q.state a.number a.letter a.outputs a.core a.takes before
+      knows (a_message a) = message_knows ue bearer later reading p.state q.state a.number a.control_message a.outputs a.core a.takes before
       knows (all_else a) = made_knows a.makes
 
     pub one_step : Step reading n ue bearer sn quota p q → path.Step reading n ue bearer sn quota p q × Told q × Known q
@@ -241,15 +241,15 @@ module _ (reading : Reading) (n : Numbering) (ue : UeId) (bearer : BearerId) (sn
         let next = path_step reading n ue bearer sn quota positive y z before after comes first.1 one.0 in
         (path.further x y z first.0 before after comes one.0, next.1, one.1, one.2)
 
-    pub delivers : (p q : Point) (first teid : ℕ) (d : Downlink) → AreFirst first teid d p → IsTied reading n ue bearer sn quota p
+    pub delivers : (p q : Point) (first teid : ℕ) (d : DownlinkTunnel) → AreInitial first teid d p → IsRefined reading n ue bearer sn quota p
         → IsOld n ue bearer p.state.units first → LeadsAt reading n ue bearer sn quota p → Told p → Known p → Steps reading n ue bearer sn quota p q
         → DeliverInOrder reading n ue bearer sn quota p q
-    delivers p q first teid d are ties old leads told known steps =
-        path_delivers reading n ue bearer sn quota positive p q first teid d are ties old leads
+    delivers p q first teid d are refinements old leads told known steps =
+        path_delivers reading n ue bearer sn quota positive p q first teid d are refinements old leads
         (all_steps p q (record {
-          ties = ties;
+          refinements = refinements;
           fresh = starts_fresh n p.state p.up first teid are.up;
-          steady = first_steady reading n ue bearer sn quota positive first teid d p are ties old;
+          well_linked = first_well_linked reading n ue bearer sn quota positive first teid d p are refinements old;
           came = first_about sn quota p first teid d are;
           leads = leads;
         }) told known steps).0
@@ -270,4 +270,4 @@ module _ (reading : Reading) (n : Numbering) where
       → DeliverInOrder reading n terminal its_bearer Len12 64 (begins reading n) q
   delivers_on positive q steps =
       delivers reading n terminal its_bearer Len12 64 positive (begins reading n) q (first_run.first n) (starts reading n).0 (starts reading n).1
-      (record { down = refl; up = refl }) (tied_there reading n) (first_old reading n positive) (leads_there reading n) told_there known_there steps
+      (record { down = refl; up = refl }) (refined_there reading n) (first_old reading n positive) (leads_there reading n) told_there known_there steps

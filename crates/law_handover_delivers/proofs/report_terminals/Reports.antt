@@ -31,21 +31,21 @@ use Rattle.law_handover_delivers.specs.report_links.Reports.{PduIsTrue}
 
 module _ (bearer : BearerId) (deliv : ℕ) where
   -- nothing is put on a tunnel
-  abbrev pub Fine : Output (Message Token) Pdu → Type 0
-  Fine (radio who q dir epoch tag pdu) = eq_by_cmp bearer_cmp bearer q ≡ true → PduIsTrue deliv pdu
-  Fine (packet to teid who q dir tag load) = ⊥
-  Fine output = Unit {0}
+  abbrev pub Invariant : Output (Message Token) Pdu → Type 0
+  Invariant (radio who q dir epoch tag pdu) = eq_by_cmp bearer_cmp bearer q ≡ true → PduIsTrue deliv pdu
+  Invariant (packet to teid who q dir tag load) = ⊥
+  Invariant output = Unit {0}
 
-  abbrev pub AllFine : List (Output (Message Token) Pdu) → Type 0
-  AllFine outputs = AllByRecursion Fine outputs
+  abbrev pub AllInvariant : List (Output (Message Token) Pdu) → Type 0
+  AllInvariant outputs = AllByRecursion Invariant outputs
 
   abbrev pub All : {R : Type 0} → Answer (Message Token) Pdu R → Type 0
-  All (gives outputs after) = AllFine outputs
+  All (gives outputs after) = AllInvariant outputs
   All (spent counter) = Unit {0}
 
-  with_all : {R : Type 0} (outputs : List (Output (Message Token) Pdu)) (a : Answer (Message Token) Pdu R) → AllFine outputs → All a
+  with_all : {R : Type 0} (outputs : List (Output (Message Token) Pdu)) (a : Answer (Message Token) Pdu R) → AllInvariant outputs → All a
       → All (with_outputs outputs a)
-  with_all outputs (gives more after) p q = all_append Fine outputs more p q
+  with_all outputs (gives more after) p q = all_append Invariant outputs more p q
   with_all outputs (spent counter) p q = tt
 
   then_all : {R S : Type 0} (a : Answer (Message Token) Pdu R) (f : R → Answer (Message Token) Pdu S) → All a → ((r : R) → All (f r)) → All (a then f)
@@ -53,8 +53,8 @@ module _ (bearer : BearerId) (deliv : ℕ) where
   then_all (spent counter) f p q = tt
 
   -- the entry of this bearer has received all below `deliv` at most, and holds nothing
-  abbrev pub EntryFine : BearerId × UeBearer → Type 0
-  EntryFine e = eq_by_cmp bearer_cmp bearer e.0 ≡ true → (e.1.receiver.deliv ≤ deliv) × (received_bits e.1.receiver ≡ [])
+  abbrev pub EntryInvariant : BearerId × UeBearer → Type 0
+  EntryInvariant e = eq_by_cmp bearer_cmp bearer e.0 ≡ true → (e.1.receiver.deliv ≤ deliv) × (received_bits e.1.receiver ≡ [])
 
   module _ (u : UeNode) where
     -- ---- one bearer
@@ -82,24 +82,24 @@ module _ (bearer : BearerId) (deliv : ℕ) where
         by true = each q b.waiting b
         by false = tt
 
-    again : (q : BearerId) (es : List (ℕ × List ℕ)) → AllFine (map (λ e. data_output plain_way u q e.0 e.1) es)
+    again : (q : BearerId) (es : List (ℕ × List ℕ)) → AllInvariant (map (λ e. data_output plain_way u q e.0 e.1) es)
     again q [] = tt
     again q (e ∷ es) = ((λ own. tt), again q es)
 
-    connects : (e : BearerId × UeBearer) → EntryFine e → All (connect_bearer plain_way u e.0 e.1)
+    connects : (e : BearerId × UeBearer) → EntryInvariant e → All (connect_bearer plain_way u e.0 e.1)
     unfolding connect_bearer
     connects e fine =
         then_all
         (gives (on_air plain_way u e.0 Absent (plain_way.write u.plan.sn (report_pdu e.1.receiver.deliv (received_bits e.1.receiver))) ∷ unconfirmed_outputs plain_way u e.0 e.1) e.1)
         (number_waiting plain_way u e.0) (fine, again e.0 e.1.sender.unconfirmed) (λ c. waits e.0 c)
 
-    all_connect : (es : List (BearerId × UeBearer)) → AllByRecursion EntryFine es → All (connect_each plain_way u es)
+    all_connect : (es : List (BearerId × UeBearer)) → AllByRecursion EntryInvariant es → All (connect_each plain_way u es)
     all_connect [] fine = tt
     all_connect (e ∷ es) fine =
         then_all (connect_bearer plain_way u e.0 e.1) (λ b. connect_each plain_way u es then (λ bearers. nothing ((e.0, b) ∷ bearers))) (connects e fine.0)
         (λ b. then_all (connect_each plain_way u es) (λ bearers. nothing ((e.0, b) ∷ bearers)) (all_connect es fine.1) (λ bearers. tt))
 
-    delivers : (q : BearerId) (d : Delivery (List ℕ)) (es : List (ℕ × List ℕ)) → AllFine (delivered plain_way u q (record d { packets = es }))
+    delivers : (q : BearerId) (d : Delivery (List ℕ)) (es : List (ℕ × List ℕ)) → AllInvariant (delivered plain_way u q (record d { packets = es }))
     delivers q d [] = tt
     delivers q d (e ∷ es) = (tt, delivers q d es)
 
@@ -152,11 +152,11 @@ module _ (bearer : BearerId) (deliv : ℕ) where
         by None = (tt, tt)
         by (Some b) = by_room b (nat_lt largest_packet (length sdu)) (nat_le u.plan.quota (used_uplink plain_way b))
 
-    connect_fine : AllByRecursion EntryFine u.bearers → All (connect plain_way u)
+    connect_fine : AllByRecursion EntryInvariant u.bearers → All (connect plain_way u)
     connect_fine fine =
         then_all (connect_each plain_way u u.bearers) (λ bearers. nothing (with_bearers plain_way u bearers)) (all_connect u.bearers fine) (λ bearers. tt)
 
-    said_fine : (token : Option TokenKind) (home : Option NodeId) → AllFine (said plain_way u token home)
+    said_fine : (token : Option TokenKind) (home : Option NodeId) → AllInvariant (said plain_way u token home)
     said_fine (Some kind) (Some home) = (tt, tt)
     said_fine (Some kind) None = tt
     said_fine None home = tt
@@ -171,7 +171,7 @@ module _ (bearer : BearerId) (deliv : ℕ) where
         by true = tt
         by false = (tt, tt)
 
-  accepts_in : (u : UeNode) → AllByRecursion EntryFine u.bearers → (x : UeState) → All (accepted_in plain_way u x)
+  accepts_in : (u : UeNode) → AllByRecursion EntryInvariant u.bearers → (x : UeState) → All (accepted_in plain_way u x)
   accepts_in u fine states.Returning = connect_fine (record u { token = None; state = states.Connected }) fine
   accepts_in u fine states.Idle = tt
   accepts_in u fine states.Connected = tt
@@ -182,7 +182,7 @@ module _ (bearer : BearerId) (deliv : ℕ) where
   if_fine true x y p q = p
   if_fine false x y p q = q
 
-  module _ (u : UeNode) (fine : AllByRecursion EntryFine u.bearers) where
+  module _ (u : UeNode) (fine : AllByRecursion EntryInvariant u.bearers) where
     accepts : (epoch : ℕ) → All (accept plain_way epoch u)
     unfolding accept
     accepts epoch = if_fine (epoch == u.epoch) (accepted_in plain_way u u.state) (drops Stale u) (accepts_in u fine u.state) (tt, tt)
@@ -194,16 +194,16 @@ module _ (bearer : BearerId) (deliv : ℕ) where
     told_fine (tokens.Complete ue epoch) = (tt, tt)
     told_fine (tokens.Reestablish ue epoch) = (tt, tt)
 
-    letter_fine : (from : NodeId) (message : Message Token) → All (told_by plain_way from message u)
-    letter_fine (Du gnb number) (rrc token) = told_fine token
-    letter_fine (Du gnb number) (f1 message) = (tt, tt)
-    letter_fine (Du gnb number) (e1 message) = (tt, tt)
-    letter_fine (Du gnb number) (xn message) = (tt, tt)
-    letter_fine (Du gnb number) (core message) = (tt, tt)
-    letter_fine (CuCp gnb) message = (tt, tt)
-    letter_fine (CuUp gnb number) message = (tt, tt)
-    letter_fine Core message = (tt, tt)
-    letter_fine (Ue ue) message = (tt, tt)
+    control_message_fine : (from : NodeId) (message : Message Token) → All (told_by plain_way from message u)
+    control_message_fine (Du gnb number) (rrc token) = told_fine token
+    control_message_fine (Du gnb number) (f1 message) = (tt, tt)
+    control_message_fine (Du gnb number) (e1 message) = (tt, tt)
+    control_message_fine (Du gnb number) (xn message) = (tt, tt)
+    control_message_fine (Du gnb number) (core message) = (tt, tt)
+    control_message_fine (CuCp gnb) message = (tt, tt)
+    control_message_fine (CuUp gnb number) message = (tt, tt)
+    control_message_fine Core message = (tt, tt)
+    control_message_fine (Ue ue) message = (tt, tt)
 
     -- ---- orders of the script
 
@@ -253,7 +253,7 @@ module _ (bearer : BearerId) (deliv : ℕ) where
 
     pub acts_fine : (input : Input Token Pdu) → All (ue_acts plain_way u input)
     unfolding ue_acts
-    acts_fine (control_input from message) = letter_fine from message
+    acts_fine (control_input from message) = control_message_fine from message
     acts_fine (radio_input ue other Dl pdu content) = take_fine u other content
     acts_fine (radio_input ue other Ul pdu content) = (tt, tt)
     acts_fine (confirm_input ue other Ul pdu content) = confirm_fine u other content

@@ -1,4 +1,4 @@
--- Steps by which the parts do nothing, as steps of `path_ties`; and whether a terminal shows the parts after steps of others.
+-- Steps by which the models do nothing, as steps of `core_path`; and whether a terminal shows the models after steps of others.
 use Rattle.std.proofs.Common.{◌≡◌, ℕ, Bool, true, false, ◌&&◌, [], Option, Some, None, refl, ap, ◌∙◌}
 use Rattle.std.specs.Prelude.{if◌then◌else◌}
 use Rattle.std.specs.Ordering.{eq_by_cmp}
@@ -17,24 +17,24 @@ use Rattle.unit_defs.specs.Ue.{UeNode, is_connected}
 use Rattle.run_defs.specs.Units.{ue_of, epoch_at}
 use Rattle.run_defs.specs.Conditions.{same_epoch, ready_at, ready_of, receiver_of, sender_of}
 use Rattle.run_defs.specs.Runs.{Reading}
-use Rattle.proof_run_steps.specs.steps.Causes.{by_order, by_tick, by_octets, by_octets_on, by_attach, by_release, by_offer, by_item, by_air, by_ack, by_letter, Stands, node_of}
+use Rattle.proof_run_steps.specs.steps.Causes.{by_order, by_tick, by_octets, by_octets_on, by_attach, by_release, by_offer, by_item, by_air, by_ack, by_control_message, Stands, node_of}
 use Rattle.bearer_defs.specs.chain_defs.Orders as down
-use Rattle.bearer_defs.specs.chain_defs.Guards as down_guards
+use Rattle.bearer_defs.specs.chain_defs.Assumptions as down_assumptions
 use Rattle.bearer_defs.specs.uplink_defs.Orders as up
-use Rattle.bearer_defs.specs.uplink_defs.Guards as up_guards
+use Rattle.bearer_defs.specs.uplink_defs.Assumptions as up_assumptions
 use Rattle.proof_bearer_refinement.specs.run_bearers.Bearers.{Numbering}
-use Rattle.proof_bearer_refinement.specs.tied_runs.Steps.{Point, IsLeft}
-use Rattle.law_handover_delivers.specs.path_ties.Paths as path
-use Rattle.law_handover_delivers.specs.path_ties.Paths.{PathStays}
-use Rattle.proof_bearer_refinement.specs.radio_ties.Radio.{RunState, RunCause, up_key, Leaves, IsAtTerminal}
-use Rattle.proof_bearer_refinement.specs.shown_orders.Looks.{DownSame, UpSame}
-use Rattle.proof_bearer_refinement.proofs.shown_orders.Shown.{looks_same}
-use Rattle.law_handover_delivers.specs.whole_runs.Whole.{both, PartsStay}
+use Rattle.proof_bearer_refinement.specs.runs.Steps.{Point, LeavesBearer}
+use Rattle.law_handover_delivers.specs.core_path.Paths as path
+use Rattle.law_handover_delivers.specs.core_path.Paths.{PathStays}
+use Rattle.proof_bearer_refinement.specs.uplink_radio.Radio.{RunState, RunCause, up_key, Leaves, IsAtTerminal}
+use Rattle.proof_bearer_refinement.specs.ue_view.Looks.{DownSame, UpSame}
+use Rattle.proof_bearer_refinement.proofs.ue_view.Shown.{looks_same}
+use Rattle.law_handover_delivers.specs.whole_runs.Whole.{both, ModelsStay}
 
 module _ (reading : Reading) (n : Numbering) (ue : UeId) (bearer : BearerId) (sn : SnBits) (quota : ℕ) (p q : Point) where
-  pub beside : IsLeft n ue bearer p.state q.state → PathStays ue p.state q.state → PartsStay p q → path.StaysBeside reading n ue bearer sn quota p q
-  unfolding down.run up.run down_guards.AreKept up_guards.AreKept
-  beside left path parts = record {
+  pub beside : LeavesBearer n ue bearer p.state q.state → PathStays ue p.state q.state → ModelsStay p q → path.StaysInFrame reading n ue bearer sn quota p q
+  unfolding down.run up.run down_assumptions.AreKept up_assumptions.AreKept
+  beside left path models = record {
     stays = record {
       rest = left;
       radio = [];
@@ -43,8 +43,8 @@ module _ (reading : Reading) (n : Numbering) (ue : UeId) (bearer : BearerId) (sn
       of_terminal = tt;
       radio_asks = tt;
       terminal_asks = tt;
-      down = parts.down;
-      up = parts.up;
+      down = models.down;
+      up = models.up;
     };
     path = path;
   }
@@ -60,8 +60,8 @@ module _ (reading : Reading) (n : Numbering) (ue : UeId) (bearer : BearerId) (sn
     air = ap (λ u. u.air) same;
   }
 
-  pub shows_alike : PartsStay p q → IsAtTerminal reading ue bearer q.state (both p) → IsAtTerminal reading ue bearer q.state (both q)
-  shows_alike parts tie = looks_same reading ue bearer q.state (both p) (both q) (down_alike parts.down) (up_alike parts.up) tie
+  pub shows_alike : ModelsStay p q → IsAtTerminal reading ue bearer q.state (both p) → IsAtTerminal reading ue bearer q.state (both q)
+  shows_alike models refinement = looks_same reading ue bearer q.state (both p) (both q) (down_alike models.down) (up_alike models.up) refinement
 
 -- ---- a CU-UP is no terminal's home
 
@@ -111,4 +111,4 @@ module _ (event : Event) (s : RunState) (ue : UeId) (bearer : BearerId) (g : Gnb
   up_leaves (by_octets_on end octets) at stands = tt
   up_leaves (by_offer who q sdu) at stands = tt
   up_leaves (by_item end item rest) at stands = tt
-  up_leaves (by_letter number l to) at stands = tt
+  up_leaves (by_control_message number l to) at stands = tt

@@ -15,9 +15,9 @@ use Rattle.run_defs.specs.Written.{Written}
 use Rattle.run_defs.specs.States.{entity}
 use Rattle.proof_run_steps.specs.tunnel_steps.Standing.{standing}
 use Rattle.proof_run_steps.specs.radio_steps.Radios.{OnAir, on_air}
-use Rattle.proof_bearer_refinement.specs.radio_ties.Radio.{RunState, OnRadio}
+use Rattle.proof_bearer_refinement.specs.uplink_radio.Radio.{RunState, OnRadio}
 use Rattle.proof_node_orders.specs.du_inputs.Puts.{is_of}
-use Rattle.proof_bearer_refinement.specs.radio_downs.Down.{down_key}
+use Rattle.proof_bearer_refinement.specs.downlink_radio.Down.{down_key}
 
 -- ---- what is said to have been received was carried up, where all COUNTs below `reached` were
 

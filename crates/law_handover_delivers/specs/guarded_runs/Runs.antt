@@ -1,5 +1,5 @@
--- Steps of a run beside the parts of one bearer, as those of `whole_runs`, of which what control owes is asked, and nothing of a packet or
--- a status report that the terminal takes; and all that is so of the states on the way.
+-- Steps of a run beside the models of one bearer, as those of `whole_runs`, of which what is assumed of control is asked, and nothing of a
+-- packet or a status report that the terminal takes; and all that is so of the states on the way.
 use Rattle.std.specs.Prelude.{◌≡◌, ℕ, ◌<◌, List, map, Option, Some}
 use Rattle.gnb_types.specs.declared.names.SnBits.{SnBits}
 use Rattle.gnb_types.specs.declared.names.UeId.{UeId}
@@ -14,26 +14,26 @@ use Rattle.run_defs.specs.States.{sn_of}
 use Rattle.run_defs.specs.Runs.{Reading, plain_world}
 use Rattle.bearer_defs.specs.chain_defs.Orders as down
 use Rattle.bearer_defs.specs.uplink_defs.Orders as up
-use Rattle.proof_bearer_refinement.specs.radio_ties.Radio.{RunCause, IsUeStep}
-use Rattle.proof_bearer_refinement.specs.radio_downs.Heard.{heard_by}
-use Rattle.law_handover_delivers.specs.down_report_ties.Owed.{OwedArrivals}
+use Rattle.proof_bearer_refinement.specs.uplink_radio.Radio.{RunCause, IsUeStep}
+use Rattle.proof_bearer_refinement.specs.downlink_radio.Received.{received_by}
+use Rattle.law_handover_delivers.specs.down_reports_elsewhere.Assumed.{AssumedArrivals}
 use Rattle.law_handover_delivers.specs.down_report_frames.Statuses.{UpCameAbout}
-use Rattle.law_handover_delivers.specs.down_report_runs.Steps.{ReportsDownAreTrueAt, OwesStatuses}
+use Rattle.law_handover_delivers.specs.down_report_runs.Steps.{ReportsDownAreTrueAt, AssumesStatuses}
 use Rattle.proof_bearer_refinement.specs.run_bearers.Bearers.{Numbering}
 use Rattle.law_terminals_are_isolated.specs.own_steps.Own.{IsActed}
-use Rattle.proof_bearer_refinement.specs.tied_runs.Steps.{Point}
-use Rattle.proof_bearer_refinement.specs.tied_runs.Fair.{IsFair}
+use Rattle.proof_bearer_refinement.specs.runs.Steps.{Point}
+use Rattle.proof_bearer_refinement.specs.runs.Fair.{IsFair}
 use Rattle.law_handover_delivers.specs.whole_runs.Whole as whole
 use Rattle.law_handover_delivers.specs.whole_runs.Whole.{both, IsWhole}
-use Rattle.law_handover_delivers.specs.way_steps.Way.{IsOnItsWay, OwesFrame, OwesSwitches}
+use Rattle.law_handover_delivers.specs.downlink_path_steps.Way.{IsOnDownlinkPath, AssumesFrame, AssumesSwitches}
 use Rattle.proof_run_steps.specs.teids.Given.{GiveOnce}
 
 module _ (reading : Reading) (n : Numbering) (ue : UeId) (bearer : BearerId) (sn : SnBits) (quota : ℕ) where
-  -- all that is so of a state on the way: what `whole_runs` carries; the way of packets down; that the part up came about by orders that
+  -- all that is so of a state on the way: what `whole_runs` carries; the way of packets down; that the model up came about by orders that
   -- asked what they do; and that what stands on links and reports to the terminal is true
   pub record IsCarried (p : Point) : Type 0 where
     pub all : IsWhole reading n ue bearer sn quota p
-    pub way : IsOnItsWay n ue bearer p
+    pub way : IsOnDownlinkPath n ue bearer p
     pub came : UpCameAbout p.up
     pub told : ReportsDownAreTrueAt reading n ue bearer sn quota p
 
@@ -50,20 +50,20 @@ module _ (reading : Reading) (n : Numbering) (ue : UeId) (bearer : BearerId) (sn
     pub to : Option ℕ
     pub acts : IsUeStep reading event p.state q.state ue terminal left cause input outputs
     pub acted : IsActed (plain_world reading) event p.state cause (map (written_put (sn_of p.state)) outputs) (with_ue p.state.units ue left)
-    pub owed : OwedArrivals terminal (both p) to input
-    pub down : q.down ≡ down.run p.down (heard_by terminal (both p) bearer to input).down
-    pub up : q.up ≡ up.run p.up (heard_by terminal (both p) bearer to input).up
+    pub assumed : AssumedArrivals terminal (both p) to input
+    pub down : q.down ≡ down.run p.down (received_by terminal (both p) bearer to input).down
+    pub up : q.up ≡ up.run p.up (received_by terminal (both p) bearer to input).up
 
-  -- what is owed of each other step: of the way of packets down, and of an SN status
-  abbrev pub OwesWay : (p q : Point) → whole.Step reading n ue bearer sn quota p q → Type 0
-  OwesWay p q (whole.a_cu_up a) = OwesSwitches n ue bearer p a.gnb a.number a.input a.beside.epoch
-  OwesWay p q (whole.a_du a) = OwesFrame n ue bearer p a.gnb a.number a.input
-  OwesWay p q (whole.the_terminal a) = ⊥
-  OwesWay p q step = Unit {0}
+  -- what is assumed of each other step: of the way of packets down, and of an SN status
+  abbrev pub AssumesDownlinkPath : (p q : Point) → whole.Step reading n ue bearer sn quota p q → Type 0
+  AssumesDownlinkPath p q (whole.a_cu_up a) = AssumesSwitches n ue bearer p a.gnb a.number a.input a.beside.epoch
+  AssumesDownlinkPath p q (whole.a_du a) = AssumesFrame n ue bearer p a.gnb a.number a.input
+  AssumesDownlinkPath p q (whole.the_terminal a) = ⊥
+  AssumesDownlinkPath p q step = Unit {0}
 
   pub data Step (p q : Point) : Type 0 where
     the_terminal : (acts : TerminalActs p q) → Step p q
-    all_else : (step : whole.Step reading n ue bearer sn quota p q) → (way : OwesWay p q step) → (statuses : OwesStatuses reading n ue bearer sn quota p q step)
+    all_else : (step : whole.Step reading n ue bearer sn quota p q) → (way : AssumesDownlinkPath p q step) → (statuses : AssumesStatuses reading n ue bearer sn quota p q step)
         → Step p q
 
   -- one after another, each to a state that comes after the one before

@@ -13,7 +13,7 @@ use Rattle.run_defs.specs.Written.{Written}
 use Rattle.run_defs.specs.States.{entity}
 use Rattle.proof_run_steps.specs.tunnel_steps.Standing.{standing}
 use Rattle.proof_run_steps.specs.radio_steps.Radios.{OnAir, on_air}
-use Rattle.proof_bearer_refinement.specs.radio_ties.Radio.{RunState, OnRadio, up_key}
+use Rattle.proof_bearer_refinement.specs.uplink_radio.Radio.{RunState, OnRadio, up_key}
 use Rattle.proof_node_orders.specs.du_inputs.Puts.{is_of}
 
 -- ---- what is said to be received was, where the terminal received all below `deliv`

@@ -1,5 +1,5 @@
--- Steps of a run beside the parts of one bearer, each to a later state of the run, where of what an item reports to a CU-UP nothing is asked:
--- of each step it is said what makes it.
+-- Steps of a run beside the models of one bearer, each to a later state of the run, where of what an item reports to a CU-UP nothing is
+-- asked: of each step it is said what makes it.
 use Rattle.std.specs.Prelude.{◌≡◌, ℕ, ◌<◌, List, ◌∷◌, map, Option, Some, None}
 use Rattle.gnb_types.specs.declared.names.Gnb.{Gnb}
 use Rattle.gnb_types.specs.declared.names.NodeId.{NodeId}
@@ -18,7 +18,7 @@ use Rattle.unit_defs.specs.Ways.{Message, Pdu, Input, Output}
 use Rattle.unit_defs.specs.Core.{CoreRecord}
 use Rattle.unit_defs.specs.Ue.{UeNode}
 use Rattle.run_defs.specs.Lines.{RunLine}
-use Rattle.run_defs.specs.Units.{Units, with_up, with_du}
+use Rattle.run_defs.specs.Units.{Units, with_cu_up, with_du}
 use Rattle.run_defs.specs.Written.{written_put}
 use Rattle.run_defs.specs.States.{octets_from, core_stepped, entity, goes, radio_of, sn_of, ◌next◌}
 use Rattle.run_defs.specs.Steps.{carried_out, check_spans, put_out_all}
@@ -28,24 +28,24 @@ use Rattle.proof_run_steps.specs.steps.Causes.{node_of, count_of, first_of}
 use Rattle.law_terminals_are_isolated.specs.own_steps.Own.{IsActed}
 use Rattle.bearer_defs.specs.chain_defs.Orders as down
 use Rattle.proof_cu_up_orders.specs.bearer_orders.Happenings.{Beside}
-use Rattle.proof_bearer_refinement.specs.law_run_units.Happenings.{UpRecord, DuRecord}
+use Rattle.proof_bearer_refinement.specs.run_unit_inputs.Happenings.{CuUpRecord, DuRecord}
 use Rattle.proof_bearer_refinement.specs.run_bearers.Bearers.{Numbering, contexts_of}
 use Rattle.proof_run_steps.specs.tunnel_steps.Standing.{standing}
-use Rattle.proof_bearer_refinement.specs.tie_facts.Asked.{IsUpStep, down_after, up_after}
-use Rattle.proof_bearer_refinement.specs.put_ties.Puts.{IsDuStep}
-use Rattle.proof_bearer_refinement.specs.tied_runs.Steps.{Point, DuActs}
-use Rattle.law_handover_delivers.specs.owed_orders.Owed.{final_asks}
-use Rattle.law_handover_delivers.specs.path_ties.Paths as path
-use Rattle.law_handover_delivers.specs.path_ties.Paths.{CoreOffers, CoreTakes}
+use Rattle.proof_bearer_refinement.specs.refinement_facts.Asked.{IsUpStep, down_after, up_after}
+use Rattle.proof_bearer_refinement.specs.du_puts.Puts.{IsDuStep}
+use Rattle.proof_bearer_refinement.specs.runs.Steps.{Point, DuActs}
+use Rattle.law_handover_delivers.specs.assumptions.Assumed.{final_asks}
+use Rattle.law_handover_delivers.specs.core_path.Paths as path
+use Rattle.law_handover_delivers.specs.core_path.Paths.{CoreOffers, CoreTakes}
 use Rattle.proof_run_steps.specs.radio_steps.Radios.{on_air}
 use Rattle.proof_run_steps.specs.teids.Given.{GiveOnce}
-use Rattle.proof_bearer_refinement.specs.radio_ties.Radio.{RunState, RunCause, IsAtTerminal, IsUeStep, IsBeside}
-use Rattle.proof_bearer_refinement.specs.radio_downs.Down.{down_key}
-use Rattle.proof_bearer_refinement.specs.radio_downs.Heard.{heard_by, OwedHeard}
-use Rattle.proof_bearer_refinement.specs.known_airs.Known.{AreKnown}
-use Rattle.proof_bearer_refinement.specs.tied_runs.Fair.{IsFair}
+use Rattle.proof_bearer_refinement.specs.uplink_radio.Radio.{RunState, RunCause, IsAtTerminal, IsUeStep, IsFrameStep}
+use Rattle.proof_bearer_refinement.specs.downlink_radio.Down.{down_key}
+use Rattle.proof_bearer_refinement.specs.downlink_radio.Received.{received_by, AssumedReceived}
+use Rattle.proof_bearer_refinement.specs.carried_was_received.Known.{AreKnown}
+use Rattle.proof_bearer_refinement.specs.runs.Fair.{IsFair}
 use Rattle.law_handover_delivers.specs.report_links.Reports.{ReportsAreTrue, RunItem, RunPut}
-use Rattle.law_handover_delivers.specs.report_orders.Still.{AllOweStill}
+use Rattle.law_handover_delivers.specs.reports_at_cu_up.Still.{AllAssumeStill}
 
 -- ---- a CU-CP acts; another terminal does
 
@@ -68,7 +68,7 @@ pub record OtherActs (reading : Reading) (ue : UeId) (bearer : BearerId) (s t : 
   pub units : Units (Message Token) Token
   pub node : node_of cause ≡ Ue number
   pub acted : IsActed (plain_world reading) event s cause outputs units
-  pub beside : IsBeside reading s t ue bearer cause outputs units
+  pub beside : IsFrameStep reading s t ue bearer cause outputs units
 
 -- ---- the core is given octets from outside
 
@@ -96,7 +96,7 @@ pub record LinksStay (ue : UeId) (bearer : BearerId) (s t : RunState) : Type 0 w
   pub radios : (dir : Dir) → on_air t (entity ue bearer dir) ≡ on_air s (entity ue bearer dir)
 
 module _ (reading : Reading) (n : Numbering) (ue : UeId) (bearer : BearerId) (sn : SnBits) (quota : ℕ) where
-  -- what stands on the bearer's tunnels and on its radio up reports only what the part received
+  -- what stands on the bearer's tunnels and on its radio up reports only what the model received
   abbrev pub ReportsAreTrueAt : Point → Type 0
   ReportsAreTrueAt p = ReportsAreTrue ue bearer p.down.terminal.deliv p.state
 
@@ -104,7 +104,7 @@ module _ (reading : Reading) (n : Numbering) (ue : UeId) (bearer : BearerId) (sn
   abbrev pub IsKnownAt : Point → Type 0
   IsKnownAt p = AreKnown (radio_of p.state (down_key ue bearer)) p.down.terminal.deliv
 
-  -- a CU-UP acts, and what is owed of its orders is so, but for what an item reports
+  -- a CU-UP acts, and what is assumed of its orders is so, but for what an item reports
   pub record CuUpActs (p q : Point) : Type 0 where
     pub gnb : Gnb
     pub number : ℕ
@@ -112,18 +112,18 @@ module _ (reading : Reading) (n : Numbering) (ue : UeId) (bearer : BearerId) (sn
     pub cause : RunCause
     pub input : Input Token Pdu
     pub outputs : List (Output (Message Token) Pdu)
-    pub left : UpRecord
+    pub left : CuUpRecord
     pub beside : Beside
     pub acts : IsUpStep reading p.state q.state gnb number cause input outputs left
-    pub acted : IsActed (plain_world reading) event p.state cause (map (written_put (sn_of p.state)) outputs) (with_up p.state.units gnb number left)
-    pub owes : AllOweStill n ue bearer p.state.units sn quota p.down p.up (contexts_of n ue bearer p.state.units)
+    pub acted : IsActed (plain_world reading) event p.state cause (map (written_put (sn_of p.state)) outputs) (with_cu_up p.state.units gnb number left)
+    pub assumes : AllAssumeStill n ue bearer p.state.units sn quota p.down p.up (contexts_of n ue bearer p.state.units)
         (final_asks n ue bearer p.state gnb number cause input beside)
     pub down : q.down ≡ down_after n ue bearer p.state.units sn quota p.down (contexts_of n ue bearer p.state.units)
         (final_asks n ue bearer p.state gnb number cause input beside)
     pub up : q.up ≡ up_after n ue bearer p.state.units sn quota p.up (contexts_of n ue bearer p.state.units)
         (final_asks n ue bearer p.state gnb number cause input beside)
 
-  -- a DU acts, by a step that `proof_bearer_refinement::tied_runs` takes
+  -- a DU acts, by a step that `proof_bearer_refinement::runs` takes
   pub record DuTells (p q : Point) : Type 0 where
     pub gnb : Gnb
     pub number : ℕ
@@ -136,20 +136,20 @@ module _ (reading : Reading) (n : Numbering) (ue : UeId) (bearer : BearerId) (sn
     pub acted : IsActed (plain_world reading) event p.state cause (map (written_put (sn_of p.state)) outputs) (with_du p.state.units gnb number left)
     pub step : DuActs reading n ue bearer sn quota p q
 
-  -- the terminal acts: it shows the parts and has room for a packet, and of a packet that it takes none before it is missing, and it was
+  -- the terminal acts: it shows the models and has room for a packet, and of a packet that it takes none before it is missing, and it was
   -- put for the present radio or received before
   pub record TerminalActs (p q : Point) : Type 0 where
-    pub tie : IsAtTerminal reading ue bearer p.state (record { up = p.up; down = p.down })
+    pub refinement : IsAtTerminal reading ue bearer p.state (record { up = p.up; down = p.down })
     pub event : Event
     pub cause : RunCause
     pub input : Input Token Pdu
     pub outputs : List (Output (Message Token) Pdu)
     pub left : UeNode
     pub to : Option ℕ
-    pub acts : IsUeStep reading event p.state q.state ue tie.terminal left cause input outputs
-    pub some : 0 < tie.terminal.plan.quota
-    pub owed : OwedHeard tie.terminal (record { up = p.up; down = p.down }) bearer to input
-    pub down : q.down ≡ down.run p.down (heard_by tie.terminal (record { up = p.up; down = p.down }) bearer to input).down
+    pub acts : IsUeStep reading event p.state q.state ue refinement.terminal left cause input outputs
+    pub some : 0 < refinement.terminal.plan.quota
+    pub assumed : AssumedReceived refinement.terminal (record { up = p.up; down = p.down }) bearer to input
+    pub down : q.down ≡ down.run p.down (received_by refinement.terminal (record { up = p.up; down = p.down }) bearer to input).down
 
   -- what makes a step that is none of a CU-UP, of a DU, of an offered packet or of a message to the core
   pub data Makes (p q : Point) : Type 0 where
@@ -161,8 +161,8 @@ module _ (reading : Reading) (n : Numbering) (ue : UeId) (bearer : BearerId) (sn
     a_loss : (loses : FirstIsLost ue bearer p.state q.state) → Makes p q
     nothing_else : (stays : LinksStay ue bearer p.state q.state) → Makes p q
 
-  pub record StaysBeside (p q : Point) : Type 0 where
-    pub stays : path.StaysBeside reading n ue bearer sn quota p q
+  pub record StaysInFrame (p q : Point) : Type 0 where
+    pub stays : path.StaysInFrame reading n ue bearer sn quota p q
     pub makes : Makes p q
 
   pub data Step (p q : Point) : Type 0 where
@@ -170,7 +170,7 @@ module _ (reading : Reading) (n : Numbering) (ue : UeId) (bearer : BearerId) (sn
     a_du : (acts : DuTells p q) → Step p q
     an_offer : (offers : CoreOffers reading n ue bearer sn quota p q) → Step p q
     a_message : (takes : CoreTakes reading n ue bearer sn quota p q) → Step p q
-    all_else : (stays : StaysBeside p q) → Step p q
+    all_else : (stays : StaysInFrame p q) → Step p q
 
   -- one after another, each to a state that comes after the one before
   pub data Steps : Point → Point → Type 0 where

@@ -9,8 +9,8 @@ use Rattle.message_defs.specs.profile_defs.Tables.{is_at, outcome_at, message_fo
 use Rattle.message_defs.specs.profile_defs.Messages.{core_messages, path_switch_request, path_switch_acknowledge}
 use Rattle.message_defs.specs.Fields.{to_number, to_peer, to_tunnels, to_ue}
 use Rattle.message_defs.specs.Places.{the, elements_in}
-use Rattle.message_defs.specs.Heard.{Cause, unknown_procedure, unknown_element, first_rejected, unless_rejected, rejected_in}
-use Rattle.message_defs.specs.Core.{core_at, heard_core}
+use Rattle.message_defs.specs.FromValue.{Cause, unknown_procedure, unknown_element, first_rejected, unless_rejected, rejected_in}
+use Rattle.message_defs.specs.Core.{core_at, core_from_value}
 
 path_switch_request_in : Value → CoreMessage
 path_switch_request_in body = cores.PathSwitchRequest (the ies.ue to_ue (elements_in body)) (the ies.instance to_number (elements_in body)) (the ies.peer to_peer (elements_in body)) (the ies.n3 to_tunnels (elements_in body))
@@ -32,11 +32,11 @@ module _ (index code criticality : ℕ) (body : Value) where
   rejected_by id false false e = cc
 
 pub unknown : (index code criticality : ℕ) (body : Value) → outcome_at code index core_messages ≡ no_form
-    → heard_core (message index code criticality body) ≡ Err (unknown_procedure code criticality)
-unfolding heard_core core_at path_switch_request_in path_switch_acknowledge_in
+    → core_from_value (message index code criticality body) ≡ Err (unknown_procedure code criticality)
+unfolding core_from_value core_at path_switch_request_in path_switch_acknowledge_in
 unknown index code criticality body e = unknown_by index code criticality body (is_at code index path_switch_request) (is_at code index path_switch_acknowledge) (message_form path_switch_request) (message_form path_switch_acknowledge) e
 
-pub rejected : (id : ℕ) (v : Value) → rejected_in core_messages v ≡ Some id → heard_core v ≡ Err (unknown_element id)
-unfolding heard_core core_at path_switch_request_in path_switch_acknowledge_in
+pub rejected : (id : ℕ) (v : Value) → rejected_in core_messages v ≡ Some id → core_from_value v ≡ Err (unknown_element id)
+unfolding core_from_value core_at path_switch_request_in path_switch_acknowledge_in
 rejected id (message index code criticality body) e = rejected_by index code criticality body id (is_at code index path_switch_request) (is_at code index path_switch_acknowledge) e
 rejected id v e = cc

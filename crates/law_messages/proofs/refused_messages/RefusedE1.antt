@@ -9,8 +9,8 @@ use Rattle.message_defs.specs.profile_defs.Tables.{is_at, outcome_at, message_fo
 use Rattle.message_defs.specs.profile_defs.Messages.{e1_messages, e1_setup_request, e1_setup_response, bearer_context_setup_request, bearer_context_setup_response, bearer_context_setup_failure, bearer_context_modification_request, bearer_context_modification_response, bearer_context_modification_failure, bearer_context_release_command, bearer_context_release_complete}
 use Rattle.message_defs.specs.Fields.{to_flag, to_index, to_number, to_peer, to_sn, to_statuses, to_text, to_tunnels, to_ue}
 use Rattle.message_defs.specs.Places.{the, any, elements_in}
-use Rattle.message_defs.specs.Heard.{Cause, unknown_procedure, unknown_element, first_rejected, unless_rejected, rejected_in}
-use Rattle.message_defs.specs.E1.{e1_at, heard_e1}
+use Rattle.message_defs.specs.FromValue.{Cause, unknown_procedure, unknown_element, first_rejected, unless_rejected, rejected_in}
+use Rattle.message_defs.specs.E1.{e1_at, e1_from_value}
 
 e1_setup_request_in : Value → E1Message
 e1_setup_request_in body = e1s.E1SetupRequest (the ies.instance to_number (elements_in body)) (the ies.name to_text (elements_in body))
@@ -72,11 +72,11 @@ module _ (index code criticality : ℕ) (body : Value) where
   rejected_by id false false false false false false false false false false e = cc
 
 pub unknown : (index code criticality : ℕ) (body : Value) → outcome_at code index e1_messages ≡ no_form
-    → heard_e1 (message index code criticality body) ≡ Err (unknown_procedure code criticality)
-unfolding heard_e1 e1_at e1_setup_request_in e1_setup_response_in bearer_context_setup_request_in bearer_context_setup_response_in bearer_context_setup_failure_in bearer_context_modification_request_in bearer_context_modification_response_in bearer_context_modification_failure_in bearer_context_release_command_in bearer_context_release_complete_in
+    → e1_from_value (message index code criticality body) ≡ Err (unknown_procedure code criticality)
+unfolding e1_from_value e1_at e1_setup_request_in e1_setup_response_in bearer_context_setup_request_in bearer_context_setup_response_in bearer_context_setup_failure_in bearer_context_modification_request_in bearer_context_modification_response_in bearer_context_modification_failure_in bearer_context_release_command_in bearer_context_release_complete_in
 unknown index code criticality body e = unknown_by index code criticality body (is_at code index e1_setup_request) (is_at code index e1_setup_response) (is_at code index bearer_context_setup_request) (is_at code index bearer_context_setup_response) (is_at code index bearer_context_setup_failure) (is_at code index bearer_context_modification_request) (is_at code index bearer_context_modification_response) (is_at code index bearer_context_modification_failure) (is_at code index bearer_context_release_command) (is_at code index bearer_context_release_complete) (message_form e1_setup_request) (message_form e1_setup_response) (message_form bearer_context_setup_request) (message_form bearer_context_setup_response) (message_form bearer_context_setup_failure) (message_form bearer_context_modification_request) (message_form bearer_context_modification_response) (message_form bearer_context_modification_failure) (message_form bearer_context_release_command) (message_form bearer_context_release_complete) e
 
-pub rejected : (id : ℕ) (v : Value) → rejected_in e1_messages v ≡ Some id → heard_e1 v ≡ Err (unknown_element id)
-unfolding heard_e1 e1_at e1_setup_request_in e1_setup_response_in bearer_context_setup_request_in bearer_context_setup_response_in bearer_context_setup_failure_in bearer_context_modification_request_in bearer_context_modification_response_in bearer_context_modification_failure_in bearer_context_release_command_in bearer_context_release_complete_in
+pub rejected : (id : ℕ) (v : Value) → rejected_in e1_messages v ≡ Some id → e1_from_value v ≡ Err (unknown_element id)
+unfolding e1_from_value e1_at e1_setup_request_in e1_setup_response_in bearer_context_setup_request_in bearer_context_setup_response_in bearer_context_setup_failure_in bearer_context_modification_request_in bearer_context_modification_response_in bearer_context_modification_failure_in bearer_context_release_command_in bearer_context_release_complete_in
 rejected id (message index code criticality body) e = rejected_by index code criticality body id (is_at code index e1_setup_request) (is_at code index e1_setup_response) (is_at code index bearer_context_setup_request) (is_at code index bearer_context_setup_response) (is_at code index bearer_context_setup_failure) (is_at code index bearer_context_modification_request) (is_at code index bearer_context_modification_response) (is_at code index bearer_context_modification_failure) (is_at code index bearer_context_release_command) (is_at code index bearer_context_release_complete) e
 rejected id v e = cc

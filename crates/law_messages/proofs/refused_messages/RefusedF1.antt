@@ -8,8 +8,8 @@ use Rattle.message_defs.specs.profile_defs.Tables.{is_at, outcome_at, message_fo
 use Rattle.message_defs.specs.profile_defs.Messages.{f1_messages, f1_setup_request, f1_setup_response, ue_context_setup_request, ue_context_setup_response, ue_context_modification_request, ue_context_modification_response, ue_context_release_command, ue_context_release_complete, dl_rrc_message_transfer, ul_rrc_message_transfer}
 use Rattle.message_defs.specs.Fields.{to_number, to_octets, to_peer, to_sn, to_text, to_tunnels, to_ue}
 use Rattle.message_defs.specs.Places.{the, elements_in}
-use Rattle.message_defs.specs.Heard.{Cause, unknown_procedure, unknown_element, first_rejected, unless_rejected, rejected_in}
-use Rattle.message_defs.specs.F1.{F1Message, f1_at, heard_f1}
+use Rattle.message_defs.specs.FromValue.{Cause, unknown_procedure, unknown_element, first_rejected, unless_rejected, rejected_in}
+use Rattle.message_defs.specs.F1.{F1Message, f1_at, f1_from_value}
 
 f1_setup_request_in : Value → F1Message
 f1_setup_request_in body = f1s.F1SetupRequest (the ies.instance to_number (elements_in body)) (the ies.name to_text (elements_in body))
@@ -71,11 +71,11 @@ module _ (index code criticality : ℕ) (body : Value) where
   rejected_by id false false false false false false false false false false e = cc
 
 pub unknown : (index code criticality : ℕ) (body : Value) → outcome_at code index f1_messages ≡ no_form
-    → heard_f1 (message index code criticality body) ≡ Err (unknown_procedure code criticality)
-unfolding heard_f1 f1_at f1_setup_request_in f1_setup_response_in ue_context_setup_request_in ue_context_setup_response_in ue_context_modification_request_in ue_context_modification_response_in ue_context_release_command_in ue_context_release_complete_in dl_rrc_message_transfer_in ul_rrc_message_transfer_in
+    → f1_from_value (message index code criticality body) ≡ Err (unknown_procedure code criticality)
+unfolding f1_from_value f1_at f1_setup_request_in f1_setup_response_in ue_context_setup_request_in ue_context_setup_response_in ue_context_modification_request_in ue_context_modification_response_in ue_context_release_command_in ue_context_release_complete_in dl_rrc_message_transfer_in ul_rrc_message_transfer_in
 unknown index code criticality body e = unknown_by index code criticality body (is_at code index f1_setup_request) (is_at code index f1_setup_response) (is_at code index ue_context_setup_request) (is_at code index ue_context_setup_response) (is_at code index ue_context_modification_request) (is_at code index ue_context_modification_response) (is_at code index ue_context_release_command) (is_at code index ue_context_release_complete) (is_at code index dl_rrc_message_transfer) (is_at code index ul_rrc_message_transfer) (message_form f1_setup_request) (message_form f1_setup_response) (message_form ue_context_setup_request) (message_form ue_context_setup_response) (message_form ue_context_modification_request) (message_form ue_context_modification_response) (message_form ue_context_release_command) (message_form ue_context_release_complete) (message_form dl_rrc_message_transfer) (message_form ul_rrc_message_transfer) e
 
-pub rejected : (id : ℕ) (v : Value) → rejected_in f1_messages v ≡ Some id → heard_f1 v ≡ Err (unknown_element id)
-unfolding heard_f1 f1_at f1_setup_request_in f1_setup_response_in ue_context_setup_request_in ue_context_setup_response_in ue_context_modification_request_in ue_context_modification_response_in ue_context_release_command_in ue_context_release_complete_in dl_rrc_message_transfer_in ul_rrc_message_transfer_in
+pub rejected : (id : ℕ) (v : Value) → rejected_in f1_messages v ≡ Some id → f1_from_value v ≡ Err (unknown_element id)
+unfolding f1_from_value f1_at f1_setup_request_in f1_setup_response_in ue_context_setup_request_in ue_context_setup_response_in ue_context_modification_request_in ue_context_modification_response_in ue_context_release_command_in ue_context_release_complete_in dl_rrc_message_transfer_in ul_rrc_message_transfer_in
 rejected id (message index code criticality body) e = rejected_by index code criticality body id (is_at code index f1_setup_request) (is_at code index f1_setup_response) (is_at code index ue_context_setup_request) (is_at code index ue_context_setup_response) (is_at code index ue_context_modification_request) (is_at code index ue_context_modification_response) (is_at code index ue_context_release_command) (is_at code index ue_context_release_complete) (is_at code index dl_rrc_message_transfer) (is_at code index ul_rrc_message_transfer) e
 rejected id v e = cc

@@ -9,8 +9,8 @@ use Rattle.message_defs.specs.profile_defs.Tables.{is_at, outcome_at, message_fo
 use Rattle.message_defs.specs.profile_defs.Messages.{xn_messages, handover_request, handover_request_acknowledge, handover_preparation_failure, sn_status_transfer, handover_cancel, ue_context_release, transport_confirm}
 use Rattle.message_defs.specs.Fields.{to_index, to_number, to_peer, to_sn, to_statuses, to_tunnels, to_ue}
 use Rattle.message_defs.specs.Places.{the, elements_in, additions_in}
-use Rattle.message_defs.specs.Heard.{Cause, unknown_procedure, unknown_element, first_rejected, unless_rejected, rejected_in}
-use Rattle.message_defs.specs.Xn.{to_origin, xn_at, heard_xn}
+use Rattle.message_defs.specs.FromValue.{Cause, unknown_procedure, unknown_element, first_rejected, unless_rejected, rejected_in}
+use Rattle.message_defs.specs.Xn.{to_origin, xn_at, xn_from_value}
 
 handover_request_in : Value → XnMessage
 handover_request_in body = xns.HandoverRequest (the ies.ue to_ue (elements_in body)) (the ies.instance to_number (elements_in body)) (the ies.epoch to_number (elements_in body)) (the ies.bearers to_number (elements_in body)) (the ies.sn to_sn (elements_in body)) (the ies.quota to_number (elements_in body)) (the ies.peer to_peer (elements_in body)) (the ies.du to_number (elements_in body)) (to_origin (additions_in body))
@@ -57,11 +57,11 @@ module _ (index code criticality : ℕ) (body : Value) where
   rejected_by id false false false false false false false e = cc
 
 pub unknown : (version : ℕ) (index code criticality : ℕ) (body : Value) → outcome_at code index (xn_messages version) ≡ no_form
-    → heard_xn (message index code criticality body) ≡ Err (unknown_procedure code criticality)
-unfolding heard_xn xn_at handover_request_in handover_request_acknowledge_in handover_preparation_failure_in sn_status_transfer_in handover_cancel_in ue_context_release_in transport_confirm_in
+    → xn_from_value (message index code criticality body) ≡ Err (unknown_procedure code criticality)
+unfolding xn_from_value xn_at handover_request_in handover_request_acknowledge_in handover_preparation_failure_in sn_status_transfer_in handover_cancel_in ue_context_release_in transport_confirm_in
 unknown version index code criticality body e = unknown_by index code criticality body (is_at code index (handover_request 2)) (is_at code index handover_request_acknowledge) (is_at code index handover_preparation_failure) (is_at code index sn_status_transfer) (is_at code index handover_cancel) (is_at code index ue_context_release) (is_at code index transport_confirm) (message_form (handover_request version)) (message_form handover_request_acknowledge) (message_form handover_preparation_failure) (message_form sn_status_transfer) (message_form handover_cancel) (message_form ue_context_release) (message_form transport_confirm) e
 
-pub rejected : (version : ℕ) (id : ℕ) (v : Value) → rejected_in (xn_messages version) v ≡ Some id → heard_xn v ≡ Err (unknown_element id)
-unfolding heard_xn xn_at handover_request_in handover_request_acknowledge_in handover_preparation_failure_in sn_status_transfer_in handover_cancel_in ue_context_release_in transport_confirm_in
+pub rejected : (version : ℕ) (id : ℕ) (v : Value) → rejected_in (xn_messages version) v ≡ Some id → xn_from_value v ≡ Err (unknown_element id)
+unfolding xn_from_value xn_at handover_request_in handover_request_acknowledge_in handover_preparation_failure_in sn_status_transfer_in handover_cancel_in ue_context_release_in transport_confirm_in
 rejected version id (message index code criticality body) e = rejected_by index code criticality body id (is_at code index (handover_request 2)) (is_at code index handover_request_acknowledge) (is_at code index handover_preparation_failure) (is_at code index sn_status_transfer) (is_at code index handover_cancel) (is_at code index ue_context_release) (is_at code index transport_confirm) e
 rejected version id v e = cc

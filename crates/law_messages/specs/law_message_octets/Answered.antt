@@ -4,7 +4,7 @@ use Rattle.aper_defs.specs.Trees.{Tree}
 use Rattle.aper_defs.specs.Values.{Value}
 use Rattle.aper_defs.specs.Spelling.{Spells}
 use Rattle.aper_defs.specs.Reading.{decoded}
-use Rattle.message_defs.specs.Heard.{Cause, unknown_procedure, unknown_element}
+use Rattle.message_defs.specs.FromValue.{Cause, unknown_procedure, unknown_element}
 use Rattle.message_octets.specs.declared.error.MsgError.{MsgError}
 use Rattle.message_octets.specs.declared.error.MsgError.TheVariants as errors
 
@@ -38,4 +38,4 @@ pub record IsMessageWhereSaid (M : Type 0) (answers : Result M MsgError → Type
 
 -- this message is heard in the value that is found in the octets
 abbrev pub IsFoundIn : {M : Type 0} → Tree → (Value → Result M Cause) → M → List ℕ → Type 0
-IsFoundIn t heard msg octets = (v : Value) × (decoded t octets ≡ Ok v) × (heard v ≡ Ok msg)
+IsFoundIn t from_value msg octets = (v : Value) × (decoded t octets ≡ Ok v) × (from_value v ≡ Ok msg)

@@ -14,19 +14,19 @@ use Rattle.tables.proofs.TableLaws.{find-mapped}
 use Rattle.transaction_defs.specs.Callers.{rests as caller_rests}
 use Rattle.unit_defs.specs.Transactions.{terminal_rests}
 use Rattle.unit_defs.specs.Ways.{Message, Pdu, Load}
-use Rattle.unit_defs.specs.UpRecords.{CuUp}
+use Rattle.unit_defs.specs.CuUpRecords.{CuUp}
 use Rattle.unit_defs.specs.Ue.{UeNode, is_connected}
-use Rattle.unit_defs.specs.Accessors.{ue_rests, up_rests}
+use Rattle.unit_defs.specs.Accessors.{ue_rests, cu_up_rests}
 use Rattle.unit_defs.specs.octet_defs.Codec.{Codec}
 use Rattle.unit_defs.specs.octet_defs.Spelling.{spelled}
 use Rattle.transport_defs.specs.declared.Item.{Item}
-use Rattle.transport_defs.specs.declared.Letter.{Letter}
-use Rattle.transport_defs.specs.Links.{Bag, Radio, letter, is_of, in_flight_of, is_of_bearer}
+use Rattle.transport_defs.specs.declared.ControlMessage.{ControlMessage}
+use Rattle.transport_defs.specs.Links.{Bag, Radio, control_message, is_of, in_flight_of, is_of_bearer}
 use Rattle.run_defs.specs.Written.{Written}
 use Rattle.run_defs.specs.Units.{ue_of, has_attempt, requests_rest}
 use Rattle.run_defs.specs.Conditions.{is_quiet_with, rests}
 use Rattle.law_octets_say_the_same.specs.octet_rows.Octets.{up_again}
-use Rattle.law_octets_say_the_same.specs.octet_runs.Again.{PlainState, PlainUnits, OctetState, items_again, radio_again, units_again, letter_again, bag_again, state_again}
+use Rattle.law_octets_say_the_same.specs.octet_runs.Again.{PlainState, PlainUnits, OctetState, items_again, radio_again, units_again, control_message_again, bag_again, state_again}
 use Rattle.law_octets_say_the_same.specs.octet_runs.Faithful.{RestsAlike}
 
 -- ---- links
@@ -51,26 +51,26 @@ module _ (ue : UeId) (bearer : BearerId) where
   radios_same (e ∷ rs) = λ i. not (any_same e.1.items i) && radios_same rs i
 
   ups_same : (us : List (NodeId × CuUp (Message Token) Token))
-      → list_all (λ (e : NodeId × CuUp (List ℕ) (List ℕ)). up_rests e.1 ue bearer) (map_values up_again us)
-      ≡ list_all (λ (e : NodeId × CuUp (Message Token) Token). up_rests e.1 ue bearer) us
+      → list_all (λ (e : NodeId × CuUp (List ℕ) (List ℕ)). cu_up_rests e.1 ue bearer) (map_values up_again us)
+      ≡ list_all (λ (e : NodeId × CuUp (Message Token) Token). cu_up_rests e.1 ue bearer) us
   unfolding map_values
   ups_same [] = refl
-  ups_same (e ∷ us) = ap (λ (t : Bool). up_rests e.1 ue bearer && t) (ups_same us)
+  ups_same (e ∷ us) = ap (λ (t : Bool). cu_up_rests e.1 ue bearer && t) (ups_same us)
 
 -- ---- control messages in flight, and requests
 
-module _ (spell : Message Token → List ℕ) (bag : Bag (Message Token)) (who : ℕ) where
-  same_letter : (number : ℕ) → is_of who (letter (bag_again spell bag) number) ≡ is_of who (letter bag number)
-  unfolding letter
-  same_letter number = ap (is_of who) (find-mapped nat_cmp (letter_again spell) bag.letters number) ∙ by (find nat_cmp bag.letters number)
+module _ (encode : Message Token → List ℕ) (bag : Bag (Message Token)) (who : ℕ) where
+  same_control_message : (number : ℕ) → is_of who (control_message (bag_again encode bag) number) ≡ is_of who (control_message bag number)
+  unfolding control_message
+  same_control_message number = ap (is_of who) (find-mapped nat_cmp (control_message_again encode) bag.control_messages number) ∙ by (find nat_cmp bag.control_messages number)
     where
-      by : (o : Option (Letter (Message Token))) → is_of who (option_map (letter_again spell) o) ≡ is_of who o
+      by : (o : Option (ControlMessage (Message Token))) → is_of who (option_map (control_message_again encode) o) ≡ is_of who o
       by None = refl
       by (Some l) = refl
 
-  flight_same : in_flight_of (bag_again spell bag) who ≡ in_flight_of bag who
+  flight_same : in_flight_of (bag_again encode bag) who ≡ in_flight_of bag who
   unfolding in_flight_of
-  flight_same = λ i. count_by (λ number. same_letter number i) bag.flight
+  flight_same = λ i. count_by (λ number. same_control_message number i) bag.flight
 
 none_asked : (u : PlainUnits) (who : UeId) → requests_rest (units_again u) who ≡ true
 unfolding terminal_rests caller_rests

@@ -14,7 +14,7 @@ use Rattle.run_defs.specs.Said.{is_refusal, lines_in, offered_by, Offered, all_l
 use Rattle.run_defs.specs.States.{Lengths, RunStep}
 use Rattle.run_defs.specs.Runs.{Happened}
 use Rattle.run_defs.specs.Local.{item_key, ShowsOffered, IsPlaceLine, CountMeansFrom, CountMeans, sn_in}
-use Rattle.law_downlink_scripts.specs.steady_runs.Scripts.{DeliversInOrder}
+use Rattle.law_downlink_scripts.specs.downlink_only_runs.Scripts.{DeliversInOrder}
 use Rattle.law_octets_say_the_same.proofs.octet_local.Retold.{append_mapped, all_mapped, reline, restep, rehap, its_lines, refused, lengths}
 
 flat_mapped : {A B C : Type 0} (f : A → B) (g : B → List C) (h : A → List C) → ((x : A) → g (f x) ≡ h x) → (xs : List A)

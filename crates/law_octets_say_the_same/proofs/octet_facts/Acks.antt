@@ -27,11 +27,11 @@ use Rattle.proof_run_steps.specs.steps.Causes.{by_ack}
 use Rattle.law_tunnels_are_owned.specs.owner_facts.Owned.{AreOwned}
 use Rattle.proof_run_steps.specs.facts.Facts.{Hold}
 use Rattle.proof_run_steps.proofs.facts.Units.{with_du_holds}
-use Rattle.law_downlink_scripts.proofs.steady_rows.Dus.{confirms}
-use Rattle.law_downlink_scripts.proofs.steady_facts.Views.{PlainState, OnRadio, View, Sees, Stage, comes, lacks, stands, AllStand}
-use Rattle.law_downlink_scripts.proofs.steady_facts.Keys.{DuFound, du_found}
-use Rattle.law_downlink_scripts.proofs.steady_events.Airs.{silent_up}
-use Rattle.law_downlink_scripts.proofs.steady_events.Acks.{at_the_du}
+use Rattle.law_downlink_scripts.proofs.downlink_only_rows.Dus.{confirms}
+use Rattle.law_downlink_scripts.proofs.downlink_only_facts.Views.{PlainState, OnRadio, View, Sees, Stage, comes, lacks, stands, AllStand}
+use Rattle.law_downlink_scripts.proofs.downlink_only_facts.Keys.{DuFound, du_found}
+use Rattle.law_downlink_scripts.proofs.downlink_only_events.Airs.{silent_up}
+use Rattle.law_downlink_scripts.proofs.downlink_only_events.Acks.{at_the_du}
 use Rattle.law_octets_say_the_same.specs.octet_facts.Ranges.{IsPduInRange}
 use Rattle.law_octets_say_the_same.proofs.octet_facts.Facts.{Parts, ranges}
 use Rattle.law_octets_say_the_same.proofs.octet_facts.Does.{PlainDone, Answers, Keeps, DoneKeeps, does_keeps}

@@ -22,14 +22,14 @@ use Rattle.run_defs.specs.Conditions.{ready_home, receiver_of}
 use Rattle.run_defs.specs.Events.{carry_done, carried_by, air_item, air_at, air}
 use Rattle.run_defs.specs.Runs.{Reading, Plain, plain_way, plain_world, content_of, ue_stepped, stepped_with}
 use Rattle.proof_run_steps.specs.steps.Causes.{by_air}
-use Rattle.proof_run_steps.specs.steps.Made.{IsDone}
+use Rattle.proof_run_steps.specs.steps.IsOutcome.{IsDone}
 use Rattle.proof_run_steps.specs.facts.Facts.{Hold, PutsFit}
 use Rattle.proof_run_steps.proofs.facts.Units.{with_ue_holds}
-use Rattle.law_downlink_scripts.specs.steady_rows.Steady.{UeTakes}
-use Rattle.law_downlink_scripts.proofs.steady_rows.Ues.{ue_takes}
-use Rattle.law_downlink_scripts.proofs.steady_facts.Views.{PlainState, OnRadio, View, pdu_of, pdus_from, Sees, IsInOrder, Stage, comes, lacks, stands, AllStand}
-use Rattle.law_downlink_scripts.proofs.steady_steps.Ues.{nth_after}
-use Rattle.law_downlink_scripts.proofs.steady_events.Airs.{silent_up}
+use Rattle.law_downlink_scripts.specs.downlink_only_rows.DownlinkOnly.{UeTakes}
+use Rattle.law_downlink_scripts.proofs.downlink_only_rows.Ues.{ue_takes}
+use Rattle.law_downlink_scripts.proofs.downlink_only_facts.Views.{PlainState, OnRadio, View, pdu_of, pdus_from, Sees, IsInOrder, Stage, comes, lacks, stands, AllStand}
+use Rattle.law_downlink_scripts.proofs.downlink_only_steps.Ues.{nth_after}
+use Rattle.law_downlink_scripts.proofs.downlink_only_events.Airs.{silent_up}
 use Rattle.law_octets_say_the_same.proofs.octet_facts.Facts.{Parts, ranges}
 use Rattle.law_octets_say_the_same.proofs.octet_facts.Does.{PlainDone, Answers, Keeps, DoneKeeps, does_keeps}
 

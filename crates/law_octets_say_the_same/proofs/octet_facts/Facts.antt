@@ -15,10 +15,10 @@ use Rattle.pdcp.specs.Near.{last_count}
 use Rattle.link_defs.specs.Decoding.{IsSized}
 use Rattle.unit_defs.specs.Teids.{last_teid, teids_are_left, teid_after}
 use Rattle.unit_defs.specs.Ways.{Message, Pdu, packet_pdu, Load, fresh, frame, status}
-use Rattle.unit_defs.specs.UpRecords.{UpBearer, UpContext, CuUp}
+use Rattle.unit_defs.specs.CuUpRecords.{CuUpBearer, CuUpContext, CuUp}
 use Rattle.unit_defs.specs.CuUp.{context_of}
-use Rattle.unit_defs.specs.Accessors.{cp_rests}
-use Rattle.unit_defs.specs.CpRecords.{CuCpRecord}
+use Rattle.unit_defs.specs.Accessors.{cu_cp_rests}
+use Rattle.unit_defs.specs.CuCpRecords.{CuCpRecord}
 use Rattle.unit_defs.specs.Du.{Du}
 use Rattle.run_defs.specs.Written.{Written}
 use Rattle.proof_run_steps.specs.teids.Given.{GivesNext, below, GrowsTo}
@@ -38,11 +38,11 @@ IsOnLink Acks load = ⊥
 
 -- ---- units
 
-abbrev pub IsGood : UpBearer → Type 0
+abbrev pub IsGood : CuUpBearer → Type 0
 IsGood b = CountsInRange b × AllByRecursion IsSized b.waiting
 
-abbrev pub AreGood : {M C : Type 0} → (UpBearer → Type 0) → CuUp M C → Type 0
-AreGood Q r = (ue : UeId) (c : UpContext) → context_of r ue ≡ Some c → (bearer : BearerId) (b : UpBearer) → find bearer_cmp c.bearers bearer ≡ Some b → Q b
+abbrev pub AreGood : {M C : Type 0} → (CuUpBearer → Type 0) → CuUp M C → Type 0
+AreGood Q r = (ue : UeId) (c : CuUpContext) → context_of r ue ≡ Some c → (bearer : BearerId) (b : CuUpBearer) → find bearer_cmp c.bearers bearer ≡ Some b → Q b
 
 -- TEIDs that fit stand in this table, and come next
 abbrev pub TeidsFit : {X : Type 0} → ℕ → List (ℕ × X) → Type 0
@@ -57,7 +57,7 @@ DuIn r = TeidsFit r.next_teid r.tunnels
 
 -- no request is open or waits
 abbrev pub CpIn : CuCpRecord (Message Token) Token → Type 0
-CpIn r = (who : UeId) → cp_rests r who ≡ true
+CpIn r = (who : UeId) → cu_cp_rests r who ≡ true
 
 abbrev pub Parts : UnitFacts
 Parts = alone (λ g n r. UpIn r) (λ g n r. DuIn r) (λ g r. CpIn r) (λ ue x. x.plan.ue ≡ ue) (λ r. Unit {0})
@@ -66,7 +66,7 @@ abbrev pub ranges : Type 0 → Facts (Message Token) Token (Written (Load Pdu)) 
 ranges Acks = record {
   units = OfUnits Parts;
   core = λ r. Unit {0};
-  letter = λ l. Unit {0};
+  control_message = λ l. Unit {0};
   puts_on = λ node end item. IsOnLink Acks item.content.says;
   puts_on_air = λ node key item. IsPduInRange item.content.says;
   on_tunnel = λ end item. IsOnLink Acks item.content.says;
@@ -107,13 +107,13 @@ module _ {X : Type 0} where
 
 -- ---- bearers of a CU-UP where one is changed
 
-module _ {M C : Type 0} (Q : UpBearer → Type 0) (r s : CuUp M C) (ue : UeId) (c : UpContext) (bearer : BearerId) (b : UpBearer) where
+module _ {M C : Type 0} (Q : CuUpBearer → Type 0) (r s : CuUp M C) (ue : UeId) (c : CuUpContext) (bearer : BearerId) (b : CuUpBearer) where
   pub good_put : AreGood Q r → context_of r ue ≡ Some c → s.contexts ≡ put ue_cmp r.contexts ue (record c { bearers = put bearer_cmp c.bearers bearer b }) → Q b
       → AreGood Q s
   good_put all there is good who d found q x has =
       in_contexts (eq_by_cmp ue_cmp who ue) (sym (find-put ue_total r.contexts ue changed who) ∙ ap (λ es. find ue_cmp es who) (sym is) ∙ found)
     where
-      changed : UpContext
+      changed : CuUpContext
       changed = record c { bearers = put bearer_cmp c.bearers bearer b }
 
       in_bearers : (t : Bool) → cond t (Some b) (find bearer_cmp c.bearers q) ≡ Some x → Q x
@@ -124,5 +124,5 @@ module _ {M C : Type 0} (Q : UpBearer → Type 0) (r s : CuUp M C) (ue : UeId) (
       in_contexts true e =
           let same : changed ≡ d = cc in
           in_bearers (eq_by_cmp bearer_cmp q bearer)
-          (sym (find-put bearer_total c.bearers bearer b q) ∙ ap (λ (z : UpContext). find bearer_cmp z.bearers q) same ∙ has)
+          (sym (find-put bearer_total c.bearers bearer b q) ∙ ap (λ (z : CuUpContext). find bearer_cmp z.bearers q) same ∙ has)
       in_contexts false e = all who d e q x has

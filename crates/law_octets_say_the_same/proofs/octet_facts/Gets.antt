@@ -20,36 +20,36 @@ use Rattle.pdcp.specs.Near.{last_count}
 use Rattle.link_defs.specs.Decoding.{IsSized}
 use Rattle.scenario_text.specs.declared.event.Event.{Event}
 use Rattle.unit_defs.specs.Ways.{Message, Pdu, packet_pdu, Load, fresh, frame, Taken, fresh_item, status_item, packet_input, Output, radio, gives, spent}
-use Rattle.unit_defs.specs.UpRecords.{UpBearer, UpContext, TunnelKind, n3, f1u_uplink, forwarding_down, forwarding_up, UpTunnel, CuUp, up_at}
-use Rattle.unit_defs.specs.UpBearers.{is_one_of, teid_in, last_frame}
+use Rattle.unit_defs.specs.CuUpRecords.{CuUpBearer, CuUpContext, TunnelKind, n3, f1u_uplink, forwarding_down, forwarding_up, CuUpTunnel, CuUp, cu_up_scope}
+use Rattle.unit_defs.specs.CuUpBearers.{is_one_of, teid_in, last_frame}
 use Rattle.unit_defs.specs.CuUp.{cu_up_acts}
 use Rattle.unit_defs.specs.Du.{Du, DuTunnel, with_bearer, du_acts}
-use Rattle.run_defs.specs.Units.{up_of, with_up, du_of, with_du}
+use Rattle.run_defs.specs.Units.{cu_up_of, with_cu_up, du_of, with_du}
 use Rattle.run_defs.specs.Written.{written_put, written_step}
 use Rattle.run_defs.specs.States.{item_for, stepped, sn_of}
 use Rattle.run_defs.specs.Steps.{is_done, is_held, is_refused}
 use Rattle.run_defs.specs.Events.{get_done, got_by, get_on, get}
 use Rattle.run_defs.specs.Runs.{Reading, Plain, plain_way, plain_world, stepped_with, taken_of}
 use Rattle.proof_run_steps.specs.steps.Causes.{by_item}
-use Rattle.proof_run_steps.specs.steps.Made.{IsDone}
+use Rattle.proof_run_steps.specs.steps.IsOutcome.{IsDone}
 use Rattle.proof_run_steps.specs.teids.Given.{GivesTeids}
 use Rattle.proof_run_steps.proofs.teids.CuUps.{cu_up_gives}
 use Rattle.law_tunnels_are_owned.specs.open_tunnels.Open.{is_open_in, StandWhereOpen}
 use Rattle.law_tunnels_are_owned.specs.owner_facts.Owned.{ends_of as teids_of, AreOwned}
 use Rattle.law_tunnels_are_owned.specs.link_items.Items.{ItemsShow}
-use Rattle.proof_cu_up_orders.specs.context_orders.Orders.{UpPart, part_of as up_part_of}
+use Rattle.proof_cu_up_orders.specs.context_orders.Orders.{CuUpModel, model_of as up_model_of}
 use Rattle.proof_unit_steps.specs.count_ranges.Ranges.{CountsInRange, IsNextFrame}
 use Rattle.proof_run_steps.specs.facts.Facts.{Hold, PutsFit}
 use Rattle.proof_run_steps.proofs.facts.Units.{with_up_holds, with_du_holds}
 use Rattle.proof_run_steps.proofs.facts.Within.{all_and}
-use Rattle.law_downlink_scripts.specs.steady_rows.Steady.{TheEnds, serving, IsNumbered, UpTakes}
-use Rattle.law_downlink_scripts.proofs.steady_rows.Takes.{takes_fresh, takes_status}
-use Rattle.law_downlink_scripts.proofs.steady_rows.Dus.{passes}
-use Rattle.proof_node_orders.specs.du_inputs.Changes.{DuPart, part_of as du_part_of}
-use Rattle.law_downlink_scripts.proofs.steady_facts.Views.{PlainState, OnTunnel, View, load_of, fresh_ones, frames_from, IsCalm, n3_end, uplink_end, downlink_end, Sees, IsFit, IsInOrder, Stage, comes, lacks, stands, AllStand}
-use Rattle.law_downlink_scripts.proofs.steady_facts.Keys.{UpFound, up_found, DuFound, du_found}
-use Rattle.law_downlink_scripts.proofs.steady_facts.Ends.{n3_open, uplink_open, downlink_open, UpNamed, up_named, DuNamed, du_named}
-use Rattle.law_downlink_scripts.proofs.steady_events.Gets.{among_one}
+use Rattle.law_downlink_scripts.specs.downlink_only_rows.DownlinkOnly.{TheEnds, serving, IsNumbered, UpTakes}
+use Rattle.law_downlink_scripts.proofs.downlink_only_rows.Takes.{takes_fresh, takes_status}
+use Rattle.law_downlink_scripts.proofs.downlink_only_rows.Dus.{passes}
+use Rattle.proof_node_orders.specs.du_inputs.Changes.{DuModel, model_of as du_model_of}
+use Rattle.law_downlink_scripts.proofs.downlink_only_facts.Views.{PlainState, OnTunnel, View, load_of, fresh_ones, frames_from, IsCalm, n3_end, uplink_end, downlink_end, Sees, IsFit, IsInOrder, Stage, comes, lacks, stands, AllStand}
+use Rattle.law_downlink_scripts.proofs.downlink_only_facts.Keys.{UpFound, up_found, DuFound, du_found}
+use Rattle.law_downlink_scripts.proofs.downlink_only_facts.Ends.{n3_open, uplink_open, downlink_open, UpNamed, up_named, DuNamed, du_named}
+use Rattle.law_downlink_scripts.proofs.downlink_only_events.Gets.{among_one}
 use Rattle.law_octets_say_the_same.proofs.octet_facts.Facts.{IsOnLink, IsGood, UpIn, Parts, ranges, next_fits, teids_fit, good_put}
 use Rattle.law_octets_say_the_same.proofs.octet_facts.Ups.{Counts, fresh_counts, status_counts, sends_fit}
 use Rattle.law_octets_say_the_same.proofs.octet_facts.Does.{PlainDone, Answers, Keeps, DoneKeeps, does_keeps}
@@ -73,28 +73,28 @@ module _ (Acks : Type 0) (reading : Reading) (s : PlainState) (owned : AreOwned 
     -- ---- at a CU-UP: a packet of N3, or a delivery status
 
     abbrev r0 : CuUp (Message Token) Token
-    r0 = up_of s.units v.plan.gnb v.plan.up
+    r0 = cu_up_of s.units v.plan.gnb v.plan.up
 
     abbrev f : UpFound r0 ue bearer v.up
     f = up_found r0 ue bearer v.up sees.up
 
-    abbrev c : UpContext
+    abbrev c : CuUpContext
     c = f.context
 
-    abbrev x : UpBearer
+    abbrev x : CuUpBearer
     x = f.found
 
     x_is : x ≡ v.up.bearer
-    x_is = ap (λ (p : UpPart). p.bearer) f.is
+    x_is = ap (λ (p : CuUpModel). p.bearer) f.is
 
     serves : c.flags ≡ serving
-    serves = ap (λ (p : UpPart). p.at.flags) f.is ∙ fit.flags
+    serves = ap (λ (p : CuUpModel). p.at.flags) f.is ∙ fit.flags
 
     on : x.downlink ≡ Some v.downlink
-    on = ap (λ (b : UpBearer). b.downlink) x_is ∙ fit.downlink
+    on = ap (λ (b : CuUpBearer). b.downlink) x_is ∙ fit.downlink
 
     calm : x.restart ≡ false
-    calm = ap (λ (b : UpBearer). b.restart) x_is ∙ fit.restart
+    calm = ap (λ (b : CuUpBearer). b.restart) x_is ∙ fit.restart
 
     was : UpIn r0
     was = h.units.0 v.plan.gnb v.plan.up
@@ -102,15 +102,15 @@ module _ (Acks : Type 0) (reading : Reading) (s : PlainState) (owned : AreOwned 
     good : IsGood x
     good = was.bearers ue c f.there bearer x f.has
 
-    module _ (kind : TunnelKind) (teid context : ℕ) (first : UpBearer) (waits : AllByRecursion IsSized first.waiting) where
-      abbrev t : UpTunnel
+    module _ (kind : TunnelKind) (teid context : ℕ) (first : CuUpBearer) (waits : AllByRecursion IsSized first.waiting) where
+      abbrev t : CuUpTunnel
       t = record { ue = ue; bearer = bearer; kind = kind; context = context }
 
       abbrev end : TunnelEnd
       end = record { node = up_id v.plan.gnb v.plan.up; teid = teid }
 
-      module _ (outputs : List (Output (Message Token) Pdu)) (r : CuUp (Message Token) Token) (b : UpBearer)
-          (k : IsNumbered plain_way (up_at ue c bearer) v.downlink first b outputs) (counts : CountsInRange b) where
+      module _ (outputs : List (Output (Message Token) Pdu)) (r : CuUp (Message Token) Token) (b : CuUpBearer)
+          (k : IsNumbered plain_way (cu_up_scope ue c bearer) v.downlink first b outputs) (counts : CountsInRange b) where
         waited : AllByRecursion IsSized (k.packets ++ b.waiting)
         waited = subst (AllByRecursion IsSized) k.waited waits
 
@@ -126,18 +126,18 @@ module _ (Acks : Type 0) (reading : Reading) (s : PlainState) (owned : AreOwned 
         put_well : PutsFit (ranges Acks) (up_id v.plan.gnb v.plan.up) item.count (map (written_put (sn_of s)) outputs)
         put_well =
             subst (λ os. PutsFit (ranges Acks) (up_id v.plan.gnb v.plan.up) item.count (map (written_put (sn_of s)) os)) (sym k.sent)
-            (sends_fit Acks (sn_of s) (up_at ue c bearer) (up_id v.plan.gnb v.plan.up) item.count k.packets v.downlink first.sender.next
+            (sends_fit Acks (sn_of s) (cu_up_scope ue c bearer) (up_id v.plan.gnb v.plan.up) item.count k.packets v.downlink first.sender.next
             (front IsSized k.packets b.waiting waited) frames numbers)
 
       abbrev Acts : Plain (CuUp (Message Token) Token) → Type 0
-      Acts a = Answers Acks (by_item end item rest) (written_step (sn_of s) (stepped_with reading (with_up s.units v.plan.gnb v.plan.up) a))
+      Acts a = Answers Acks (by_item end item rest) (written_step (sn_of s) (stepped_with reading (with_cu_up s.units v.plan.gnb v.plan.up) a))
 
-      by_answer : (a : Plain (CuUp (Message Token) Token)) → UpTakes plain_way r0 ue c (up_at ue c bearer) v.downlink first a
+      by_answer : (a : Plain (CuUp (Message Token) Token)) → UpTakes plain_way r0 ue c (cu_up_scope ue c bearer) v.downlink first a
           → Counts plain_way r0 teid t c x serves good.0 a → GivesTeids (λ u. u.next_teid) (λ u. u.tunnels) r0 a → Acts a
       by_answer (spent counter) takes counts given = tt
       by_answer (gives outputs r) (inl (reason, holds)) counts given = λ done. absurd (subst (λ os. IsDone (map (written_put (sn_of s)) os)) holds done)
       by_answer (gives outputs r) (inr (b, k, contexts, named)) counts given =
-          let d : UpContext = record c { bearers = put bearer_cmp c.bearers bearer b } in
+          let d : CuUpContext = record c { bearers = put bearer_cmp c.bearers bearer b } in
           let in_range : CountsInRange b =
           counts d b (ap (λ es. find ue_cmp es ue) contexts ∙ find-put-same ue_total r0.contexts ue d) (find-put-same bearer_total c.bearers bearer b) in
           λ done. (
@@ -149,11 +149,11 @@ module _ (Acks : Type 0) (reading : Reading) (s : PlainState) (owned : AreOwned 
           )
 
       good_by : (input : Taken Pdu) → taken_of item.content.says ≡ input
-          → UpTakes plain_way r0 ue c (up_at ue c bearer) v.downlink first (cu_up_acts plain_way r0 (packet_input teid input))
+          → UpTakes plain_way r0 ue c (cu_up_scope ue c bearer) v.downlink first (cu_up_acts plain_way r0 (packet_input teid input))
           → Counts plain_way r0 teid t c x serves good.0 (cu_up_acts plain_way r0 (packet_input teid input)) → Good end
       good_by input says takes counts =
           subst (Answers Acks (by_item end item rest))
-          (sym (ap (λ (l : Taken Pdu). written_step (sn_of s) (stepped_with reading (with_up s.units v.plan.gnb v.plan.up) (cu_up_acts plain_way r0 (packet_input teid l)))) says))
+          (sym (ap (λ (l : Taken Pdu). written_step (sn_of s) (stepped_with reading (with_cu_up s.units v.plan.gnb v.plan.up) (cu_up_acts plain_way r0 (packet_input teid l)))) says))
           (by_answer (cu_up_acts plain_way r0 (packet_input teid input)) takes counts (cu_up_gives plain_way r0 (packet_input teid input)))
 
     n3_good : Stood (n3_end v) → Good (n3_end v)
@@ -216,8 +216,8 @@ module _ (Acks : Type 0) (reading : Reading) (s : PlainState) (owned : AreOwned 
             (du_acts plain_way du0 (packet_input v.du.bearer.downlink (taken_of l))))) says
             ∙ ap (λ a. written_step (sn_of s) (stepped_with reading (with_du s.units v.plan.gnb v.plan.du) a))
             (passes plain_way du0 v.du.bearer.downlink (record { ue = ue; bearer = bearer }) g.context g.found number (packet_pdu count p)
-            (downlink_open s owned ue bearer v sees fit) g.there g.has (ap (λ (z : DuPart). z.bearer.awaited) g.is ∙ awaited)
-            (ap (λ (z : DuPart). z.bearer.gap) g.is ∙ fit.gap))
+            (downlink_open s owned ue bearer v sees fit) g.there g.has (ap (λ (z : DuModel). z.bearer.awaited) g.is ∙ awaited)
+            (ap (λ (z : DuModel). z.bearer.gap) g.is ∙ fit.gap))
 
         frame_good : (number < 2 ^ 24) × (count ≤ last_count) × IsSized p → Good (downlink_end v)
         frame_good range =
@@ -238,7 +238,7 @@ module _ (Acks : Type 0) (reading : Reading) (s : PlainState) (owned : AreOwned 
 
   -- ---- whosever the tunnel is
 
-  at_up : (g : Gnb) (k teid : ℕ) (t : UpTunnel) → UpNamed s.units owned g k teid t → (n : ℕ) (left : List (List ℕ)) → Stage s t.ue t.bearer n left
+  at_up : (g : Gnb) (k teid : ℕ) (t : CuUpTunnel) → UpNamed s.units owned g k teid t → (n : ℕ) (left : List (List ℕ)) → Stage s t.ue t.bearer n left
       → Stood (record { node = up_id g k; teid = teid }) → Good (record { node = up_id g k; teid = teid })
   at_up g k teid t named n left (comes plan absent none first empty) found =
       let clash : None ≡ Some named.part = sym (none.0 g k) ∙ named.is in absurd cc
@@ -246,11 +246,11 @@ module _ (Acks : Type 0) (reading : Reading) (s : PlainState) (owned : AreOwned 
       let clash : None ≡ Some named.part = sym (none.0 g k) ∙ named.is in absurd cc
   at_up g k teid t named n left (stands v sees fit order) found =
       let here = sees.only_up g k named.part named.is in
-      let parts : Some named.part ≡ Some v.up = sym named.is ∙ (λ i. up_part_of (up_of s.units (here.0 i) (here.1 i)) t.ue t.bearer) ∙ sees.up in
+      let parts : Some named.part ≡ Some v.up = sym named.is ∙ (λ i. up_model_of (cu_up_of s.units (here.0 i) (here.1 i)) t.ue t.bearer) ∙ sees.up in
       let part : named.part ≡ v.up = cc in
       subst (λ (a : Gnb × ℕ). Stood (record { node = up_id a.0 a.1; teid = teid }) → Good (record { node = up_id a.0 a.1; teid = teid }))
       (λ i. (sym here.0 i, sym here.1 i))
-      (by_kind t.ue t.bearer v sees fit n left order t.kind teid (ap (λ (p : UpPart). is_one_of (teids_of t.kind p.bearer) teid) (sym part) ∙ named.among)) found
+      (by_kind t.ue t.bearer v sees fit n left order t.kind teid (ap (λ (p : CuUpModel). is_one_of (teids_of t.kind p.bearer) teid) (sym part) ∙ named.among)) found
 
   at_du : (g : Gnb) (k teid : ℕ) (t : DuTunnel) → DuNamed s.units owned g k teid t → (n : ℕ) (left : List (List ℕ)) → Stage s t.ue t.bearer n left
       → Stood (record { node = du_id g k; teid = teid }) → Good (record { node = du_id g k; teid = teid })
@@ -260,9 +260,9 @@ module _ (Acks : Type 0) (reading : Reading) (s : PlainState) (owned : AreOwned 
       let clash : None ≡ Some named.part = sym (none.1 g k) ∙ named.is in absurd cc
   at_du g k teid t named n left (stands v sees fit order) found =
       let here = sees.only_du g k named.part named.is in
-      let parts : Some named.part ≡ Some v.du = sym named.is ∙ (λ i. du_part_of (du_of s.units (here.0 i) (here.1 i)) t.ue t.bearer) ∙ sees.du in
+      let parts : Some named.part ≡ Some v.du = sym named.is ∙ (λ i. du_model_of (du_of s.units (here.0 i) (here.1 i)) t.ue t.bearer) ∙ sees.du in
       let part : named.part ≡ v.du = cc in
-      let same : teid ≡ v.du.bearer.downlink = sym named.downlink ∙ ap (λ (p : DuPart). p.bearer.downlink) part in
+      let same : teid ≡ v.du.bearer.downlink = sym named.downlink ∙ ap (λ (p : DuModel). p.bearer.downlink) part in
       subst (λ (e : TunnelEnd). Stood e → Good e) (λ i. record { node = du_id (sym here.0 i) (sym here.1 i); teid = sym same i })
       (downlink_good t.ue t.bearer v sees fit n left order) found
 
@@ -270,13 +270,13 @@ module _ (Acks : Type 0) (reading : Reading) (s : PlainState) (owned : AreOwned 
 
 module _ (s : PlainState) (where_open : StandWhereOpen s) (items : List OnTunnel) where
   pub open_up : (g : Gnb) (k teid : ℕ) → find tunnel_cmp s.tunnels (record { node = up_id g k; teid = teid }) ≡ Some items
-      → (t : UpTunnel) × (find nat_cmp (up_of s.units g k).tunnels teid ≡ Some t)
-  open_up g k teid found = by (find nat_cmp (up_of s.units g k).tunnels teid) refl
+      → (t : CuUpTunnel) × (find nat_cmp (cu_up_of s.units g k).tunnels teid ≡ Some t)
+  open_up g k teid found = by (find nat_cmp (cu_up_of s.units g k).tunnels teid) refl
     where
-      is_there : is_open_in (up_of s.units g k).tunnels teid ≡ true
+      is_there : is_open_in (cu_up_of s.units g k).tunnels teid ≡ true
       is_there = sym (where_open.0 g k teid) ∙ ap is_some found
 
-      by : (o : Option UpTunnel) → find nat_cmp (up_of s.units g k).tunnels teid ≡ o → (t : UpTunnel) × (find nat_cmp (up_of s.units g k).tunnels teid ≡ Some t)
+      by : (o : Option CuUpTunnel) → find nat_cmp (cu_up_of s.units g k).tunnels teid ≡ o → (t : CuUpTunnel) × (find nat_cmp (cu_up_of s.units g k).tunnels teid ≡ Some t)
       by None e = let clash : false ≡ true = sym (ap is_some e) ∙ is_there in absurd cc
       by (Some t) e = (t, e)
 

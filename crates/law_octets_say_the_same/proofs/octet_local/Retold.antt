@@ -10,7 +10,7 @@ use Rattle.gnb_types.specs.declared.keys.EntityKey.{EntityKey}
 use Rattle.scenario_text.specs.declared.line.OutLine.{OutLine}
 use Rattle.scenario_text.specs.declared.line.OutLine.TheVariants as outs
 use Rattle.run_defs.specs.Printing.{out_line}
-use Rattle.run_defs.specs.Lines.{Letter, RunLine, put_item, got_item, put_message, got_message, delivers, lost_items, lost_message, drops_input, held_at, procedure_failed, is_quiet, is_busy, has_settled, has_not_settled, was_refused}
+use Rattle.run_defs.specs.Lines.{ControlMessage, RunLine, put_item, got_item, put_message, got_message, delivers, lost_items, lost_message, drops_input, held_at, procedure_failed, is_quiet, is_busy, has_settled, has_not_settled, was_refused}
 use Rattle.run_defs.specs.Carried.{Carries, IsLaidOut}
 use Rattle.run_defs.specs.Said.{is_refusal, lines_in}
 use Rattle.run_defs.specs.States.{Lengths, RunStep}
@@ -53,14 +53,14 @@ all_mapped P Q f to (x ∷ xs) h = All-cons Q (f x) (map f xs) (to x (All-head P
 module _ {M N : Type 0} (f : M → N) where
   -- ---- a transcript in other words
 
-  abbrev pub relet : Letter M → Letter N
+  abbrev pub relet : ControlMessage M → ControlMessage N
   relet l = record { from = l.from; to = l.to; ue = l.ue; message = f l.message }
 
   abbrev pub reline : RunLine M → RunLine N
   reline (put_item link item) = put_item link item
   reline (got_item link item) = got_item link item
-  reline (put_message number letter) = put_message number (relet letter)
-  reline (got_message number letter) = got_message number (relet letter)
+  reline (put_message number control_message) = put_message number (relet control_message)
+  reline (got_message number control_message) = got_message number (relet control_message)
   reline (delivers key count packet) = delivers key count packet
   reline (lost_items link items) = lost_items link items
   reline (lost_message number) = lost_message number
@@ -198,19 +198,19 @@ back_step s = record { actor = s.actor; lines = map back_line s.lines }
 abbrev back_event : PrintedEvent → Happened (List ℕ)
 back_event h = record { event = h.event; steps = map back_step h.steps }
 
-module _ {M : Type 0} (spell : M → List ℕ) where
-  line_back : (l : RunLine M) → back_line (out_line spell l) ≡ reline spell l
+module _ {M : Type 0} (encode : M → List ℕ) where
+  line_back : (l : RunLine M) → back_line (out_line encode l) ≡ reline encode l
   line_back (put_item link item) = refl
   line_back l = refl
 
-  step_back : (s : RunStep M) → back_step (printed_step spell s) ≡ restep spell s
-  step_back s = ap (λ (ls : List (RunLine (List ℕ))). record { actor = s.actor; lines = ls }) (twice back_line (out_line spell) (reline spell) line_back s.lines)
+  step_back : (s : RunStep M) → back_step (printed_step encode s) ≡ restep encode s
+  step_back s = ap (λ (ls : List (RunLine (List ℕ))). record { actor = s.actor; lines = ls }) (twice back_line (out_line encode) (reline encode) line_back s.lines)
 
-  event_back : (h : Happened M) → back_event (printed_event spell h) ≡ rehap spell h
-  event_back h = ap (λ (ss : List (RunStep (List ℕ))). record { event = h.event; steps = ss }) (twice back_step (printed_step spell) (restep spell) step_back h.steps)
+  event_back : (h : Happened M) → back_event (printed_event encode h) ≡ rehap encode h
+  event_back h = ap (λ (ss : List (RunStep (List ℕ))). record { event = h.event; steps = ss }) (twice back_step (printed_step encode) (restep encode) step_back h.steps)
 
-  run_back : (hs : List (Happened M)) → map back_event (map (printed_event spell) hs) ≡ map (rehap spell) hs
-  run_back hs = twice back_event (printed_event spell) (rehap spell) event_back hs
+  run_back : (hs : List (Happened M)) → map back_event (map (printed_event encode) hs) ≡ map (rehap encode) hs
+  run_back hs = twice back_event (printed_event encode) (rehap encode) event_back hs
 
 abbrev Octets : Type 0
 Octets = List ℕ
@@ -228,13 +228,13 @@ step_itself s = ap (λ (ls : List (RunLine Octets)). record { actor = s.actor; l
 event_itself : (h : Happened Octets) → rehap itself h ≡ h
 event_itself h = ap (λ (ss : List (RunStep Octets)). record { event = h.event; steps = ss }) (unchanged (restep itself) step_itself h.steps)
 
-pub told_so : {M : Type 0} (spell : M → Octets) (said : Transcript M) (told : Transcript Octets) → printed itself told ≡ printed spell said
-    → map (rehap spell) said.events ≡ told.events
-told_so spell said told e =
-    sym (run_back spell said.events) ∙ ap (λ (p : Printed). map back_event p.events) (sym e) ∙ run_back itself told.events
+pub told_so : {M : Type 0} (encode : M → Octets) (said : Transcript M) (told : Transcript Octets) → printed itself told ≡ printed encode said
+    → map (rehap encode) said.events ≡ told.events
+told_so encode said told e =
+    sym (run_back encode said.events) ∙ ap (λ (p : Printed). map back_event p.events) (sym e) ∙ run_back itself told.events
     ∙ unchanged (rehap itself) event_itself told.events
 
-pub as_local : {M : Type 0} (spell : M → Octets) (P : NodeId → NodeId → M → Type 0) (Q : NodeId → NodeId → Octets → Type 0)
-    → ((a b : NodeId) (m : M) → P a b m → Q a b (spell m)) → (said : Transcript M) (told : Transcript Octets)
-    → printed itself told ≡ printed spell said → Local P said.events → Local Q told.events
-as_local spell P Q to said told e h = subst (λ (hs : List (Happened Octets)). Local Q hs) (told_so spell said told e) (retold_local spell P Q to said.events h)
+pub as_local : {M : Type 0} (encode : M → Octets) (P : NodeId → NodeId → M → Type 0) (Q : NodeId → NodeId → Octets → Type 0)
+    → ((a b : NodeId) (m : M) → P a b m → Q a b (encode m)) → (said : Transcript M) (told : Transcript Octets)
+    → printed itself told ≡ printed encode said → Local P said.events → Local Q told.events
+as_local encode P Q to said told e h = subst (λ (hs : List (Happened Octets)). Local Q hs) (told_so encode said told e) (retold_local encode P Q to said.events h)

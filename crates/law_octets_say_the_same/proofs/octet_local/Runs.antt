@@ -12,10 +12,10 @@ use Rattle.run_defs.specs.Runs.{Reading, Run}
 use Rattle.run_defs.specs.UnitRuns.{tables, UnitRun}
 use Rattle.law_octets_say_the_same.specs.octet_runs.Printed.{printed}
 use Rattle.law_octets_say_the_same.specs.octet_facts.Ranges.{IsDownWith, IsDown, IsConfirmedDown}
-use Rattle.law_octets_say_the_same.specs.octet_steady.Near.{StatusesAreNear}
-use Rattle.law_octets_say_the_same.proofs.octet_steady.Runs.{downs_print, confirmed_print}
+use Rattle.law_octets_say_the_same.specs.octet_downlink_only.Near.{StatusesAreNear}
+use Rattle.law_octets_say_the_same.proofs.octet_downlink_only.Runs.{downs_print, confirmed_print}
 use Rattle.law_units_act_locally.specs.local.Offered.{HasOctet, OffersHaveOctets}
-use Rattle.law_units_act_locally.specs.cp_interfaces.Interfaces.{IsOf}
+use Rattle.law_units_act_locally.specs.cu_cp_interfaces.Interfaces.{IsOf}
 use Rattle.law_units_act_locally.proofs.local_interfaces.Whole.{local_on_interfaces}
 use Rattle.law_octets_say_the_same.specs.octet_local.Spelt.{Spelt}
 use Rattle.law_octets_say_the_same.proofs.octet_local.Retold.{as_local}

@@ -25,15 +25,15 @@ use Rattle.scenario_text.specs.declared.event.Event.TheVariants as events
 use Rattle.unit_defs.specs.Ways.{Message, teids_spent}
 use Rattle.unit_defs.specs.Messages.{teid_of}
 use Rattle.unit_defs.specs.Teids.{last_teid}
-use Rattle.unit_defs.specs.UpRecords.{UpBearer, UpContext, CuUp}
-use Rattle.unit_defs.specs.UpBearers.{last_frame, made}
+use Rattle.unit_defs.specs.CuUpRecords.{CuUpBearer, CuUpContext, CuUp}
+use Rattle.unit_defs.specs.CuUpBearers.{last_frame, made}
 use Rattle.unit_defs.specs.CuUp.{bearers_from, bearers_made}
-use Rattle.unit_defs.specs.CpRecords.{CuCpRecord}
+use Rattle.unit_defs.specs.CuCpRecords.{CuCpRecord}
 use Rattle.unit_defs.specs.Du.{Du}
 use Rattle.unit_defs.specs.Core.{CorePath}
-use Rattle.unit_defs.specs.Static.{up_has_room, up_has_teids, du_has_teids, with_downlinks, up_context, up_placed, du_placed, cp_placed}
+use Rattle.unit_defs.specs.Static.{cu_up_has_room, cu_up_has_teids, du_has_teids, with_downlinks, cu_up_context, cu_up_placed, du_placed, cu_cp_placed}
 use Rattle.unit_defs.specs.Ue.{new_ue, placed, largest_packet}
-use Rattle.run_defs.specs.Units.{cp_of, up_of, du_of}
+use Rattle.run_defs.specs.Units.{cu_cp_of, cu_up_of, du_of}
 use Rattle.run_defs.specs.States.{stops, ◌next◌, goes_on, as_step, prints, refused, spent_counter, entity, was_attached, has_bearer}
 use Rattle.run_defs.specs.Steps.{put_on_tunnel, check_spans}
 use Rattle.run_defs.specs.Conditions.{is_held_by_units, statically, ask_line}
@@ -49,7 +49,7 @@ use Rattle.proof_run_steps.proofs.facts.Units.{units_set_up}
 use Rattle.proof_run_steps.proofs.facts.Within.{then_holds, keep_checked, keep_put_on_tunnel, same_links}
 use Rattle.proof_run_steps.proofs.facts.Steps.{found_has}
 use Rattle.proof_run_steps.proofs.facts.Runs.{step_holds, statically_holds}
-use Rattle.law_downlink_scripts.proofs.steady_facts.Views.{PlainState, OnTunnel, AllStand}
+use Rattle.law_downlink_scripts.proofs.downlink_only_facts.Views.{PlainState, OnTunnel, AllStand}
 use Rattle.law_octets_say_the_same.specs.octet_facts.Ranges.{IsDownWith}
 use Rattle.law_octets_say_the_same.proofs.octet_facts.Facts.{IsGood, AreGood, UpIn, DuIn, CpIn, Parts, ranges, left_fit, teids_fit}
 use Rattle.law_octets_say_the_same.proofs.octet_facts.Does.{Keeps}
@@ -105,7 +105,7 @@ no_count = omega arith
 no_frame : 0 ≤ last_frame + 1
 no_frame = omega arith
 
-abbrev Begins : BearerId × UpBearer → Type 0
+abbrev Begins : BearerId × CuUpBearer → Type 0
 Begins e = (e.1.sender.next ≤ last_count + 1) × AllByRecursion IsSized e.1.waiting
 
 made_begin : (target : Bool) (teid : ℕ) (bs : List BearerId) → AllByRecursion Begins (bearers_made target teid bs)
@@ -115,32 +115,32 @@ made_begin false teid [] = tt
 made_begin true teid (b ∷ bs) = ((no_count, tt), made_begin true (teid + 4) bs)
 made_begin false teid (b ∷ bs) = ((no_count, tt), made_begin false (teid + 2) bs)
 
-begin_good : (g : Gnb) (du teid : ℕ) (es : List (BearerId × UpBearer)) → AllByRecursion Begins es
-    → AllByRecursion (λ (e : BearerId × UpBearer). IsGood e.1) (with_downlinks g du teid es)
+begin_good : (g : Gnb) (du teid : ℕ) (es : List (BearerId × CuUpBearer)) → AllByRecursion Begins es
+    → AllByRecursion (λ (e : BearerId × CuUpBearer). IsGood e.1) (with_downlinks g du teid es)
 begin_good g du teid [] h = tt
 begin_good g du teid (e ∷ es) h = (((h.0.0, no_frame), h.0.1), begin_good g du (teid + 1) es h.1)
 
-module _ (r : CuUp (Message Token) Token) (plan : Plan) (downlink : ℕ) (was : UpIn r) (left : up_has_teids r plan ≡ true) where
-  placed_good : AreGood IsGood (up_placed r plan downlink)
-  unfolding up_placed
+module _ (r : CuUp (Message Token) Token) (plan : Plan) (downlink : ℕ) (was : UpIn r) (left : cu_up_has_teids r plan ≡ true) where
+  placed_good : AreGood IsGood (cu_up_placed r plan downlink)
+  unfolding cu_up_placed
   placed_good who d found q x has =
-      by (eq_by_cmp ue_cmp who plan.ue) (sym (find-put ue_total r.contexts plan.ue (up_context r plan downlink) who) ∙ found)
+      by (eq_by_cmp ue_cmp who plan.ue) (sym (find-put ue_total r.contexts plan.ue (cu_up_context r plan downlink) who) ∙ found)
     where
-      by : (t : Bool) → cond t (Some (up_context r plan downlink)) (find ue_cmp r.contexts who) ≡ Some d → IsGood x
+      by : (t : Bool) → cond t (Some (cu_up_context r plan downlink)) (find ue_cmp r.contexts who) ≡ Some d → IsGood x
       by true e =
-          let same : up_context r plan downlink ≡ d = cc in
-          found_has bearer_cmp IsGood (up_context r plan downlink).bearers q x
+          let same : cu_up_context r plan downlink ≡ d = cc in
+          found_has bearer_cmp IsGood (cu_up_context r plan downlink).bearers q x
           (begin_good r.gnb plan.du downlink (bearers_made false r.next_teid (bearers_from 1 plan.bearers)) (made_begin false r.next_teid (bearers_from 1 plan.bearers)))
-          (ap (λ (z : UpContext). find bearer_cmp z.bearers q) same ∙ has)
+          (ap (λ (z : CuUpContext). find bearer_cmp z.bearers q) same ∙ has)
       by false e = was.bearers who d e q x has
 
-  up_last : below (up_placed r plan downlink).next_teid ≤ last_teid + 1
-  unfolding up_placed
+  up_last : below (cu_up_placed r plan downlink).next_teid ≤ last_teid + 1
+  unfolding cu_up_placed
   up_last = left_fit r.next_teid (2 * plan.bearers) left
 
-  up_in : UpIn (up_placed r plan downlink)
+  up_in : UpIn (cu_up_placed r plan downlink)
   up_in = record {
-    teids = teids_fit r.next_teid r.tunnels (up_placed r plan downlink).next_teid (up_placed r plan downlink).tunnels (up_grows r plan downlink left) was.teids up_last;
+    teids = teids_fit r.next_teid r.tunnels (cu_up_placed r plan downlink).next_teid (cu_up_placed r plan downlink).tunnels (up_grows r plan downlink left) was.teids up_last;
     bearers = placed_good;
   }
 
@@ -153,8 +153,8 @@ module _ (r : Du (Message Token) Token) (plan : Plan) (uplink : ℕ) (was : DuIn
   du_in =
       teids_fit r.next_teid r.tunnels (du_placed r plan uplink).next_teid (du_placed r plan uplink).tunnels (du_grows r plan uplink left) was du_last
 
-cp_in : (r : CuCpRecord (Message Token) Token) (plan : Plan) → CpIn r → CpIn (cp_placed r plan)
-unfolding cp_placed
+cp_in : (r : CuCpRecord (Message Token) Token) (plan : Plan) → CpIn r → CpIn (cu_cp_placed r plan)
+unfolding cu_cp_placed
 cp_in r plan k = k
 
 placed_own : (plan : Plan) → (placed (new_ue plan)).plan.ue ≡ plan.ue
@@ -162,37 +162,37 @@ unfolding placed new_ue
 placed_own plan = refl
 
 module _ (Acks : Type 0) (reading : Reading) (s : PlainState) (h : Hold (ranges Acks) s) (plan : Plan) where
-  seats : up_has_teids (up_of s.units plan.gnb plan.up) plan && du_has_teids (du_of s.units plan.gnb plan.du) plan ≡ true → Hold (ranges Acks) (statically plan s)
+  seats : cu_up_has_teids (cu_up_of s.units plan.gnb plan.up) plan && du_has_teids (du_of s.units plan.gnb plan.du) plan ≡ true → Hold (ranges Acks) (statically plan s)
   seats teids =
-      let both = and_parts (up_has_teids (up_of s.units plan.gnb plan.up) plan) (du_has_teids (du_of s.units plan.gnb plan.du) plan) teids in
+      let both = and_parts (cu_up_has_teids (cu_up_of s.units plan.gnb plan.up) plan) (du_has_teids (du_of s.units plan.gnb plan.du) plan) teids in
       statically_holds (plain_world reading) (ranges Acks) plan s h
       (units_set_up Parts (λ g n r k. record { teids = k.teids; bearers = k.bearers }) (λ g n r k. k) (λ g r k. k) s.units plan h.units (placed_own plan)
-      (up_in (up_of s.units plan.gnb plan.up) plan (du_of s.units plan.gnb plan.du).next_teid (h.units.0 plan.gnb plan.up) both.0)
-      (du_in (du_of s.units plan.gnb plan.du) plan ((up_of s.units plan.gnb plan.up).next_teid + 1) (h.units.1 plan.gnb plan.du) both.1)
-      (cp_in (cp_of s.units plan.gnb) plan (h.units.2 plan.gnb)))
+      (up_in (cu_up_of s.units plan.gnb plan.up) plan (du_of s.units plan.gnb plan.du).next_teid (h.units.0 plan.gnb plan.up) both.0)
+      (du_in (du_of s.units plan.gnb plan.du) plan ((cu_up_of s.units plan.gnb plan.up).next_teid + 1) (h.units.1 plan.gnb plan.du) both.1)
+      (cp_in (cu_cp_of s.units plan.gnb) plan (h.units.2 plan.gnb)))
       tt
 
   static_keeps : Keeps Acks reading (static (plain_world reading) plan s)
   unfolding static
   static_keeps = fresh (was_attached s plan.ue || is_held_by_units plan s.units)
     where
-      left : (t : Bool) → up_has_teids (up_of s.units plan.gnb plan.up) plan && du_has_teids (du_of s.units plan.gnb plan.du) plan ≡ t
+      left : (t : Bool) → cu_up_has_teids (cu_up_of s.units plan.gnb plan.up) plan && du_has_teids (du_of s.units plan.gnb plan.du) plan ≡ t
           → Keeps Acks reading (if t then goes_on (statically plan s) else stops [] (spent_counter teids_spent))
       left true teids = seats teids
       left false teids = tt
 
       room : (t : Bool) → Keeps Acks reading (if t then refused Quota s else
-          (if up_has_teids (up_of s.units plan.gnb plan.up) plan && du_has_teids (du_of s.units plan.gnb plan.du) plan
+          (if cu_up_has_teids (cu_up_of s.units plan.gnb plan.up) plan && du_has_teids (du_of s.units plan.gnb plan.du) plan
           then goes_on (statically plan s) else stops [] (spent_counter teids_spent)))
       room true = h
-      room false = left (up_has_teids (up_of s.units plan.gnb plan.up) plan && du_has_teids (du_of s.units plan.gnb plan.du) plan) refl
+      room false = left (cu_up_has_teids (cu_up_of s.units plan.gnb plan.up) plan && du_has_teids (du_of s.units plan.gnb plan.du) plan) refl
 
       fresh : (t : Bool) → Keeps Acks reading (if t then refused Attached s else
-          (if not (up_has_room (up_of s.units plan.gnb plan.up) plan) then refused Quota s else
-          (if up_has_teids (up_of s.units plan.gnb plan.up) plan && du_has_teids (du_of s.units plan.gnb plan.du) plan
+          (if not (cu_up_has_room (cu_up_of s.units plan.gnb plan.up) plan) then refused Quota s else
+          (if cu_up_has_teids (cu_up_of s.units plan.gnb plan.up) plan && du_has_teids (du_of s.units plan.gnb plan.du) plan
           then goes_on (statically plan s) else stops [] (spent_counter teids_spent))))
       fresh true = h
-      fresh false = room (not (up_has_room (up_of s.units plan.gnb plan.up) plan))
+      fresh false = room (not (cu_up_has_room (cu_up_of s.units plan.gnb plan.up) plan))
 
 -- ---- a question
 

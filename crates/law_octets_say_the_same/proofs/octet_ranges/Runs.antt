@@ -18,7 +18,7 @@ use Rattle.scenario_text.specs.declared.event.Event.TheVariants as events
 use Rattle.unit_defs.specs.Ways.{Message, Pdu, packet_pdu, report_pdu, Load, fresh, numbered, frame, uplink, status, end_marker}
 use Rattle.transaction_defs.specs.Callers.{rests as caller_rests}
 use Rattle.unit_defs.specs.Transactions.{terminal_rests}
-use Rattle.unit_defs.specs.CpRecords.{new_cu_cp}
+use Rattle.unit_defs.specs.CuCpRecords.{new_cu_cp}
 use Rattle.unit_defs.specs.Teids.{last_teid}
 use Rattle.run_defs.specs.Units.{requests_rest}
 use Rattle.run_defs.specs.Written.{Written}
@@ -39,25 +39,25 @@ use Rattle.law_tunnels_are_owned.specs.run_lengths.Lengths.{IsWrittenBy, IsWritt
 use Rattle.law_tunnels_are_owned.proofs.run_lengths.Known.{length_is}
 use Rattle.law_tunnels_are_owned.proofs.run_lengths.Answers.{allows, lengths, lengths_kept}
 use Rattle.law_tunnels_are_owned.proofs.run_lengths.Runs.{first_lengths, planned}
-use Rattle.law_downlink_scripts.proofs.steady_facts.Views.{PlainState, OnTunnel, OnRadio, AllStand}
-use Rattle.law_downlink_scripts.proofs.steady_facts.Moves.{PlainStep, PlainOutcome, Fares}
-use Rattle.law_downlink_scripts.specs.steady_runs.Scripts.{IsSteady}
-use Rattle.law_downlink_scripts.proofs.steady_runs.First.{at_first}
-use Rattle.law_downlink_scripts.proofs.steady_runs.Runs.{reached_more, event_fares}
+use Rattle.law_downlink_scripts.proofs.downlink_only_facts.Views.{PlainState, OnTunnel, OnRadio, AllStand}
+use Rattle.law_downlink_scripts.proofs.downlink_only_facts.Moves.{PlainStep, PlainOutcome, Fares}
+use Rattle.law_downlink_scripts.specs.downlink_only_runs.Scripts.{IsDownlinkOnly}
+use Rattle.law_downlink_scripts.proofs.downlink_only_runs.First.{at_first}
+use Rattle.law_downlink_scripts.proofs.downlink_only_runs.Runs.{reached_more, event_fares}
 use Rattle.law_octets_say_the_same.specs.octet_facts.Ranges.{IsDownWith, IsInRange, IsPduInRange, IsWrittenOn, IsWrittenAt, IsRanged, AreRanged}
 use Rattle.law_octets_say_the_same.proofs.octet_facts.Facts.{IsOnLink, CpIn, Parts, ranges}
 use Rattle.law_octets_say_the_same.proofs.octet_facts.Does.{Keeps}
 use Rattle.law_octets_say_the_same.proofs.octet_facts.Gets.{open_up, open_du}
 use Rattle.law_octets_say_the_same.proofs.octet_ranges.Events.{event_keeps}
 
-steady : (Acks : Type 0) (event : Event) → IsDownWith Acks event → IsSteady event
-steady Acks (events.Static plan) h = tt
-steady Acks (events.Offer ue bearer Dl p) h = tt
-steady Acks (events.Get node teid) h = tt
-steady Acks (events.Air ue bearer dir) h = tt
-steady Acks (events.Ack ue bearer dir) h = tt
-steady Acks (events.Ask ue bearer) h = tt
-steady Acks event h = absurd h
+downlink_only : (Acks : Type 0) (event : Event) → IsDownWith Acks event → IsDownlinkOnly event
+downlink_only Acks (events.Static plan) h = tt
+downlink_only Acks (events.Offer ue bearer Dl p) h = tt
+downlink_only Acks (events.Get node teid) h = tt
+downlink_only Acks (events.Air ue bearer dir) h = tt
+downlink_only Acks (events.Ack ue bearer dir) h = tt
+downlink_only Acks (events.Ask ue bearer) h = tt
+downlink_only Acks event h = absurd h
 
 and_one : (Acks : Type 0) (past : List Event) (event : Event) → AllByRecursion (IsDownWith Acks) past → IsDownWith Acks event → AllByRecursion (IsDownWith Acks) (past ++ event ∷ [])
 and_one Acks [] event h one = (one, tt)
@@ -78,7 +78,7 @@ first_ranges Acks = record {
   units = first_hold Parts (λ g k. record { teids = (low_next, λ teid t e. absurd cc); bearers = λ ue c e bearer b f. absurd cc })
       (λ g k. (low_next, λ teid t e. absurd cc)) first_rest;
   core = tt;
-  letters = tt;
+  control_messages = tt;
   tunnels = λ end items found. absurd cc;
   radios = λ key. tt;
   few = λ counted. absurd counted;
@@ -118,7 +118,7 @@ module _ (Acks : Type 0) (reading : Reading) where
         fares : (who : UeId) (q : BearerId) → Fares who q event (c.standing who q).delivered (c.standing who q).left (goes steps after)
         fares who q =
             subst (Fares who q event (c.standing who q).delivered (c.standing who q).left) is
-            (event_fares reading event (steady Acks event one) s owned stands_open shows c.standing who q)
+            (event_fares reading event (downlink_only Acks event one) s owned stands_open shows c.standing who q)
 
   comes_to : (script : List Event) → AllByRecursion (IsDownWith Acks) script → (s t : PlainState) → Comes s → reached (plain_world reading) script s ≡ Some t → Comes t
   comes_to [] are s t c there = let same : s ≡ t = cc in subst Comes same c

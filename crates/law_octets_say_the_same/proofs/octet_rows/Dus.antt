@@ -19,7 +19,7 @@ use Rattle.link_defs.specs.Decoding as on
 use Rattle.link_defs.proofs.Pdus.{data_carried}
 use Rattle.link_defs.proofs.Written.{f1u_downlink_packet_decodes}
 use Rattle.unit_defs.specs.Ways.{Message, Pdu, packet_pdu, frame, status, packet, radio, Taken, frame_item, packet_input, confirm_input, Way, Answer, gives, ◌then◌, puts, drops}
-use Rattle.unit_defs.specs.Du.{Du, DuBearer, DuContext, DuTunnel, context_of, missing, is_missing, gap_after, with_bearer, frame_came, taken_in, taken_of, taken_on, take, of_bearer, of_context, confirmed, confirm, du_acts}
+use Rattle.unit_defs.specs.Du.{Du, DuBearer, DuContext, DuTunnel, context_of, missing, is_missing, gap_after, with_bearer, frame_received, taken_in, taken_of, taken_on, take, of_bearer, of_context, confirmed, confirm, du_acts}
 use Rattle.unit_defs.specs.octet_defs.Codec.{Codec, number_in, octet_way}
 use Rattle.unit_defs.specs.octet_defs.Writing.{pdu_octets, load_octets, written_load}
 use Rattle.unit_defs.specs.octet_defs.Reading.{du_item_read, read_du_context, read_du_item, pdu_read, read_du_pdu, content_by, no_count, read_at_du}
@@ -32,7 +32,7 @@ use Rattle.law_octets_say_the_same.specs.octet_rows.Octets.{du_again, answer_aga
 -- the row of a frame, where its bearer is there
 module _ {M C P : Type 0} (way : Way M C P) (r : Du M C) (c : DuContext) (b : DuBearer) where
   frame_by : (teid : ℕ) (item : Taken P) (t : DuTunnel) → find nat_cmp r.tunnels teid ≡ Some t → context_of r t.ue ≡ Some c
-      → find bearer_cmp c.bearers t.bearer ≡ Some b → du_acts way r (packet_input teid item) ≡ frame_came way t.ue t.bearer c b item r
+      → find bearer_cmp c.bearers t.bearer ≡ Some b → du_acts way r (packet_input teid item) ≡ frame_received way t.ue t.bearer c b item r
   unfolding du_acts take
   frame_by teid item t is_open there has =
       ap (taken_on way item r) is_open ∙ ap (taken_of way t.ue t.bearer item r) there ∙ ap (taken_in way t.ue t.bearer c item r) has
@@ -52,8 +52,8 @@ module _ (codec : Codec) (spelled : Message Token → List ℕ) (sn : Lengths) (
   -- ---- a frame that carries a PDU
 
   module _ (teid : ℕ) (t : DuTunnel) (c : DuContext) (b : DuBearer) (restart : Bool) (number : ℕ) (pdu : Pdu) where
-    frame_as : frame_came (octet_way codec) t.ue t.bearer c b (frame_item false restart number (Some (pdu_octets (sn t.ue) pdu))) here
-        ≡ answer_again spelled sn du_again (frame_came plain_way t.ue t.bearer c b (frame_item false restart number (Some pdu)) r)
+    frame_as : frame_received (octet_way codec) t.ue t.bearer c b (frame_item false restart number (Some (pdu_octets (sn t.ue) pdu))) here
+        ≡ answer_again spelled sn du_again (frame_received plain_way t.ue t.bearer c b (frame_item false restart number (Some pdu)) r)
     frame_as = by (is_missing plain_way b number || false) (gap_after plain_way b number restart (Some pdu))
       where
         after : Du (Message Token) Token

@@ -12,9 +12,9 @@ use Rattle.message_types.specs.declared.rrc.Token.{Token}
 use Rattle.tables.specs.Tables.{find, put, without}
 use Rattle.unit_defs.specs.Ways.{Message, Pdu, Taken, packet_input, Output, control, packet, radio, deliver, dropped, held, opened, closed, failed, no, Way, Answer, gives, spent, ◌then◌, nothing}
 use Rattle.unit_defs.specs.Teids.{without_each}
-use Rattle.unit_defs.specs.UpRecords.{UpBearer, UpContext, UpTunnel, CuUp, UpAt, up_at}
-use Rattle.unit_defs.specs.UpBearers.{is_over, open_teids}
-use Rattle.unit_defs.specs.UpItems.{held_reason, took}
+use Rattle.unit_defs.specs.CuUpRecords.{CuUpBearer, CuUpContext, CuUpTunnel, CuUp, CuUpScope, cu_up_scope}
+use Rattle.unit_defs.specs.CuUpBearers.{is_over, open_teids}
+use Rattle.unit_defs.specs.CuUpItems.{held_reason, took}
 use Rattle.unit_defs.specs.CuUp.{context_of, closed_in, ended, ended_if_over, end_where_over, with_context, with_bearer, taken_by, taken_in, taken_of, taken_on, take, cu_up_acts}
 use Rattle.unit_defs.specs.octet_defs.Codec.{Codec, octet_way}
 use Rattle.run_defs.specs.States.{Lengths}
@@ -24,9 +24,9 @@ use Rattle.law_octets_say_the_same.proofs.octet_rows.Answers.{then_again, if_aga
 use Rattle.law_octets_say_the_same.proofs.octet_rows.Ups.{itself, Again}
 
 -- the row of an item, where its bearer is there
-module _ {M C P : Type 0} (way : Way M C P) (r : CuUp M C) (teid : ℕ) (item : Taken P) (t : UpTunnel) (c : UpContext) (b : UpBearer) where
+module _ {M C P : Type 0} (way : Way M C P) (r : CuUp M C) (teid : ℕ) (item : Taken P) (t : CuUpTunnel) (c : CuUpContext) (b : CuUpBearer) where
   acts_by : find nat_cmp r.tunnels teid ≡ Some t → context_of r t.ue ≡ Some c → find bearer_cmp c.bearers t.bearer ≡ Some b
-      → cu_up_acts way r (packet_input teid item) ≡ taken_by way r t teid item c b (held_reason (up_at t.ue c t.bearer) b t.kind item)
+      → cu_up_acts way r (packet_input teid item) ≡ taken_by way r t teid item c b (held_reason (cu_up_scope t.ue c t.bearer) b t.kind item)
   unfolding cu_up_acts take
   acts_by is_open there has =
       ap (taken_on way r teid item) is_open ∙ ap (taken_of way r t teid item) there ∙ ap (taken_in way r t teid item c) has
@@ -58,7 +58,7 @@ module _ (codec : Codec) (spelled : Message Token → List ℕ) (sn : Lengths) w
   all_closed_as [] = refl
   all_closed_as (o ∷ os) = (λ i. closed_as o i ++ all_closed_as os i)
 
-  with_bearer_as : (r : PlainUp) (ue : UeId) (c : UpContext) (bearer : BearerId) (a : Answer (Message Token) Pdu UpBearer)
+  with_bearer_as : (r : PlainUp) (ue : UeId) (c : CuUpContext) (bearer : BearerId) (a : Answer (Message Token) Pdu CuUpBearer)
       → with_bearer (octet_way codec) (up_octets r) ue c bearer (answer_again spelled sn itself a)
       ≡ answer_again spelled sn up_octets (with_bearer plain_way r ue c bearer a)
   with_bearer_as r ue c bearer (gives os b) =
@@ -72,14 +72,14 @@ module _ (codec : Codec) (spelled : Message Token → List ℕ) (sn : Lengths) w
   ends_of [] = refl
   ends_of (teid ∷ teids) = ap (λ os. closed teid ∷ os) (ends_of teids)
 
-  closings_as : (bs : List (BearerId × UpBearer))
+  closings_as : (bs : List (BearerId × CuUpBearer))
       → map (put_again spelled sn) (flat_map (λ e. map (λ teid. closed teid) (open_teids e.1)) bs) ≡ flat_map (λ e. map (λ teid. closed teid) (open_teids e.1)) bs
   closings_as [] = refl
   closings_as (e ∷ bs) =
       map-append (put_again spelled sn) (map (λ teid. closed teid) (open_teids e.1)) (flat_map (λ e. map (λ teid. closed teid) (open_teids e.1)) bs)
       ∙ (λ i. ends_of (open_teids e.1) i ++ closings_as bs i)
 
-  ended_as : (r : PlainUp) (ue : UeId) (c : UpContext)
+  ended_as : (r : PlainUp) (ue : UeId) (c : CuUpContext)
       → ended (octet_way codec) (up_octets r) ue c ≡ answer_again spelled sn up_octets (ended plain_way r ue c)
   unfolding ended
   ended_as r ue c =
@@ -92,7 +92,7 @@ module _ (codec : Codec) (spelled : Message Token → List ℕ) (sn : Lengths) w
   unfolding end_where_over
   over_as ue r = by (context_of r ue)
     where
-      by : (o : Option UpContext) → ended_if_over (octet_way codec) ue (up_octets r) o ≡ answer_again spelled sn up_octets (ended_if_over plain_way ue r o)
+      by : (o : Option CuUpContext) → ended_if_over (octet_way codec) ue (up_octets r) o ≡ answer_again spelled sn up_octets (ended_if_over plain_way ue r o)
       by None = refl
       by (Some c) =
           if_again spelled sn up_octets (c.flags.released && list_all (λ e. is_over c.flags e.1) c.bearers) (ended plain_way r ue c) (nothing r)
@@ -100,11 +100,11 @@ module _ (codec : Codec) (spelled : Message Token → List ℕ) (sn : Lengths) w
 
   -- ---- an item
 
-  pub item_as : (r : PlainUp) (teid : ℕ) (t : UpTunnel) (c : UpContext) (b : UpBearer) (item : Taken Pdu) (read : Taken (List ℕ))
+  pub item_as : (r : PlainUp) (teid : ℕ) (t : CuUpTunnel) (c : CuUpContext) (b : CuUpBearer) (item : Taken Pdu) (read : Taken (List ℕ))
       → find nat_cmp r.tunnels teid ≡ Some t → context_of r t.ue ≡ Some c → find bearer_cmp c.bearers t.bearer ≡ Some b
-      → held_reason (up_at t.ue c t.bearer) b t.kind read ≡ held_reason (up_at t.ue c t.bearer) b t.kind item
-      → Again codec spelled sn (up_at t.ue c t.bearer) (took (octet_way codec) (up_at t.ue c t.bearer) t.kind teid read b)
-      (took plain_way (up_at t.ue c t.bearer) t.kind teid item b)
+      → held_reason (cu_up_scope t.ue c t.bearer) b t.kind read ≡ held_reason (cu_up_scope t.ue c t.bearer) b t.kind item
+      → Again codec spelled sn (cu_up_scope t.ue c t.bearer) (took (octet_way codec) (cu_up_scope t.ue c t.bearer) t.kind teid read b)
+      (took plain_way (cu_up_scope t.ue c t.bearer) t.kind teid item b)
       → cu_up_acts (octet_way codec) (up_octets r) (packet_input teid read) ≡ answer_again spelled sn up_octets (cu_up_acts plain_way r (packet_input teid item))
   item_as r teid t c b item read is_open there has holds takes =
       acts_by (octet_way codec) (up_octets r) teid read t c b is_open there has
@@ -112,8 +112,8 @@ module _ (codec : Codec) (spelled : Message Token → List ℕ) (sn : Lengths) w
       ∙ by (held_reason at b t.kind item)
       ∙ ap (answer_again spelled sn up_octets) (sym (acts_by plain_way r teid item t c b is_open there has))
     where
-      at : UpAt
-      at = up_at t.ue c t.bearer
+      at : CuUpScope
+      at = cu_up_scope t.ue c t.bearer
 
       by : (o : Option HeldReason) → taken_by (octet_way codec) (up_octets r) t teid read c b o ≡ answer_again spelled sn up_octets (taken_by plain_way r t teid item c b o)
       by (Some reason) = refl

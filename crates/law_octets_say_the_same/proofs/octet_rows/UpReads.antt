@@ -13,8 +13,8 @@ use Rattle.link_defs.specs.Layouts.{desired_buffer_size, delivery_status, forwar
 use Rattle.link_defs.specs.Decoding as on
 use Rattle.link_defs.proofs.Written.{forwarded_fresh_decodes, delivery_status_decodes}
 use Rattle.unit_defs.specs.Ways.{Message, Pdu, Taken, fresh_item, status_item, packet_input}
-use Rattle.unit_defs.specs.UpRecords.{UpBearer, UpContext, TunnelKind, n3, f1u_uplink, forwarding_down, forwarding_up, UpTunnel, CuUp, UpAt, up_at}
-use Rattle.unit_defs.specs.UpItems.{held_reason, took}
+use Rattle.unit_defs.specs.CuUpRecords.{CuUpBearer, CuUpContext, TunnelKind, n3, f1u_uplink, forwarding_down, forwarding_up, CuUpTunnel, CuUp, CuUpScope, cu_up_scope}
+use Rattle.unit_defs.specs.CuUpItems.{held_reason, took}
 use Rattle.unit_defs.specs.CuUp.{context_of, cu_up_acts}
 use Rattle.unit_defs.specs.octet_defs.Codec.{Codec, octet_way}
 use Rattle.unit_defs.specs.octet_defs.Writing.{on_option}
@@ -28,10 +28,10 @@ use Rattle.law_octets_say_the_same.proofs.octet_rows.Ups.{Again, fresh_as, statu
 use Rattle.law_octets_say_the_same.proofs.octet_rows.UpItems.{item_as}
 
 module _ (codec : Codec) (reads : ReadsItems codec) (spelled : Message Token → List ℕ) (sn : Lengths) (r : CuUp (Message Token) Token) (teid : ℕ)
-    (fits : teid < 2 ^ 32) (t : UpTunnel) (c : UpContext) (b : UpBearer) (is_open : find nat_cmp r.tunnels teid ≡ Some t)
+    (fits : teid < 2 ^ 32) (t : CuUpTunnel) (c : CuUpContext) (b : CuUpBearer) (is_open : find nat_cmp r.tunnels teid ≡ Some t)
     (there : context_of r t.ue ≡ Some c) (has : find bearer_cmp c.bearers t.bearer ≡ Some b) (long : c.sn ≡ sn t.ue) where
-  abbrev at : UpAt
-  at = up_at t.ue c t.bearer
+  abbrev at : CuUpScope
+  at = cu_up_scope t.ue c t.bearer
 
   abbrev here : CuUp (List ℕ) (List ℕ)
   here = up_again r

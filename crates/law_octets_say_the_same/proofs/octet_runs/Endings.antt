@@ -11,7 +11,7 @@ use Rattle.run_defs.specs.Lines.{RunLine, put_item, got_item, put_message, got_m
 use Rattle.run_defs.specs.Written.{Written}
 use Rattle.run_defs.specs.States.{RunStep, Ending, goes, stops, told_before, ◌next◌, as_step, step_of}
 use Rattle.run_defs.specs.Steps.{Done, is_done, is_held, is_refused}
-use Rattle.law_octets_say_the_same.specs.octet_runs.Again.{PlainState, OctetState, letter_again, state_again}
+use Rattle.law_octets_say_the_same.specs.octet_runs.Again.{PlainState, OctetState, control_message_again, state_again}
 
 abbrev pub PlainLine : Type 0
 PlainLine = RunLine (Message Token)
@@ -43,17 +43,17 @@ choice f true a b x y e g = e
 choice f false a b x y e g = g
 
 module _ (codec : Codec) where
-  abbrev pub spell : Message Token → List ℕ
-  spell = spelled codec
+  abbrev pub encode : Message Token → List ℕ
+  encode = spelled codec
 
   abbrev pub over : PlainState → OctetState
-  over s = state_again spell s
+  over s = state_again encode s
 
   abbrev pub line_again : PlainLine → OctetLine
   line_again (put_item link item) = put_item link item
   line_again (got_item link item) = got_item link item
-  line_again (put_message number letter) = put_message number (letter_again spell letter)
-  line_again (got_message number letter) = got_message number (letter_again spell letter)
+  line_again (put_message number control_message) = put_message number (control_message_again encode control_message)
+  line_again (got_message number control_message) = got_message number (control_message_again encode control_message)
   line_again (delivers key count packet) = delivers key count packet
   line_again (lost_items link items) = lost_items link items
   line_again (lost_message number) = lost_message number

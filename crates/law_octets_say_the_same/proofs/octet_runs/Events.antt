@@ -17,7 +17,7 @@ use Rattle.tables.specs.Tables.{find, at}
 use Rattle.tables.proofs.TableLaws.{find-mapped, put-mapped}
 use Rattle.unit_defs.specs.Messages.{teid_of}
 use Rattle.unit_defs.specs.Ways.{Message, Pdu, Load}
-use Rattle.unit_defs.specs.UpRecords.{CuUp}
+use Rattle.unit_defs.specs.CuUpRecords.{CuUp}
 use Rattle.unit_defs.specs.CuUp.{new_cu_up}
 use Rattle.unit_defs.specs.Du.{Du, new_du}
 use Rattle.unit_defs.specs.Core.{CorePath}
@@ -25,7 +25,7 @@ use Rattle.unit_defs.specs.Ue.{UeNode, is_connected, largest_packet}
 use Rattle.unit_defs.specs.octet_defs.Codec.{Codec}
 use Rattle.transport_defs.specs.Links.{nth, Radio}
 use Rattle.run_defs.specs.Lines.{got_item, is_quiet, is_busy, tunnel_link, radio_link, shown}
-use Rattle.run_defs.specs.Units.{up_of, du_of, ue_of, epoch_at}
+use Rattle.run_defs.specs.Units.{cu_up_of, du_of, ue_of, epoch_at}
 use Rattle.run_defs.specs.Written.{Written}
 use Rattle.unit_defs.specs.Accessors.{du_epoch}
 use Rattle.run_defs.specs.States.{World, item_for, carried_for, confirmed_for, goes, ◌next◌, goes_on, as_step, prints, refused, entity, has_bearer, book_of, radio_of, with_radio}
@@ -43,7 +43,7 @@ use Rattle.law_octets_say_the_same.proofs.octet_runs.Steps.{check_spans_again, d
 
 -- ---- units of a name
 
-pub up_of_again : (u : PlainUnits) (g : Gnb) (n : ℕ) → up_of (units_again u) g n ≡ up_again (up_of u g n)
+pub up_of_again : (u : PlainUnits) (g : Gnb) (n : ℕ) → cu_up_of (units_again u) g n ≡ up_again (cu_up_of u g n)
 unfolding at
 up_of_again u g n = ap (λ o. unwrap_or o (new_cu_up g n)) (find-mapped node_cmp up_again u.ups (up_id g n)) ∙ by (find node_cmp u.ups (up_id g n))
   where

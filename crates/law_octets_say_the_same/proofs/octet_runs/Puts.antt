@@ -17,16 +17,16 @@ use Rattle.tables.proofs.TableLaws.{find-mapped, put-mapped, without-mapped}
 use Rattle.unit_defs.specs.Ways.{Message, Pdu, Load, Put, control, packet, radio, deliver, dropped, held, opened, closed, failed, no}
 use Rattle.unit_defs.specs.octet_defs.Codec.{Codec}
 use Rattle.transport_defs.specs.declared.Item.{Item}
-use Rattle.transport_defs.specs.Links.{put_letter, is_epoch, Radio, silent, emptied}
-use Rattle.run_defs.specs.Lines.{Letter, put_item, put_message, lost_items, tunnel_link, radio_link, shown}
+use Rattle.transport_defs.specs.Links.{put_control_message, is_epoch, Radio, silent, emptied}
+use Rattle.run_defs.specs.Lines.{ControlMessage, put_item, put_message, lost_items, tunnel_link, radio_link, shown}
 use Rattle.run_defs.specs.Written.{Written}
 use Rattle.run_defs.specs.States.{goes, ◌next◌, goes_on, entity, radio_of, with_radio, World}
-use Rattle.run_defs.specs.Steps.{with_tunnel, count_beside, noted, on_tunnel, put_on_tunnel, put_on_connected, put_on_radio, letter_of, put_control, lost_if, opens, closes, radio_lost, lose_each, radios_of, lose_radios_of, lose_radios, epoch_now, same_epoch, connect_in, reconnect, reconnect_node, item_of, put_out, put_out_all}
+use Rattle.run_defs.specs.Steps.{with_tunnel, count_beside, noted, on_tunnel, put_on_tunnel, put_on_connected, put_on_radio, control_message_of, put_control, lost_if, opens, closes, radio_lost, lose_each, radios_of, lose_radios_of, lose_radios, epoch_now, same_epoch, connect_in, reconnect, reconnect_node, item_of, put_out, put_out_all}
 use Rattle.run_defs.specs.Runs.{Reading, plain_world}
 use Rattle.run_defs.specs.UnitRuns.{unit_world, tables}
-use Rattle.law_octets_say_the_same.specs.octet_runs.Again.{PlainState, item_again, items_again, radio_again, letter_again, put_again}
+use Rattle.law_octets_say_the_same.specs.octet_runs.Again.{PlainState, item_again, items_again, radio_again, control_message_again, put_again}
 use Rattle.law_octets_say_the_same.proofs.octet_runs.Lists.{length-values, values-append, radios_same}
-use Rattle.law_octets_say_the_same.proofs.octet_runs.Endings.{PlainWithin, OctetWithin, spell, over, line_again, within_again, next_again, choice}
+use Rattle.law_octets_say_the_same.proofs.octet_runs.Endings.{PlainWithin, OctetWithin, encode, over, line_again, within_again, next_again, choice}
 
 abbrev pub OnTunnel : Type 0
 OnTunnel = Item (Written (Load Pdu))
@@ -176,25 +176,25 @@ module _ (codec : Codec) (reading : Reading) where
 
   -- ---- outputs
 
-  put_control_again : (l : Letter (Message Token)) (s : PlainState)
-      → put_control octet (letter_again (spell codec) l) (over codec s) ≡ within_again codec (put_control plain l s)
-  unfolding put_control put_letter
+  put_control_again : (l : ControlMessage (Message Token)) (s : PlainState)
+      → put_control octet (control_message_again (encode codec) l) (over codec s) ≡ within_again codec (put_control plain l s)
+  unfolding put_control put_control_message
   put_control_again l s =
-      (λ i. goes (put_message (many i + 1) (letter_again (spell codec) l) ∷ []) (record (over codec s) {
+      (λ i. goes (put_message (many i + 1) (control_message_again (encode codec) l) ∷ []) (record (over codec s) {
         bag = record {
-          letters = map_values (letter_again (spell codec)) s.bag.letters ++ (many i + 1, letter_again (spell codec) l) ∷ [];
+          control_messages = map_values (control_message_again (encode codec)) s.bag.control_messages ++ (many i + 1, control_message_again (encode codec) l) ∷ [];
           flight = s.bag.flight ++ (many i + 1) ∷ [];
         };
       }))
-      ∙ ap (λ ls. goes (put_message (length s.bag.letters + 1) (letter_again (spell codec) l) ∷ []) (record (over codec s) {
+      ∙ ap (λ ls. goes (put_message (length s.bag.control_messages + 1) (control_message_again (encode codec) l) ∷ []) (record (over codec s) {
         bag = record {
-          letters = ls;
-          flight = s.bag.flight ++ (length s.bag.letters + 1) ∷ [];
+          control_messages = ls;
+          flight = s.bag.flight ++ (length s.bag.control_messages + 1) ∷ [];
         };
-      })) (values-append (letter_again (spell codec)) s.bag.letters (length s.bag.letters + 1) l)
+      })) (values-append (control_message_again (encode codec)) s.bag.control_messages (length s.bag.control_messages + 1) l)
     where
-      many : length (map_values (letter_again (spell codec)) s.bag.letters) ≡ length s.bag.letters
-      many = length-values (letter_again (spell codec)) s.bag.letters
+      many : length (map_values (control_message_again (encode codec)) s.bag.control_messages) ≡ length s.bag.control_messages
+      many = length-values (control_message_again (encode codec)) s.bag.control_messages
 
   noted_again : (key : EntityKey) (tag : Tag) (s : PlainState) → noted key tag (over codec s) ≡ over codec (noted key tag s)
   noted_again key Absent s = refl
@@ -203,8 +203,8 @@ module _ (codec : Codec) (reading : Reading) where
 
   module _ (node : NodeId) (taken : Option ℕ) where
     pub put_out_again : (o : Put (Message Token) (Written (Load Pdu)) (Written Pdu)) (s : PlainState)
-        → put_out octet node taken (put_again (spell codec) o) (over codec s) ≡ within_again codec (put_out plain node taken o s)
-    put_out_again (control to ue message) s = put_control_again (letter_of plain node to ue message) s
+        → put_out octet node taken (put_again (encode codec) o) (over codec s) ≡ within_again codec (put_out plain node taken o s)
+    put_out_again (control to ue message) s = put_control_again (control_message_of plain node to ue message) s
     put_out_again (packet to teid ue bearer dir tag load) s =
         ap (put_on_tunnel octet (record { node = to; teid = teid }) (item_again item)) (noted_again (entity ue bearer dir) tag s)
         ∙ put_on_tunnel_again (record { node = to; teid = teid }) item (noted (entity ue bearer dir) tag s)
@@ -226,10 +226,10 @@ module _ (codec : Codec) (reading : Reading) where
     put_out_again (no reason) s = refl
 
     pub put_out_all_again : (os : List (Put (Message Token) (Written (Load Pdu)) (Written Pdu))) (s : PlainState)
-        → put_out_all octet node taken (map (put_again (spell codec)) os) (over codec s) ≡ within_again codec (put_out_all plain node taken os s)
+        → put_out_all octet node taken (map (put_again (encode codec)) os) (over codec s) ≡ within_again codec (put_out_all plain node taken os s)
     unfolding put_out_all
     put_out_all_again [] s = refl
     put_out_all_again (o ∷ os) s =
-        ap (λ (e : OctetWithin). e next put_out_all octet node taken (map (put_again (spell codec)) os)) (put_out_again o s)
+        ap (λ (e : OctetWithin). e next put_out_all octet node taken (map (put_again (encode codec)) os)) (put_out_again o s)
         ∙ next_again codec (line_again codec) (put_out plain node taken o s) (put_out_all plain node taken os)
-        (put_out_all octet node taken (map (put_again (spell codec)) os)) (put_out_all_again os)
+        (put_out_all octet node taken (map (put_again (encode codec)) os)) (put_out_all_again os)

@@ -16,7 +16,7 @@ use Rattle.run_defs.specs.UnitRuns.{UnitRun, tables}
 use Rattle.law_octets_say_the_same.specs.octet_runs.Again.{PlainState}
 use Rattle.law_octets_say_the_same.specs.octet_runs.Printed.{printed_step, printed_event, printed}
 use Rattle.law_octets_say_the_same.specs.octet_runs.Faithful.{IsOfPackets, IsFaithful}
-use Rattle.law_octets_say_the_same.proofs.octet_runs.Endings.{PlainLine, PlainOutcome, spell, over, line_again, step_again, outcome_again}
+use Rattle.law_octets_say_the_same.proofs.octet_runs.Endings.{PlainLine, PlainOutcome, encode, over, line_again, step_again, outcome_again}
 use Rattle.law_octets_say_the_same.proofs.octet_runs.Puts.{plain, octet}
 use Rattle.law_octets_say_the_same.proofs.octet_runs.Events.{offer_again, get_again, air_again, ack_again, ask_again}
 use Rattle.law_octets_say_the_same.proofs.octet_runs.Statics.{static_again}
@@ -33,12 +33,12 @@ module _ (codec : Codec) where
   as_it_is : List ℕ → List ℕ
   as_it_is octets = octets
 
-  line_printed : (line : PlainLine) → out_line as_it_is (line_again codec line) ≡ out_line (spell codec) line
+  line_printed : (line : PlainLine) → out_line as_it_is (line_again codec line) ≡ out_line (encode codec) line
   unfolding as_it_is
   line_printed (put_item link item) = refl
   line_printed (got_item link item) = refl
-  line_printed (put_message number letter) = refl
-  line_printed (got_message number letter) = refl
+  line_printed (put_message number control_message) = refl
+  line_printed (got_message number control_message) = refl
   line_printed (delivers key count packet) = refl
   line_printed (lost_items link items) = refl
   line_printed (lost_message number) = refl
@@ -51,19 +51,19 @@ module _ (codec : Codec) where
   line_printed (has_not_settled rounds) = refl
   line_printed (was_refused reason) = refl
 
-  lines_printed : (lines : List PlainLine) → out_lines as_it_is (map (line_again codec) lines) ≡ out_lines (spell codec) lines
+  lines_printed : (lines : List PlainLine) → out_lines as_it_is (map (line_again codec) lines) ≡ out_lines (encode codec) lines
   lines_printed [] = refl
   lines_printed (line ∷ lines) = λ i. line_printed line i ∷ lines_printed lines i
 
-  steps_printed : (steps : List (RunStep (Message Token))) → map (printed_step as_it_is) (map (step_again codec) steps) ≡ map (printed_step (spell codec)) steps
+  steps_printed : (steps : List (RunStep (Message Token))) → map (printed_step as_it_is) (map (step_again codec) steps) ≡ map (printed_step (encode codec)) steps
   steps_printed [] = refl
   steps_printed (step ∷ steps) = λ i. record { actor = step.actor; lines = lines_printed step.lines i } ∷ steps_printed steps i
 
-  events_printed : (hs : List (Happened (Message Token))) → map (printed_event as_it_is) (map happened_again hs) ≡ map (printed_event (spell codec)) hs
+  events_printed : (hs : List (Happened (Message Token))) → map (printed_event as_it_is) (map happened_again hs) ≡ map (printed_event (encode codec)) hs
   events_printed [] = refl
   events_printed (h ∷ hs) = λ i. record { event = h.event; steps = steps_printed h.steps i } ∷ events_printed hs i
 
-  pub transcript_printed : (t : Transcript (Message Token)) → printed (λ octets. octets) (transcript_again t) ≡ printed (spell codec) t
+  pub transcript_printed : (t : Transcript (Message Token)) → printed (λ octets. octets) (transcript_again t) ≡ printed (encode codec) t
   unfolding as_it_is
   transcript_printed t = ap (λ es. record { events = es; stop = t.stop }) (events_printed t.events)
 
@@ -119,7 +119,7 @@ module _ (codec : Codec) where
         by (stops steps why) more is = refl
 
     pub runs_print : (script : List Event) → AllByRecursion IsOne script
-        → printed (λ octets. octets) (UnitRun codec (tables codec) script) ≡ printed (spell codec) (Run reading script)
+        → printed (λ octets. octets) (UnitRun codec (tables codec) script) ≡ printed (encode codec) (Run reading script)
     unfolding UnitRun Run run map_values
     runs_print script are =
         ap (printed (λ octets. octets)) (run_again script are new_state faithful.begins)

@@ -8,16 +8,16 @@ use Rattle.message_types.specs.declared.rrc.Token.{Token}
 use Rattle.pdcp.specs.Numbers.{half}
 use Rattle.unit_defs.specs.Ways.{Message, Pdu, Load, Put, control, packet, radio, deliver, dropped, held, opened, closed, failed, no}
 use Rattle.unit_defs.specs.octet_defs.Codec.{Codec}
-use Rattle.transport_defs.specs.Links.{most_letters, least}
+use Rattle.transport_defs.specs.Links.{most_control_messages, least}
 use Rattle.run_defs.specs.Written.{Written}
 use Rattle.run_defs.specs.States.{World, Given, Stepped, stepped, step_spent, Stop, outstanding, spent_counter, stops, ◌next◌, as_step, sn_of, book_of}
-use Rattle.run_defs.specs.Steps.{span, entities_of, first_outstanding, checked_by, check_spans, letters_spent, reconnect_node, put_out_all, count_letters, too_many_letters, carried_out, is_done, done_with, does}
+use Rattle.run_defs.specs.Steps.{span, entities_of, first_outstanding, checked_by, check_spans, control_messages_spent, reconnect_node, put_out_all, count_control_messages, too_many_control_messages, carried_out, is_done, done_with, does}
 use Rattle.run_defs.specs.Runs.{Reading}
 use Rattle.run_defs.specs.UnitRuns.{OctetPut}
-use Rattle.law_octets_say_the_same.specs.octet_runs.Again.{PlainState, OctetState, PlainUnits, units_again, letter_again, put_again, given_again, stepped_again}
+use Rattle.law_octets_say_the_same.specs.octet_runs.Again.{PlainState, OctetState, PlainUnits, units_again, control_message_again, put_again, given_again, stepped_again}
 use Rattle.law_octets_say_the_same.specs.octet_runs.Faithful.{ReadsAlike}
 use Rattle.law_octets_say_the_same.proofs.octet_runs.Lists.{length-values, tunnels_count, radios_count}
-use Rattle.law_octets_say_the_same.proofs.octet_runs.Endings.{PlainWithin, OctetWithin, OctetOutcome, spell, over, line_again, within_again, done_again, next_again, as_step_again, choice}
+use Rattle.law_octets_say_the_same.proofs.octet_runs.Endings.{PlainWithin, OctetWithin, OctetOutcome, encode, over, line_again, within_again, done_again, next_again, as_step_again, choice}
 use Rattle.law_octets_say_the_same.proofs.octet_runs.Puts.{plain, octet, reconnect_node_again, put_out_all_again}
 
 abbrev pub PlainPut : Type 0
@@ -51,29 +51,29 @@ module _ (codec : Codec) (reading : Reading) where
 
   -- ---- letters
 
-  letters_count : (os : List PlainPut) → count_letters (octet codec reading) (map (put_again (spell codec)) os) ≡ count_letters (plain codec reading) os
-  letters_count [] = refl
-  letters_count (control to ue message ∷ os) = ap (λ n. n + 1) (letters_count os)
-  letters_count (packet to teid ue bearer dir tag load ∷ os) = letters_count os
-  letters_count (radio ue bearer dir epoch tag pdu ∷ os) = letters_count os
-  letters_count (deliver ue bearer dir count p ∷ os) = letters_count os
-  letters_count (dropped reason ∷ os) = letters_count os
-  letters_count (held reason ∷ os) = letters_count os
-  letters_count (opened teid ∷ os) = letters_count os
-  letters_count (closed teid ∷ os) = letters_count os
-  letters_count (failed ue cause ∷ os) = letters_count os
-  letters_count (no reason ∷ os) = letters_count os
+  control_messages_count : (os : List PlainPut) → count_control_messages (octet codec reading) (map (put_again (encode codec)) os) ≡ count_control_messages (plain codec reading) os
+  control_messages_count [] = refl
+  control_messages_count (control to ue message ∷ os) = ap (λ n. n + 1) (control_messages_count os)
+  control_messages_count (packet to teid ue bearer dir tag load ∷ os) = control_messages_count os
+  control_messages_count (radio ue bearer dir epoch tag pdu ∷ os) = control_messages_count os
+  control_messages_count (deliver ue bearer dir count p ∷ os) = control_messages_count os
+  control_messages_count (dropped reason ∷ os) = control_messages_count os
+  control_messages_count (held reason ∷ os) = control_messages_count os
+  control_messages_count (opened teid ∷ os) = control_messages_count os
+  control_messages_count (closed teid ∷ os) = control_messages_count os
+  control_messages_count (failed ue cause ∷ os) = control_messages_count os
+  control_messages_count (no reason ∷ os) = control_messages_count os
 
   too_many_again : (os : List PlainPut) (s : PlainState)
-      → too_many_letters (octet codec reading) (map (put_again (spell codec)) os) (over codec s) ≡ too_many_letters (plain codec reading) os s
-  too_many_again os s = λ i. nat_lt most_letters (length-values (letter_again (spell codec)) s.bag.letters i + letters_count os i)
+      → too_many_control_messages (octet codec reading) (map (put_again (encode codec)) os) (over codec s) ≡ too_many_control_messages (plain codec reading) os s
+  too_many_again os s = λ i. nat_lt most_control_messages (length-values (control_message_again (encode codec)) s.bag.control_messages i + control_messages_count os i)
 
   -- ---- a step
 
   module _ (node : NodeId) (taken : Option ℕ) (first : PlainState → PlainWithin) (first_here : OctetState → OctetWithin)
       (same : (s : PlainState) → first_here (over codec s) ≡ within_again codec (first s)) (s : PlainState) where
     carried_out_again : (os : List PlainPut) (units : PlainUnits)
-        → carried_out (octet codec reading) node taken first_here (map (put_again (spell codec)) os) (units_again units) (over codec s)
+        → carried_out (octet codec reading) node taken first_here (map (put_again (encode codec)) os) (units_again units) (over codec s)
         ≡ within_again codec (carried_out (plain codec reading) node taken first os units s)
     carried_out_again os units =
         ap (λ (e : OctetWithin). e next reconnect_node there node next put_out_all there node taken outs next check_spans) (same begun)
@@ -94,26 +94,26 @@ module _ (codec : Codec) (reading : Reading) where
         there = octet codec reading
 
         outs : List OctetPut
-        outs = map (put_again (spell codec)) os
+        outs = map (put_again (encode codec)) os
 
     done : (os : List PlainPut) (units : PlainUnits)
-        → (if too_many_letters (octet codec reading) (map (put_again (spell codec)) os) (over codec s) then is_done (stops [] (spent_counter letters_spent))
-        else is_done (as_step (Some node) (carried_out (octet codec reading) node taken first_here (map (put_again (spell codec)) os) (units_again units) (over codec s))))
-        ≡ done_again codec (if too_many_letters (plain codec reading) os s then is_done (stops [] (spent_counter letters_spent))
+        → (if too_many_control_messages (octet codec reading) (map (put_again (encode codec)) os) (over codec s) then is_done (stops [] (spent_counter control_messages_spent))
+        else is_done (as_step (Some node) (carried_out (octet codec reading) node taken first_here (map (put_again (encode codec)) os) (units_again units) (over codec s))))
+        ≡ done_again codec (if too_many_control_messages (plain codec reading) os s then is_done (stops [] (spent_counter control_messages_spent))
         else is_done (as_step (Some node) (carried_out (plain codec reading) node taken first os units s)))
     done os units =
-        ap (λ (t : Bool). if t then is_done (stops [] (spent_counter letters_spent)) else is_done carried) (too_many_again os s)
-        ∙ choice (done_again codec) (too_many_letters (plain codec reading) os s) (is_done (stops [] (spent_counter letters_spent)))
-        (is_done (as_step (Some node) (carried_out (plain codec reading) node taken first os units s))) (is_done (stops [] (spent_counter letters_spent)))
+        ap (λ (t : Bool). if t then is_done (stops [] (spent_counter control_messages_spent)) else is_done carried) (too_many_again os s)
+        ∙ choice (done_again codec) (too_many_control_messages (plain codec reading) os s) (is_done (stops [] (spent_counter control_messages_spent)))
+        (is_done (as_step (Some node) (carried_out (plain codec reading) node taken first os units s))) (is_done (stops [] (spent_counter control_messages_spent)))
         (is_done carried) refl
         (ap is_done (ap (as_step (Some node)) (carried_out_again os units) ∙ as_step_again codec (Some node) (carried_out (plain codec reading) node taken first os units s)))
       where
         carried : OctetOutcome
-        carried = as_step (Some node) (carried_out (octet codec reading) node taken first_here (map (put_again (spell codec)) os) (units_again units) (over codec s))
+        carried = as_step (Some node) (carried_out (octet codec reading) node taken first_here (map (put_again (encode codec)) os) (units_again units) (over codec s))
 
     Alike : List PlainPut → PlainUnits → Type 0
     Alike os units =
-        done_with (octet codec reading) node taken first_here (over codec s) (stepped (map (put_again (spell codec)) os) (units_again units))
+        done_with (octet codec reading) node taken first_here (over codec s) (stepped (map (put_again (encode codec)) os) (units_again units))
         ≡ done_again codec (done_with (plain codec reading) node taken first s (stepped os units))
 
     done_alike : (os : List PlainPut) (units : PlainUnits) → Alike os units
@@ -141,14 +141,14 @@ module _ (codec : Codec) (reading : Reading) where
     done_alike (failed ue cause ∷ (o ∷ os)) units = done (failed ue cause ∷ (o ∷ os)) units
 
     done_with_again : (x : Stepped (Message Token) Token (Written (Load Pdu)) (Written Pdu))
-        → done_with (octet codec reading) node taken first_here (over codec s) (stepped_again (spell codec) x)
+        → done_with (octet codec reading) node taken first_here (over codec s) (stepped_again (encode codec) x)
         ≡ done_again codec (done_with (plain codec reading) node taken first s x)
     unfolding Alike
     done_with_again (stepped os units) = done_alike os units
     done_with_again (step_spent counter) = refl
 
     pub does_again : (given : Given (Message Token) (Written (Load Pdu)) (Written Pdu)) → ReadsAlike codec reading s node given
-        → does (octet codec reading) node (given_again (spell codec) given) taken first_here (over codec s)
+        → does (octet codec reading) node (given_again (encode codec) given) taken first_here (over codec s)
         ≡ done_again codec (does (plain codec reading) node given taken first s)
     unfolding does
     does_again given reads =

@@ -18,7 +18,7 @@ use Rattle.unit_defs.specs.Ue.{UeNode, new_ue, placed, ue_acts}
 use Rattle.unit_defs.specs.octet_defs.Codec.{Codec, octet_way}
 use Rattle.unit_defs.specs.octet_defs.Reading.{ReadInput, read_at_ue}
 use Rattle.unit_defs.specs.octet_defs.Units.{OctetAnswer, acts_on, cu_cp_steps, cu_up_steps, du_steps, ue_steps}
-use Rattle.run_defs.specs.Units.{up_of, du_of, cp_of, ue_of, with_cp, with_up, with_du, with_ue}
+use Rattle.run_defs.specs.Units.{cu_up_of, du_of, cu_cp_of, ue_of, with_cu_cp, with_cu_up, with_du, with_ue}
 use Rattle.run_defs.specs.Conditions.{units_placed, all_set_up}
 use Rattle.run_defs.specs.UnitRuns.{Records, UnitAnswer, unit_gives, unit_spent, answered_with, ue_answers, tables}
 use Rattle.proof_unit_steps.specs.answers.After.{HoldsAfter}
@@ -47,7 +47,7 @@ module _ (codec : Codec) where
   same_terminals r back same all (gives outputs x) = λ v u e. all v u ((λ i. find ue_cmp (sym (same x) i) v) ∙ e)
   same_terminals r back same all (spent counter) = tt
 
-  cp_same : (r : Records) (gnb : Gnb) (x : _) → (with_cp r gnb x).ues ≡ r.ues
+  cp_same : (r : Records) (gnb : Gnb) (x : _) → (with_cu_cp r gnb x).ues ≡ r.ues
   cp_same r A x = refl
   cp_same r B x = refl
 
@@ -79,9 +79,9 @@ module _ (codec : Codec) where
 
   tables_planned : (r : Records) (node : NodeId) (input : Input) → ArePlanned r → AfterPlanned (tables codec r node input)
   unfolding tables AfterPlanned
-  tables_planned r (CuCp gnb) input all = same_terminals r (with_cp r gnb) (cp_same r gnb) all (cu_cp_steps codec (cp_of r gnb) input)
+  tables_planned r (CuCp gnb) input all = same_terminals r (with_cu_cp r gnb) (cp_same r gnb) all (cu_cp_steps codec (cu_cp_of r gnb) input)
   tables_planned r (CuUp gnb number) input all =
-      same_terminals r (with_up r gnb number) (λ x. refl) all (cu_up_steps codec (up_of r gnb number) input)
+      same_terminals r (with_cu_up r gnb number) (λ x. refl) all (cu_up_steps codec (cu_up_of r gnb number) input)
   tables_planned r (Du gnb number) input all =
       same_terminals r (with_du r gnb number) (λ x. refl) all (du_steps codec (du_of r gnb number) input)
   tables_planned r (Ue ue) input all = ue_planned r ue input all (ue_of r (record { 0 = ue })) refl

@@ -26,16 +26,16 @@ use Rattle.unit_defs.specs.Messages.{teid_of}
 use Rattle.unit_defs.specs.Core.{CorePath}
 use Rattle.unit_defs.specs.Ue.{largest_packet, is_connected, is_accessing, may_return}
 use Rattle.unit_defs.specs.Accessors.{ue_home, is_unconfirmed}
-use Rattle.unit_defs.specs.Static.{up_has_room, up_has_teids, du_has_teids}
+use Rattle.unit_defs.specs.Static.{cu_up_has_room, cu_up_has_teids, du_has_teids}
 use Rattle.transport_defs.specs.declared.Item.{Item}
-use Rattle.transport_defs.specs.declared.Letter.{Letter}
-use Rattle.transport_defs.specs.Links.{letter, landed, nth, is_in}
-use Rattle.run_defs.specs.Units.{starting_nodes, up_of, du_of, ue_of, is_source}
-use Rattle.run_defs.specs.States.{State, letter_for, offer_for, tick_for, order_for, octets_from, octets_on, CoreStepped, core_stepped, spent_counter, stops, ◌next◌, goes_on, Within, Outcome, as_step, entity, sn_of, was_attached, is_attached, has_bearer, radio_of, refused}
-use Rattle.run_defs.specs.Steps.{letters_spent, check_spans, put_on_tunnel, put_out_all, count_letters, too_many_letters, Done, is_done, is_held, is_refused, does, ordered_by, step}
-use Rattle.run_defs.specs.Conditions.{serving_gnb, serving_place, n3_from, is_held_by_units, has_started, ready_home, takes_letters, state_at, ticking, goal_of, is_same_place, is_other_up, is_busy_with, is_interface}
+use Rattle.transport_defs.specs.declared.ControlMessage.{ControlMessage}
+use Rattle.transport_defs.specs.Links.{control_message, landed, nth, is_in}
+use Rattle.run_defs.specs.Units.{starting_nodes, cu_up_of, du_of, ue_of, is_source}
+use Rattle.run_defs.specs.States.{State, control_message_for, offer_for, tick_for, order_for, octets_from, octets_on, CoreStepped, core_stepped, spent_counter, stops, ◌next◌, goes_on, Within, Outcome, as_step, entity, sn_of, was_attached, is_attached, has_bearer, radio_of, refused}
+use Rattle.run_defs.specs.Steps.{control_messages_spent, check_spans, put_on_tunnel, put_out_all, count_control_messages, too_many_control_messages, Done, is_done, is_held, is_refused, does, ordered_by, step}
+use Rattle.run_defs.specs.Conditions.{serving_gnb, serving_place, n3_from, is_held_by_units, has_started, ready_home, takes_control_messages, state_at, ticking, goal_of, is_same_place, is_other_up, is_busy_with, is_interface}
 use Rattle.run_defs.specs.Events.{static, order_each, start, with_terminal, attach, offered, offer_on_path, offer_by, offer, get_done, got_by, get_on, get, carry_done, carried_by, air_item, air_at, air, confirm_done, ack_items, ack_at, ack, landed_as, core_put, give_to, give_on, give, lose_message_on, lose_message, is_lossy, lose_items, lose_item_on, lose_item, pump_on, pump_times, pump_limit, pump, tick, poll_at, poll, fail, arrive, come_back, handover_to, handover, cancel, leaves, release, ask, core_injected, inject_to, inject_message, inject_item}
-use Rattle.proof_run_steps.specs.steps.Causes.{by_tick, by_octets, by_octets_on, by_attach, by_release, by_offer, by_item, by_air, by_ack, by_letter}
+use Rattle.proof_run_steps.specs.steps.Causes.{by_tick, by_octets, by_octets_on, by_attach, by_release, by_offer, by_item, by_air, by_ack, by_control_message}
 use Rattle.proof_run_steps.specs.facts.Facts.{Hold, HoldWith, GivenFits}
 use Rattle.proof_run_steps.proofs.facts.Within.{HoldsWith, then_holds, keep_checked, with_tunnels, keep_put_on_tunnel, same_links, keep_put_all}
 use Rattle.proof_run_steps.proofs.facts.Steps.{found_has}
@@ -55,13 +55,13 @@ module _ {M C L P : Type 0} (two : Two M C L P) (there : SameThere two) (event :
   unfolding static
   both_static plan is s h =
       both_choose two (was_attached s plan.ue || is_held_by_units plan s.units) _ _ _ _ (λ a. (refl, h))
-      (λ free. both_choose two (not (up_has_room (up_of s.units plan.gnb plan.up) plan)) _ _ _ _ (λ a. (refl, h))
-      (λ room. both_choose two (up_has_teids (up_of s.units plan.gnb plan.up) plan && du_has_teids (du_of s.units plan.gnb plan.du) plan) _ _ _ _
+      (λ free. both_choose two (not (cu_up_has_room (cu_up_of s.units plan.gnb plan.up) plan)) _ _ _ _ (λ a. (refl, h))
+      (λ room. both_choose two (cu_up_has_teids (cu_up_of s.units plan.gnb plan.up) plan && du_has_teids (du_of s.units plan.gnb plan.du) plan) _ _ _ _
       (λ teids. let planned : two.plan plan = subst (IsScripted two.input two.packet two.plan) is scripted in (
         refl,
         statically_holds (first two) two.facts plan s h
             (there.placed s.units plan planned (or_parts (was_attached s plan.ue) _ free).1 (holds_not _ room) teids h.units)
-            (there.core_placed s.core plan planned (n3_from 1 (up_of s.units plan.gnb plan.up).next_teid plan.bearers) h.core),
+            (there.core_placed s.core plan planned (n3_from 1 (cu_up_of s.units plan.gnb plan.up).next_teid plan.bearers) h.core),
       )) (λ a. (refl, tt))))
 
   pub both_each : (f g : NodeId → State M C L P → Outcome M C L P) → ((node : NodeId) → BothKeep two (f node) (g node)) → (nodes : List NodeId)
@@ -196,86 +196,86 @@ module _ {M C L P : Type 0} (two : Two M C L P) (there : SameThere two) (event :
       ≡ (e next put_out_all (second two) Core None outputs next check_spans)
   both_core_puts outputs e = λ i. e next (λ t. same_put_all (first two) two.answer Core None outputs t i) next check_spans
 
-  both_core : (number : ℕ) (l : Letter M) (s : State M C L P) → Hold two.facts s → letter s.bag number ≡ Some l → l.to ≡ Core
-      → (answer : CoreStepped M C L P) → two.world.core_answer (sn_of s) s.core (letter_for l.from l.message) ≡ answer
+  both_core : (number : ℕ) (l : ControlMessage M) (s : State M C L P) → Hold two.facts s → control_message s.bag number ≡ Some l → l.to ≡ Core
+      → (answer : CoreStepped M C L P) → two.world.core_answer (sn_of s) s.core (control_message_for l.from l.message) ≡ answer
       → Both two (core_put (first two) number l s answer) (core_put (second two) number l s answer)
-  unfolding landed letter
+  unfolding landed control_message
   both_core number l s h found at (core_stepped outputs core) is = (
-    λ i. if same_many (first two) two.answer outputs s i then stops [] (spent_counter letters_spent)
+    λ i. if same_many (first two) two.answer outputs s i then stops [] (spent_counter control_messages_spent)
         else as_step (Some Core) (both_core_puts outputs (landed_as (first two) number l (record s { core = core })) i),
-    by (too_many_letters (first two) outputs s) refl,
+    by (too_many_control_messages (first two) outputs s) refl,
   )
     where
       n : ℕ
-      n = count_letters (first two) outputs
+      n = count_control_messages (first two) outputs
 
-      fits : GivenFits two.facts Core None (letter_for l.from l.message)
+      fits : GivenFits two.facts Core None (control_message_for l.from l.message)
       fits = (
         l.ue,
-        subst (λ (x : NodeId). two.facts.letter (record { from = l.from; to = x; ue = l.ue; message = l.message })) at
-            (found_has nat_cmp two.facts.letter s.bag.letters number l h.letters found),
+        subst (λ (x : NodeId). two.facts.control_message (record { from = l.from; to = x; ue = l.ue; message = l.message })) at
+            (found_has nat_cmp two.facts.control_message s.bag.control_messages number l h.control_messages found),
       )
 
-      by : (t : Bool) → too_many_letters (first two) outputs s ≡ t
-          → HoldsWith (first two) two.facts 0 (if t then stops [] (spent_counter letters_spent)
+      by : (t : Bool) → too_many_control_messages (first two) outputs s ≡ t
+          → HoldsWith (first two) two.facts 0 (if t then stops [] (spent_counter control_messages_spent)
           else as_step (Some Core) (landed_as (first two) number l (record s { core = core }) next put_out_all (first two) Core None outputs next check_spans))
       by true many = tt
       by false few =
-          let answered = there.core_answers (sn_of s) s.core core (letter_for l.from l.message) outputs h.core fits tt is in
+          let answered = there.core_answers (sn_of s) s.core core (control_message_for l.from l.message) outputs h.core fits tt is in
           let ready : HoldWith two.facts n (record s { core = core }) =
           core_ready (first two) two.facts s core n h answered.0 (λ c. absurd (there.uncounted c)) in
           core_holds (first two) two.facts s core outputs (landed_as (first two) number l (record s { core = core })) (record {
             units = ready.units;
             core = ready.core;
-            letters = ready.letters;
+            control_messages = ready.control_messages;
             tunnels = ready.tunnels;
             radios = ready.radios;
             few = ready.few;
           }) answered.1
 
-  both_land : (number : ℕ) (l : Letter M) (s : State M C L P) → Hold two.facts s → HoldsWith (first two) two.facts 0 (landed_as (first two) number l s)
+  both_land : (number : ℕ) (l : ControlMessage M) (s : State M C L P) → Hold two.facts s → HoldsWith (first two) two.facts 0 (landed_as (first two) number l s)
   unfolding landed
   both_land number l s h = record {
     units = h.units;
     core = h.core;
-    letters = h.letters;
+    control_messages = h.control_messages;
     tunnels = h.tunnels;
     radios = h.radios;
     few = h.few;
   }
 
-  both_to_unit : (number : ℕ) (l : Letter M) (node : NodeId) (s : State M C L P) → Hold two.facts s → letter s.bag number ≡ Some l → l.to ≡ node
-      → Both two (if takes_letters s node
-      then ordered_by (first two) s (does (first two) node (letter_for l.from l.message) None (landed_as (first two) number l) s)
+  both_to_unit : (number : ℕ) (l : ControlMessage M) (node : NodeId) (s : State M C L P) → Hold two.facts s → control_message s.bag number ≡ Some l → l.to ≡ node
+      → Both two (if takes_control_messages s node
+      then ordered_by (first two) s (does (first two) node (control_message_for l.from l.message) None (landed_as (first two) number l) s)
       else as_step (Some node) (landed_as (first two) number l s))
-      (if takes_letters s node
-      then ordered_by (second two) s (does (second two) node (letter_for l.from l.message) None (landed_as (second two) number l) s)
+      (if takes_control_messages s node
+      then ordered_by (second two) s (does (second two) node (control_message_for l.from l.message) None (landed_as (second two) number l) s)
       else as_step (Some node) (landed_as (second two) number l s))
   both_to_unit number l node s h found at =
-      both_choose two (takes_letters s node) _ _ _ _
-      (λ takes. both_ordered two s h (does (first two) node (letter_for l.from l.message) None (landed_as (first two) number l) s)
-      (does (second two) node (letter_for l.from l.message) None (landed_as (second two) number l) s)
-      (both_does two there event scripted (by_letter number l node) s h (found, at, takes) tt))
+      both_choose two (takes_control_messages s node) _ _ _ _
+      (λ takes. both_ordered two s h (does (first two) node (control_message_for l.from l.message) None (landed_as (first two) number l) s)
+      (does (second two) node (control_message_for l.from l.message) None (landed_as (second two) number l) s)
+      (both_does two there event scripted (by_control_message number l node) s h (found, at, takes) tt))
       (λ a. (refl, both_land number l s h))
 
-  both_to : (number : ℕ) (l : Letter M) (node : NodeId) (s : State M C L P) → Hold two.facts s → letter s.bag number ≡ Some l → l.to ≡ node
+  both_to : (number : ℕ) (l : ControlMessage M) (node : NodeId) (s : State M C L P) → Hold two.facts s → control_message s.bag number ≡ Some l → l.to ≡ node
       → Both two (give_to (first two) number l node s) (give_to (second two) number l node s)
-  both_to number l Core s h found at = both_core number l s h found at (two.world.core_answer (sn_of s) s.core (letter_for l.from l.message)) refl
+  both_to number l Core s h found at = both_core number l s h found at (two.world.core_answer (sn_of s) s.core (control_message_for l.from l.message)) refl
   both_to number l (CuCp gnb) s h found at = both_to_unit number l (CuCp gnb) s h found at
   both_to number l (CuUp gnb n) s h found at = both_to_unit number l (CuUp gnb n) s h found at
   both_to number l (Du gnb n) s h found at = both_to_unit number l (Du gnb n) s h found at
   both_to number l (Ue ue) s h found at = both_to_unit number l (Ue ue) s h found at
 
-  both_give_on : (number : ℕ) (s : State M C L P) → Hold two.facts s → (o : Option (Letter M)) → letter s.bag number ≡ o
+  both_give_on : (number : ℕ) (s : State M C L P) → Hold two.facts s → (o : Option (ControlMessage M)) → control_message s.bag number ≡ o
       → Both two (give_on (first two) number s o) (give_on (second two) number s o)
   both_give_on number s h None found = (refl, h)
   both_give_on number s h (Some l) found = both_to number l l.to s h found refl
 
   pub both_give : (number : ℕ) → BothKeep two (give (first two) number) (give (second two) number)
   unfolding give
-  both_give number s h = both_give_on number s h (letter s.bag number) refl
+  both_give number s h = both_give_on number s h (control_message s.bag number) refl
 
-  both_lose_message_on : (number : ℕ) (s : State M C L P) → Hold two.facts s → (o : Option (Letter M))
+  both_lose_message_on : (number : ℕ) (s : State M C L P) → Hold two.facts s → (o : Option (ControlMessage M))
       → Both two (lose_message_on (first two) number s o) (lose_message_on (second two) number s o)
   unfolding landed
   both_lose_message_on number s h None = (refl, h)
@@ -285,7 +285,7 @@ module _ {M C L P : Type 0} (two : Two M C L P) (there : SameThere two) (event :
         record {
           units = h.units;
           core = h.core;
-          letters = h.letters;
+          control_messages = h.control_messages;
           tunnels = h.tunnels;
           radios = h.radios;
           few = h.few;
@@ -294,7 +294,7 @@ module _ {M C L P : Type 0} (two : Two M C L P) (there : SameThere two) (event :
 
   pub both_lose_message : (number : ℕ) → BothKeep two (lose_message (first two) number) (lose_message (second two) number)
   unfolding lose_message
-  both_lose_message number s h = both_lose_message_on number s h (letter s.bag number)
+  both_lose_message number s h = both_lose_message_on number s h (control_message s.bag number)
 
   both_lose_items : (end : TunnelEnd) (s : State M C L P) → Hold two.facts s → (items : List (Item L)) → find tunnel_cmp s.tunnels end ≡ Some items
       → Both two (lose_items (first two) end s items) (lose_items (second two) end s items)
@@ -352,7 +352,7 @@ module _ {M C L P : Type 0} (two : Two M C L P) (there : SameThere two) (event :
       → BothKeep two (λ s. poll_at (first two) ue bearer gnb s o) (λ s. poll_at (second two) ue bearer gnb s o)
   both_poll_at ue bearer gnb None s h = (refl, h)
   both_poll_at ue bearer gnb (Some place) s h =
-      both_choose two (is_unconfirmed (up_of s.units gnb place.0) ue bearer) _ _ _ _
+      both_choose two (is_unconfirmed (cu_up_of s.units gnb place.0) ue bearer) _ _ _ _
       (λ a. both_order two there event scripted (CuUp gnb place.0) (orders.Poll ue bearer) tt s h) (λ a. (refl, h))
 
   pub both_poll : (ue : UeId) (bearer : BearerId) → BothKeep two (poll (first two) ue bearer) (poll (second two) ue bearer)
@@ -400,8 +400,8 @@ module _ {M C L P : Type 0} (two : Two M C L P) (there : SameThere two) (event :
   unfolding cancel
   both_cancel ue s h =
       both_choose two (not (is_attached s ue)) _ _ _ _ (λ a. (refl, h))
-      (λ a. both_choose two (is_source s.units.cp_a ue) _ _ _ _ (λ b. both_order two there event scripted (CuCp A) (orders.Cancel ue) tt s h)
-      (λ b. both_choose two (is_source s.units.cp_b ue) _ _ _ _ (λ c. both_order two there event scripted (CuCp B) (orders.Cancel ue) tt s h) (λ c. (refl, h))))
+      (λ a. both_choose two (is_source s.units.cu_cp_a ue) _ _ _ _ (λ b. both_order two there event scripted (CuCp A) (orders.Cancel ue) tt s h)
+      (λ b. both_choose two (is_source s.units.cu_cp_b ue) _ _ _ _ (λ c. both_order two there event scripted (CuCp B) (orders.Cancel ue) tt s h) (λ c. (refl, h))))
 
   pub both_release : (ue : UeId) → event ≡ events.Release ue → BothKeep two (release (first two) ue) (release (second two) ue)
   unfolding release
@@ -427,7 +427,7 @@ module _ {M C L P : Type 0} (two : Two M C L P) (there : SameThere two) (event :
         step_holds (first two) two.facts (Some Core) (put_out_all (first two) Core None outputs (record s { core = core }) next check_spans)
             (then_holds (first two) two.facts 0 0 (put_out_all (first two) Core None outputs (record s { core = core })) check_spans
             (keep_put_all (first two) two.facts Core None outputs answered.1 (record s { core = core })
-            (core_ready (first two) two.facts s core (count_letters (first two) outputs) h answered.0 (λ c. absurd (there.uncounted c))))
+            (core_ready (first two) two.facts s core (count_control_messages (first two) outputs) h answered.0 (λ c. absurd (there.uncounted c))))
             (λ x k. keep_checked (first two) two.facts 0 x k)),
       )
 

@@ -13,13 +13,13 @@ use Rattle.unit_defs.specs.declared.UeState.TheVariants as ue_states
 use Rattle.unit_defs.specs.Ue.{UeNode}
 use Rattle.unit_defs.specs.Ways.{Put, control, packet, radio, deliver, dropped, held, opened, closed, failed, no}
 use Rattle.transport_defs.specs.declared.Item.{Item}
-use Rattle.transport_defs.specs.Links.{most_letters, emptied}
+use Rattle.transport_defs.specs.Links.{most_control_messages, emptied}
 use Rattle.run_defs.specs.Lines.{put_item, tunnel_link, shown}
 use Rattle.run_defs.specs.Units.{Units, ue_of}
 use Rattle.run_defs.specs.States.{State, Given, Stepped, World, Lengths, goes, told_before, ◌next◌, goes_on, Within, entity, radio_of, was_attached}
-use Rattle.run_defs.specs.Steps.{check_spans, noted, count_beside, item_of, on_tunnel, put_on_tunnel, put_on_radio, put_control, lost_if, opens, closes, radio_lost, lose_each, lose_radios_of, lose_radios, radios_of, is_on_air, epoch_on_air, epoch_now, same_epoch, connect_in, reconnect, reconnect_node, put_out, put_out_all, count_letters, too_many_letters, carried_out}
+use Rattle.run_defs.specs.Steps.{check_spans, noted, count_beside, item_of, on_tunnel, put_on_tunnel, put_on_radio, put_control, lost_if, opens, closes, radio_lost, lose_each, lose_radios_of, lose_radios, radios_of, is_on_air, epoch_on_air, epoch_now, same_epoch, connect_in, reconnect, reconnect_node, put_out, put_out_all, count_control_messages, too_many_control_messages, carried_out}
 use Rattle.run_defs.specs.Events.{leaves}
-use Rattle.proof_run_steps.specs.steps.Causes.{Cause, by_order, by_tick, by_octets, by_octets_on, by_attach, by_release, by_offer, by_item, by_air, by_ack, by_letter, node_of, count_of, first_of}
+use Rattle.proof_run_steps.specs.steps.Causes.{Cause, by_order, by_tick, by_octets, by_octets_on, by_attach, by_release, by_offer, by_item, by_air, by_ack, by_control_message, node_of, count_of, first_of}
 
 -- the world whose units answer otherwise
 abbrev pub answered_by : {M C L P : Type 0} → World M C L P → (Lengths → Units M C → NodeId → Given M L P → Stepped M C L P) → World M C L P
@@ -133,7 +133,7 @@ module _ {M C L P : Type 0} (world : World M C L P) (answer : Lengths → Units 
   same_put_all node taken (output ∷ outputs) s =
       λ i. same_put_out node taken output s i next (λ t. same_put_all node taken outputs t i)
 
-  same_count : (outputs : List (Put M L P)) → count_letters world outputs ≡ count_letters other outputs
+  same_count : (outputs : List (Put M L P)) → count_control_messages world outputs ≡ count_control_messages other outputs
   same_count [] = refl
   same_count (control to ue message ∷ outputs) = λ i. same_count outputs i + 1
   same_count (packet to teid ue bearer dir tag load ∷ outputs) = same_count outputs
@@ -146,8 +146,8 @@ module _ {M C L P : Type 0} (world : World M C L P) (answer : Lengths → Units 
   same_count (held reason ∷ outputs) = same_count outputs
   same_count (no reason ∷ outputs) = same_count outputs
 
-  pub same_many : (outputs : List (Put M L P)) (s : State M C L P) → too_many_letters world outputs s ≡ too_many_letters other outputs s
-  same_many outputs s = λ i. nat_lt most_letters (length s.bag.letters + same_count outputs i)
+  pub same_many : (outputs : List (Put M L P)) (s : State M C L P) → too_many_control_messages world outputs s ≡ too_many_control_messages other outputs s
+  same_many outputs s = λ i. nat_lt most_control_messages (length s.bag.control_messages + same_count outputs i)
 
   -- ---- a step
 
@@ -162,7 +162,7 @@ module _ {M C L P : Type 0} (world : World M C L P) (answer : Lengths → Units 
   same_first (by_item end item rest) s = refl
   same_first (by_air key home item) s = refl
   same_first (by_ack key home item rest) s = refl
-  same_first (by_letter number l to) s = refl
+  same_first (by_control_message number l to) s = refl
 
   pub same_carried : (cause : Cause M L P) (outputs : List (Put M L P)) (units : Units M C) (s : State M C L P)
       → carried_out world (node_of cause) (count_of cause) (first_of world cause) outputs units s

@@ -17,7 +17,7 @@ use Rattle.unit_defs.specs.declared.UeState.{UeState}
 use Rattle.unit_defs.specs.declared.UeState.TheVariants as ue_states
 use Rattle.unit_defs.specs.Accessors.{is_unconfirmed}
 use Rattle.run_defs.specs.Lines.{held_at, radio_link}
-use Rattle.run_defs.specs.Units.{up_of}
+use Rattle.run_defs.specs.Units.{cu_up_of}
 use Rattle.transport_defs.specs.declared.Item.{Item}
 use Rattle.transport_defs.specs.Links.{nth}
 use Rattle.run_defs.specs.States.{State, order_for, goes, goes_on, Outcome, as_step, radio_of}
@@ -182,7 +182,7 @@ module _ {M C L P : Type 0} (two : Two M C L P) (there : SameThere two) (event :
   both_poll_at : (e : UeId × BearerId) (o : Option (ℕ × ℕ)) → BothKeep two (λ s. poll_at (first two) e s o) (λ s. poll_at (second two) e s o)
   both_poll_at e None s h = (refl, h)
   both_poll_at e (Some place) s h =
-      both_choose two (is_unconfirmed (up_of s.units (serving_gnb s e.0) place.0) e.0 e.1) _ _ _ _
+      both_choose two (is_unconfirmed (cu_up_of s.units (serving_gnb s e.0) place.0) e.0 e.1) _ _ _ _
       (λ a. both_quiet_order (CuUp (serving_gnb s e.0) place.0) (orders.Poll e.0 e.1) tt s h) (λ a. (refl, h))
 
   both_poll_each : (es : List (UeId × BearerId)) → BothKeep two (poll_each (first two) es) (poll_each (second two) es)

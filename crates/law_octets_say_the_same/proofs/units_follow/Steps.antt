@@ -19,11 +19,11 @@ use Rattle.scenario_text.specs.declared.event.Event.TheVariants as events
 use Rattle.unit_defs.specs.Ways.{Put, held, no}
 use Rattle.unit_defs.specs.Messages.{teid_of}
 use Rattle.unit_defs.specs.Core.{CorePath, CoreRecord}
-use Rattle.unit_defs.specs.Static.{up_has_room, up_has_teids, du_has_teids}
+use Rattle.unit_defs.specs.Static.{cu_up_has_room, cu_up_has_teids, du_has_teids}
 use Rattle.unit_defs.specs.Ue.{new_ue}
-use Rattle.run_defs.specs.Units.{Units, up_of, du_of, with_ue}
+use Rattle.run_defs.specs.Units.{Units, cu_up_of, du_of, with_ue}
 use Rattle.run_defs.specs.States.{State, Given, offer_for, order_for, octets_from, octets_on, Stepped, stepped, step_spent, core_stepped, World, Lengths, spent_counter, goes, stops, told_before, ◌next◌, goes_on, Outcome, as_step, entity, sn_of}
-use Rattle.run_defs.specs.Steps.{letters_spent, too_many_letters, Done, is_done, is_held, is_refused, carried_out, done_with, does, ordered_by, step}
+use Rattle.run_defs.specs.Steps.{control_messages_spent, too_many_control_messages, Done, is_done, is_held, is_refused, carried_out, done_with, does, ordered_by, step}
 use Rattle.run_defs.specs.Conditions.{is_held_by_units, units_placed, all_set_up}
 use Rattle.proof_run_steps.specs.steps.Causes.{Cause, IsNoAttach, by_order, by_attach, node_of, given_of, count_of, first_of, Stands}
 use Rattle.proof_run_steps.specs.facts.Facts.{Facts, Hold, PutsFit, GivenFits}
@@ -57,8 +57,8 @@ pub record SameThere {M C L P : Type 0} (two : Two M C L P) : Type 0 where
       → two.facts.units u → GivenFits two.facts node taken given → FromScript two.input node given
       → two.world.answer lengths u node given ≡ stepped outputs v → two.facts.units v × PutsFit two.facts node taken outputs
   pub comes : (u : Units M C) (plan : Plan) → two.plan plan → two.facts.units u → two.facts.units (with_ue u plan.ue (new_ue plan))
-  pub placed : (u : Units M C) (plan : Plan) → two.plan plan → is_held_by_units plan u ≡ false → up_has_room (up_of u plan.gnb plan.up) plan ≡ true
-      → up_has_teids (up_of u plan.gnb plan.up) plan && du_has_teids (du_of u plan.gnb plan.du) plan ≡ true
+  pub placed : (u : Units M C) (plan : Plan) → two.plan plan → is_held_by_units plan u ≡ false → cu_up_has_room (cu_up_of u plan.gnb plan.up) plan ≡ true
+      → cu_up_has_teids (cu_up_of u plan.gnb plan.up) plan && du_has_teids (du_of u plan.gnb plan.du) plan ≡ true
       → two.facts.units u → two.facts.units (all_set_up (units_placed plan u))
   pub core_answers : (lengths : Lengths) (r q : CoreRecord M C) (given : Given M L P) (outputs : List (Put M L P)) → two.facts.core r
       → GivenFits two.facts Core None given → FromScript two.input Core given → two.world.core_answer lengths r given ≡ core_stepped outputs q
@@ -132,8 +132,8 @@ module _ {M C L P : Type 0} (two : Two M C L P) where
           let attaches : event ≡ events.Attach plan = (subst (Stands event s) is stands).0 in subst (IsScripted two.input two.packet two.plan) attaches known
 
       if_few : (outputs : List (Put M L P)) (units : Units M C) → first.answer (sn_of s) s.units (node_of cause) (given_of cause) ≡ stepped outputs units
-          → (t : Bool) → too_many_letters first outputs s ≡ t
-          → DoneHolds (if t then is_done (stops [] (spent_counter letters_spent))
+          → (t : Bool) → too_many_control_messages first outputs s ≡ t
+          → DoneHolds (if t then is_done (stops [] (spent_counter control_messages_spent))
           else is_done (as_step (Some (node_of cause)) (carried_out first (node_of cause) (count_of cause) (first_of first cause) outputs units s)))
       if_few outputs units is true many = tt
       if_few outputs units is false few =
@@ -146,7 +146,7 @@ module _ {M C L P : Type 0} (two : Two M C L P) where
           → DoneHolds (done_with first (node_of cause) (count_of cause) (first_of first cause) s a)
       done_holds (stepped (held reason ∷ []) units) is = tt
       done_holds (stepped (no reason ∷ []) units) is = tt
-      done_holds (stepped outputs units) is = if_few outputs units is (too_many_letters first outputs s) refl
+      done_holds (stepped outputs units) is = if_few outputs units is (too_many_control_messages first outputs s) refl
       done_holds (step_spent counter) is = tt
 
       same_done : (a : Stepped M C L P) → done_with first (node_of cause) (count_of cause) (first_of first cause) s a
@@ -154,7 +154,7 @@ module _ {M C L P : Type 0} (two : Two M C L P) where
       same_done (stepped (held reason ∷ []) units) = refl
       same_done (stepped (no reason ∷ []) units) = refl
       same_done (stepped outputs units) =
-          λ i. if same_many first two.answer outputs s i then is_done (stops [] (spent_counter letters_spent))
+          λ i. if same_many first two.answer outputs s i then is_done (stops [] (spent_counter control_messages_spent))
           else is_done (as_step (Some (node_of cause)) (same_carried first two.answer cause outputs units s i))
       same_done (step_spent counter) = refl
 

@@ -16,7 +16,7 @@ use Rattle.unit_defs.specs.octet_defs.Codec.{Codec}
 use Rattle.unit_defs.specs.octet_defs.Writing.{outputs_of}
 use Rattle.unit_defs.specs.octet_defs.Units.{OctetAnswer, core_steps}
 use Rattle.transport_defs.specs.declared.Item.{Item}
-use Rattle.run_defs.specs.States.{new_state, letter_for, item_for, carried_for, confirmed_for, offer_for, tick_for, order_for, octets_from, octets_on, stepped, step_spent, core_stepped}
+use Rattle.run_defs.specs.States.{new_state, control_message_for, item_for, carried_for, confirmed_for, offer_for, tick_for, order_for, octets_from, octets_on, stepped, step_spent, core_stepped}
 use Rattle.run_defs.specs.UnitRuns.{Meaning, Records, UnitAnswer, unit_gives, unit_spent, OctetGiven, OctetStepped, OctetCoreStepped, input_of, put_of, stepped_by, core_done, core_answer, unit_world, tables, UnitRun}
 use Rattle.proof_run_steps.specs.facts.Facts.{Facts, Hold, PutFits, PutsFit, GivenFits}
 use Rattle.law_octets_say_the_same.specs.units_follow.Ranges.{Range, IsInRange, Hands, StaysInRange, FollowsThere}
@@ -38,7 +38,7 @@ module _ (codec : Codec) (answer : Meaning) (range : Range) (stays : StaysInRang
   in_range = record {
     units = range.records;
     core = range.core;
-    letter = λ l. range.input l.to (ins.Control l.from l.message);
+    control_message = λ l. range.input l.to (ins.Control l.from l.message);
     puts_on = λ node end item. OnTunnel end item;
     puts_on_air = λ node key item. OnRadio key item;
     on_tunnel = OnTunnel;
@@ -63,7 +63,7 @@ module _ (codec : Codec) (answer : Meaning) (range : Range) (stays : StaysInRang
   given_in_range : (node : NodeId) (taken : Option ℕ) (given : OctetGiven) → GivenFits in_range node taken given → FromScript range.input node given
       → range.input node (input_of given)
   unfolding in_range OnTunnel OnRadio
-  given_in_range node taken (letter_for from octets) p q = p.1
+  given_in_range node taken (control_message_for from octets) p q = p.1
   given_in_range node taken (item_for teid item) p q = p.1
   given_in_range node taken (carried_for item) p q = (p.1.1 node).0
   given_in_range node taken (confirmed_for item) p q = (p.1.1 node).1
@@ -123,7 +123,7 @@ module _ (codec : Codec) (answer : Meaning) (range : Range) (stays : StaysInRang
   core_fits : (r : CoreRecord (List ℕ) (List ℕ)) (given : OctetGiven) → range.core r → GivenFits in_range Core None given
       → FromScript range.input Core given → CoreFits (core_answer codec r given)
   unfolding CoreFits in_range
-  core_fits r (letter_for from octets) at p q = core_takes r from octets at p.1
+  core_fits r (control_message_for from octets) at p q = core_takes r from octets at p.1
   core_fits r (octets_from from octets) at p q = core_takes r from octets at q
   core_fits r (item_for teid item) at p q = (at, (tt, tt))
   core_fits r (carried_for item) at p q = (at, (tt, tt))
@@ -154,7 +154,7 @@ module _ (codec : Codec) (answer : Meaning) (range : Range) (stays : StaysInRang
   holds_first = record {
     units = stays.begins;
     core = stays.core_begins;
-    letters = tt;
+    control_messages = tt;
     tunnels = λ end items found. absurd cc;
     radios = λ key. tt;
     few = λ c. absurd c;

@@ -9,8 +9,8 @@ use Rattle.run_defs.specs.Local.{Local, CountMeans}
 use Rattle.run_defs.specs.Runs.{Happened}
 use Rattle.run_defs.specs.Said.{all_lines, Wires}
 use Rattle.run_defs.specs.States.{entity}
-use Rattle.law_downlink_scripts.specs.steady_runs.Scripts.{DeliversInOrder}
-use Rattle.law_units_act_locally.specs.cp_interfaces.Interfaces.{IsOf}
+use Rattle.law_downlink_scripts.specs.downlink_only_runs.Scripts.{DeliversInOrder}
+use Rattle.law_units_act_locally.specs.cu_cp_interfaces.Interfaces.{IsOf}
 use Rattle.law_octets_say_the_same.specs.octet_local.Spelt.{Spelt}
 
 pub record KeepsPromise (codec : Codec) (happened : List (Happened (List ℕ))) : Type 0 where

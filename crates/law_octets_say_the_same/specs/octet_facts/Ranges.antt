@@ -12,14 +12,14 @@ use Rattle.tables.specs.Tables.{find}
 use Rattle.pdcp.specs.Near.{last_count}
 use Rattle.link_defs.specs.Decoding.{IsSized}
 use Rattle.unit_defs.specs.Ways.{Pdu, packet_pdu, Load, fresh, frame, status}
-use Rattle.unit_defs.specs.UpRecords.{UpContext}
+use Rattle.unit_defs.specs.CuUpRecords.{CuUpContext}
 use Rattle.unit_defs.specs.CuUp.{context_of as up_context_of}
 use Rattle.unit_defs.specs.Du.{DuContext, context_of as du_context_of}
 use Rattle.unit_defs.specs.Ue.{UeNode}
 use Rattle.scenario_text.specs.declared.event.Event.{Event}
 use Rattle.scenario_text.specs.declared.event.Event.TheVariants as events
 use Rattle.transport_defs.specs.declared.Item.{Item}
-use Rattle.run_defs.specs.Units.{up_of, du_of, ue_of}
+use Rattle.run_defs.specs.Units.{cu_up_of, du_of, ue_of}
 use Rattle.run_defs.specs.Written.{Written, written_item, written_pdu}
 use Rattle.run_defs.specs.States.{new_state, radio_of, sn_of}
 use Rattle.run_defs.specs.Runs.{Reading, plain_world}
@@ -65,7 +65,7 @@ pub record IsRanged (Acks : Type 0) (s : PlainState) : Type 0 where
   pub tunnels : (end : TunnelEnd) (items : List (Item (Written (Load Pdu)))) → find tunnel_cmp s.tunnels end ≡ Some items
       → AllByRecursion (IsWrittenOn Acks s end.teid) items
   pub radios : (key : EntityKey) → AllByRecursion (IsWrittenAt s) (radio_of s key).items
-  pub ups : (g : Gnb) (n : ℕ) (ue : UeId) (c : UpContext) → up_context_of (up_of s.units g n) ue ≡ Some c → c.sn ≡ sn_of s ue
+  pub ups : (g : Gnb) (n : ℕ) (ue : UeId) (c : CuUpContext) → up_context_of (cu_up_of s.units g n) ue ≡ Some c → c.sn ≡ sn_of s ue
   pub dus : (g : Gnb) (n : ℕ) (ue : UeId) (c : DuContext) → du_context_of (du_of s.units g n) ue ≡ Some c → c.sn ≡ sn_of s ue
   pub ues : (ue : UeId) (u : UeNode) → ue_of s.units ue ≡ Some u → u.plan.sn ≡ sn_of s ue
 

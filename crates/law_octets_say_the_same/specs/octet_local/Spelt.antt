@@ -6,4 +6,4 @@ use Rattle.unit_defs.specs.Ways.{Message}
 
 -- they spell a message that is so
 abbrev pub Spelt : (Message Token → List ℕ) → (NodeId → NodeId → Message Token → Type 0) → NodeId → NodeId → List ℕ → Type 0
-Spelt spell IsSpelled from to octets = (message : Message Token) × IsSpelled from to message × (octets ≡ spell message)
+Spelt encode IsSpelled from to octets = (message : Message Token) × IsSpelled from to message × (octets ≡ encode message)

@@ -2,7 +2,7 @@
 use Rattle.std.specs.Prelude.{ℕ, List, map}
 use Rattle.unit_defs.specs.Transactions.{no_transactions}
 use Rattle.unit_defs.specs.Ways.{Pdu, Output, control, packet, radio, deliver, dropped, held, opened, closed, failed, no, Answer, gives, spent}
-use Rattle.unit_defs.specs.UpRecords.{CuUp}
+use Rattle.unit_defs.specs.CuUpRecords.{CuUp}
 use Rattle.unit_defs.specs.Du.{Du}
 use Rattle.unit_defs.specs.octet_defs.Writing.{pdu_octets, written_load}
 use Rattle.run_defs.specs.States.{Lengths}

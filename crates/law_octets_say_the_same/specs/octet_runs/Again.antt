@@ -5,14 +5,14 @@ use Rattle.tables.specs.Tables.{map_values}
 use Rattle.message_types.specs.declared.rrc.Token.{Token}
 use Rattle.unit_defs.specs.Transactions.{no_transactions}
 use Rattle.unit_defs.specs.Ways.{Message, Pdu, Load, Put, control, packet, radio, deliver, dropped, held, opened, closed, failed, no}
-use Rattle.unit_defs.specs.CpRecords.{CuCpRecord}
+use Rattle.unit_defs.specs.CuCpRecords.{CuCpRecord}
 use Rattle.unit_defs.specs.Core.{CoreRecord}
 use Rattle.transport_defs.specs.declared.Item.{Item}
-use Rattle.transport_defs.specs.declared.Letter.{Letter}
+use Rattle.transport_defs.specs.declared.ControlMessage.{ControlMessage}
 use Rattle.transport_defs.specs.Links.{Bag, Radio}
 use Rattle.run_defs.specs.Units.{Units}
 use Rattle.run_defs.specs.Written.{Written}
-use Rattle.run_defs.specs.States.{State, Given, letter_for, item_for, carried_for, confirmed_for, offer_for, tick_for, order_for, octets_from, octets_on, Stepped, stepped, step_spent}
+use Rattle.run_defs.specs.States.{State, Given, control_message_for, item_for, carried_for, confirmed_for, offer_for, tick_for, order_for, octets_from, octets_on, Stepped, stepped, step_spent}
 use Rattle.run_defs.specs.UnitRuns.{OctetGiven, OctetPut, OctetStepped}
 use Rattle.law_octets_say_the_same.specs.octet_rows.Octets.{up_again, du_again}
 
@@ -38,8 +38,8 @@ core_again r = record { paths = r.paths; transactions = no_transactions }
 
 abbrev pub units_again : PlainUnits → OctetUnits
 units_again u = record {
-  cp_a = cp_again u.cp_a;
-  cp_b = cp_again u.cp_b;
+  cu_cp_a = cp_again u.cu_cp_a;
+  cu_cp_b = cp_again u.cu_cp_b;
   ups = map_values up_again u.ups;
   dus = map_values du_again u.dus;
   ues = u.ues;
@@ -57,11 +57,11 @@ abbrev pub radio_again : Radio (Written Pdu) → Radio (List ℕ)
 radio_again r = record { items = items_again r.items; carried = r.carried }
 
 module _ (spelled : Message Token → List ℕ) where
-  abbrev pub letter_again : Letter (Message Token) → Letter (List ℕ)
-  letter_again l = record { from = l.from; to = l.to; ue = l.ue; message = spelled l.message }
+  abbrev pub control_message_again : ControlMessage (Message Token) → ControlMessage (List ℕ)
+  control_message_again l = record { from = l.from; to = l.to; ue = l.ue; message = spelled l.message }
 
   abbrev pub bag_again : Bag (Message Token) → Bag (List ℕ)
-  bag_again bag = record { letters = map_values letter_again bag.letters; flight = bag.flight }
+  bag_again bag = record { control_messages = map_values control_message_again bag.control_messages; flight = bag.flight }
 
   -- ---- a state
 
@@ -82,7 +82,7 @@ module _ (spelled : Message Token → List ℕ) where
   -- ---- what a unit is given, what it puts out, and what comes of it
 
   abbrev pub given_again : Given (Message Token) (Written (Load Pdu)) (Written Pdu) → OctetGiven
-  given_again (letter_for from message) = letter_for from (spelled message)
+  given_again (control_message_for from message) = control_message_for from (spelled message)
   given_again (item_for teid item) = item_for teid (item_again item)
   given_again (carried_for item) = carried_for (item_again item)
   given_again (confirmed_for item) = confirmed_for (item_again item)

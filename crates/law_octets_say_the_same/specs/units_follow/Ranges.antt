@@ -19,14 +19,14 @@ use Rattle.link_defs.specs.Layouts.{forwarded_fresh}
 use Rattle.unit_defs.specs.Ways.{Put, Load, gives}
 use Rattle.unit_defs.specs.Messages.{teid_of}
 use Rattle.unit_defs.specs.Core.{CorePath, CoreRecord, new_core}
-use Rattle.unit_defs.specs.Static.{up_has_room, up_has_teids, du_has_teids}
+use Rattle.unit_defs.specs.Static.{cu_up_has_room, cu_up_has_teids, du_has_teids}
 use Rattle.unit_defs.specs.Ue.{new_ue}
 use Rattle.unit_defs.specs.octet_defs.Codec.{Codec}
 use Rattle.unit_defs.specs.octet_defs.Writing.{outputs_of}
 use Rattle.unit_defs.specs.octet_defs.Units.{core_steps}
 use Rattle.scenario_text.specs.declared.event.Event.{Event}
 use Rattle.scenario_text.specs.declared.event.Event.TheVariants as events
-use Rattle.run_defs.specs.Units.{new_units, up_of, du_of, with_ue}
+use Rattle.run_defs.specs.Units.{new_units, cu_up_of, du_of, with_ue}
 use Rattle.run_defs.specs.Conditions.{is_held_by_units, units_placed, all_set_up}
 use Rattle.run_defs.specs.UnitRuns.{Meaning, Records, unit_gives, tables}
 
@@ -70,8 +70,8 @@ pub record StaysInRange (codec : Codec) (answer : Meaning) (range : Range) : Typ
   pub ticks : (node : NodeId) → range.input node ins.Tick
   pub begins : range.records new_units
   pub comes : (r : Records) (plan : Plan) → range.plan plan → range.records r → range.records (with_ue r plan.ue (new_ue plan))
-  pub places : (r : Records) (plan : Plan) → range.plan plan → is_held_by_units plan r ≡ false → up_has_room (up_of r plan.gnb plan.up) plan ≡ true
-      → up_has_teids (up_of r plan.gnb plan.up) plan && du_has_teids (du_of r plan.gnb plan.du) plan ≡ true
+  pub places : (r : Records) (plan : Plan) → range.plan plan → is_held_by_units plan r ≡ false → cu_up_has_room (cu_up_of r plan.gnb plan.up) plan ≡ true
+      → cu_up_has_teids (cu_up_of r plan.gnb plan.up) plan && du_has_teids (du_of r plan.gnb plan.du) plan ≡ true
       → range.records r → range.records (all_set_up (units_placed plan r))
   pub answers : (r after : Records) (node : NodeId) (input : Input) (outputs : List Output) → range.records r → range.input node input
       → answer r node input ≡ unit_gives outputs after → range.records after × AllByRecursion (Hands range node) outputs

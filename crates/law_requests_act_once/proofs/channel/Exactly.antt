@@ -137,9 +137,9 @@ module _ {M C P : Type 0} (talk : Talk M C P) where
           (if b then begins_no_more else begun_with t.caller c w.deadline (at channel_cmp 0 t.caller.last c + 1))))
       by true = tt
       by false =
-          holds _ (at channel_cmp 0 t.caller.last c + 1) (talk.way.spell (with_instance (at channel_cmp 0 t.caller.last c + 1) w.message))
+          holds _ (at channel_cmp 0 t.caller.last c + 1) (talk.way.encode (with_instance (at channel_cmp 0 t.caller.last c + 1) w.message))
           (begun_asks t c w.deadline (at channel_cmp 0 t.caller.last c + 1)
-          (talk.way.spell (with_instance (at channel_cmp 0 t.caller.last c + 1) w.message)))
+          (talk.way.encode (with_instance (at channel_cmp 0 t.caller.last c + 1) w.message)))
 
   -- where another end has an open request here, and is the same elsewhere
   opened_waits : {t u : Transactions M C} {c : Channel} {a : Asking M C} {o : Opened M} → Asks t u c a → a.opened ≡ Some o

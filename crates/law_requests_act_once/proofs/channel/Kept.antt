@@ -66,7 +66,7 @@ module _ {M C P : Type 0} (talk : Talk M C P) {net : Net M C} (good : Good talk 
     given_last = at channel_cmp 0 t.caller.last c
 
     abbrev message_of : ℕ → M
-    message_of i = talk.way.spell (with_instance i w.message)
+    message_of i = talk.way.encode (with_instance i w.message)
 
     last_is : given_last ≡ (asking_at here c).last
     last_is = ap (λ (b : Asking M C). b.last) asks_first.here ∙ last
@@ -313,12 +313,12 @@ module _ {M C P : Type 0} (talk : Talk M C P) {net : Net M C} (good : Good talk 
 
   pub good_replies : (c : Channel) (m : Message C) → May talk net n (replies c m) → Good talk (after_move talk net n (replies c m))
   unfolding replied
-  good_replies c m may = good_replying may.1 (kept_tells here c may.0 (talk.way.spell m) may.1.is_newest)
+  good_replies c m may = good_replying may.1 (kept_tells here c may.0 (talk.way.encode m) may.1.is_newest)
 
   pub good_replies_late : (c : Channel) (i : ℕ) (m : Message C) → May talk net n (replies_late c i m)
       → Good talk (after_move talk net n (replies_late c i m))
   unfolding replied_late
-  good_replies_late c i m may = good_replying may (kept_late_tells here c i (talk.way.spell m) may.is_newest)
+  good_replies_late c i m may = good_replying may (kept_late_tells here c i (talk.way.encode m) may.is_newest)
 
   tells_nothing : (c : Channel) → Tells here here c (answering_at here c)
   tells_nothing c = record { here = refl; apart = λ k other. refl; caller = refl; waiting = refl }

@@ -12,7 +12,7 @@ use Rattle.tables.specs.Tables.{at, find, IsSorted}
 use Rattle.transaction_defs.specs.Callers.{Opened, Caller, opened_at, after_tick, is_last, one_less}
 use Rattle.transaction_defs.specs.Callees.{kept_at, Callee}
 use Rattle.unit_defs.specs.Transactions.{Waiting, Transactions, waits_at}
-use Rattle.unit_defs.specs.CpRecords.{forgotten, unawaited, not_awaited}
+use Rattle.unit_defs.specs.CuCpRecords.{forgotten, unawaited, not_awaited}
 use Rattle.law_requests_act_once.specs.channel.Replies.{Talk}
 use Rattle.law_requests_act_once.specs.channel.Ends.{Route, at_initiator, at_responder, same_node, Asking, asking_at, Answering, answering_at, answering_in, Act, Ends, Sent, Put, Once}
 use Rattle.law_requests_act_once.specs.channel.Moves.{Net, ends_of, asked_by, answered_by, with_node, expires_now, IsRequest}

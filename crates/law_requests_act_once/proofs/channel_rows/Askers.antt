@@ -12,7 +12,7 @@ use Rattle.law_requests_act_once.specs.channel.Replies.{Talk}
 use Rattle.law_requests_act_once.specs.channel.Ends.{told, Sent, Put}
 use Rattle.law_requests_act_once.specs.channel.Moves.{Move, advances, closes, transfers, Net, asked_by, sent_by, moved, after, May}
 use Rattle.law_requests_act_once.proofs.channel.Nets.{Good}
-use Rattle.law_requests_act_once.specs.channel_rows.Made.{orders_of, Plays, IsTickless, Made}
+use Rattle.law_requests_act_once.specs.channel_rows.IsPlayed.{orders_of, Plays, IsTickless, IsPlayed}
 use Rattle.law_requests_act_once.proofs.channel_rows.Plays.{plays_one, plays_then}
 use Rattle.law_requests_act_once.proofs.channel_rows.Requests.{drops_made}
 
@@ -27,10 +27,10 @@ module _ {M C P : Type 0} (talk : Talk M C P) (n : NodeId) where
 
   pub one_made : {R : Type 0} (kept : R → Transactions M C) (net : Net M C) (m : Move M C) (x : Answer M P (Asked M C)) → May talk net n m → IsTickless m
       → moved talk (net.nodes n) m ≡ (x then (λ a. nothing a.transactions))
-      → (f : Asked M C → R) → ((a : Asked M C) → kept (f a) ≡ a.transactions) → Made talk net n kept (x then (λ a. nothing (f a)))
+      → (f : Asked M C → R) → ((a : Asked M C) → kept (f a) ≡ a.transactions) → IsPlayed talk net n kept (x then (λ a. nothing (f a)))
   one_made kept net m x may plain is f keeps = by x refl
     where
-      by : (y : Answer M P (Asked M C)) → x ≡ y → Made talk net n kept (y then (λ a. nothing (f a)))
+      by : (y : Answer M P (Asked M C)) → x ≡ y → IsPlayed talk net n kept (y then (λ a. nothing (f a)))
       by (gives os a) e = (
         m ∷ [],
         subst (λ (t : Transactions M C). Plays talk net n t (sent_by n (os ++ [])) (m ∷ [])) (sym (keeps a))
@@ -62,10 +62,10 @@ module _ {M C P : Type 0} (talk : Talk M C P) (n : NodeId) where
     may_advance = unexpired_here (opened_at (net.nodes n).caller c) refl waits
 
     pub next_made : {R : Type 0} (kept : R → Transactions M C) (f : Asked M C → R) → ((a : Asked M C) → kept (f a) ≡ a.transactions)
-        → Made talk net n kept (advance talk.way closed_here c then (λ a. nothing (f a)))
+        → IsPlayed talk net n kept (advance talk.way closed_here c then (λ a. nothing (f a)))
     next_made kept f keeps = by (advance talk.way closed_here c) refl
       where
-        by : (x : Answer M P (Asked M C)) → advance talk.way closed_here c ≡ x → Made talk net n kept (x then (λ a. nothing (f a)))
+        by : (x : Answer M P (Asked M C)) → advance talk.way closed_here c ≡ x → IsPlayed talk net n kept (x then (λ a. nothing (f a)))
         by (gives os a) e = (
           closes c ∷ advances c ∷ [],
           subst (λ (t : Transactions M C). Plays talk net n t (sent_by n (os ++ [])) (closes c ∷ advances c ∷ [])) (sym (keeps a))
@@ -82,20 +82,20 @@ module _ {M C P : Type 0} (talk : Talk M C P) (n : NodeId) where
   pub reply_made : {R : Type 0} (net : Net M C) → Good talk net → (kept : R → Transactions M C) (t : Transactions M C) → net.nodes n ≡ t
       → (c : Channel) (i : ℕ) (y : M) → Put talk net.bag (asked_by n c) (told i y) → (same : R) → t ≡ kept same
       → (f : Asked M C → R) → ((a : Asked M C) → kept (f a) ≡ a.transactions)
-      → Made talk net n kept (on_reply talk.way same t c i (advance talk.way (record t { caller = close t.caller c }) c then (λ a. nothing (f a))))
+      → IsPlayed talk net n kept (on_reply talk.way same t c i (advance talk.way (record t { caller = close t.caller c }) c then (λ a. nothing (f a))))
   unfolding on_reply
   reply_made {R} net good kept t at c i y put same is f keeps =
-      subst (λ (u : Transactions M C). Made talk net n kept
+      subst (λ (u : Transactions M C). IsPlayed talk net n kept
       (if is_awaited u.caller c i then advance talk.way (record u { caller = close u.caller c }) c then (λ a. nothing (f a)) else drops Stale same)) at
       (by (is_awaited (net.nodes n).caller c i) refl)
     where
-      by : (b : Bool) → is_awaited (net.nodes n).caller c i ≡ b → Made talk net n kept
+      by : (b : Bool) → is_awaited (net.nodes n).caller c i ≡ b → IsPlayed talk net n kept
           (if b then advance talk.way (record (net.nodes n) { caller = close (net.nodes n).caller c }) c then (λ a. nothing (f a)) else drops Stale same)
       by true waits = next_made net good c i y put waits kept f keeps
       by false waits = drops_made talk n net kept same Stale (at ∙ is)
 
   pub transfer_made : {R : Type 0} (net : Net M C) (kept : R → Transactions M C) (to : NodeId) (ue : ℕ) (x : M) (u : ℕ) → talk.kind x ≡ transfer u
-      → (r : R) → net.nodes n ≡ kept r → Made talk net n kept (puts (control to ue x) r)
+      → (r : R) → net.nodes n ≡ kept r → IsPlayed talk net n kept (puts (control to ue x) r)
   transfer_made net kept to ue x u is r at = (
     transfers to ue x ∷ [],
     subst (λ (t : Transactions M C). Plays talk net n t (record { from = n; to = to; ue = ue; message = x } ∷ []) (transfers to ue x ∷ [])) at

@@ -15,17 +15,17 @@ use Rattle.unit_defs.specs.Transactions.{Kind, request, reply, transfer, kind_of
 use Rattle.unit_defs.specs.Core.{CoreRecord, CorePath, end_of, old_ends, moved, asked, came, core_acts, switch_path}
 use Rattle.law_requests_act_once.specs.channel.Replies.{Talk}
 use Rattle.law_requests_act_once.specs.channel.Moves.{Net, sent_by}
-use Rattle.law_requests_act_once.specs.channel_rows.Made.{ReadsWell, Made, WasSent}
+use Rattle.law_requests_act_once.specs.channel_rows.IsPlayed.{ReadsWell, IsPlayed, WasSent}
 use Rattle.law_requests_act_once.proofs.channel_rows.Requests.{Replies, replies_here, request_made, drops_made}
 
 module _ {M C P : Type 0} (talk : Talk M C P) where
-  no_letters : (ue : UeId) (up : NodeId) (ts : List Tunnel) → sent_by Core (map (end_of talk.way ue up) ts) ≡ []
-  no_letters ue up [] = refl
-  no_letters ue up (t ∷ ts) = no_letters ue up ts
+  no_control_messages : (ue : UeId) (up : NodeId) (ts : List Tunnel) → sent_by Core (map (end_of talk.way ue up) ts) ≡ []
+  no_control_messages ue up [] = refl
+  no_control_messages ue up (t ∷ ts) = no_control_messages ue up ts
 
   no_ends : (ue : UeId) (p : Option CorePath) → sent_by Core (old_ends talk.way ue p) ≡ []
   no_ends ue None = refl
-  no_ends ue (Some p) = no_letters ue p.up p.n3
+  no_ends ue (Some p) = no_control_messages ue p.up p.n3
 
   abbrev kept : CoreRecord M C → Transactions M C
   kept s = s.transactions
@@ -42,13 +42,13 @@ module _ {M C P : Type 0} (talk : Talk M C P) where
   asked_replies r t from m ue i is = inl (refl, refl)
 
   pub core_made : ReadsWell talk → (net : Net M C) (r : CoreRecord M C) → net.nodes Core ≡ r.transactions
-      → (from : NodeId) (m : Message C) → WasSent talk net from Core m → Made talk net Core kept (core_acts talk.way r from m)
+      → (from : NodeId) (m : Message C) → WasSent talk net from Core m → IsPlayed talk net Core kept (core_acts talk.way r from m)
   unfolding core_acts
   core_made reads net r at (CuCp gnb) m sent = by (kind_of m) refl
     where
-      by : (k : Kind) → kind_of m ≡ k → Made talk net Core kept (came talk.way (CuCp gnb) m r k)
+      by : (k : Kind) → kind_of m ≡ k → IsPlayed talk net Core kept (came talk.way (CuCp gnb) m r k)
       by (request ue i) is =
-          subst (λ (t : Transactions M C). Made talk net Core kept
+          subst (λ (t : Transactions M C). IsPlayed talk net Core kept
           (on_request talk.way r t (channel ue (CuCp gnb)) i (λ u. asked talk.way (channel ue (CuCp gnb)) m (record r { transactions = u })))) at
           (request_made talk Core reads net (channel ue (CuCp gnb)) m i (sent.0, sent.1, reads.kinds m ∙ is) kept r
           (λ u. asked talk.way (channel ue (CuCp gnb)) m (record r { transactions = u })) at

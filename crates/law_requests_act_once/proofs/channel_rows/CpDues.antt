@@ -21,15 +21,15 @@ use Rattle.transaction_defs.specs.Callers.{Opened, opened_at, Due, repeats as du
 use Rattle.unit_defs.specs.Ways.{Output, xn, control, Answer, gives, spent, with_outputs, ◌then◌, nothing}
 use Rattle.unit_defs.specs.Messages.{channel, other_gnb}
 use Rattle.unit_defs.specs.Transactions.{Waiting, Transactions, Asked, no_instance, ask_at_once}
-use Rattle.unit_defs.specs.CpRecords.{Attempt, CpContext, CpTerminal, CuCpRecord, terminal_in, terminal_of, with_terminal, with_attempt, on_context, serving, waiting_of, after_begun, after_asked, fails, say_one, say_all, carry_out}
-use Rattle.unit_defs.specs.CpRows.{other_cp, handover_expires}
+use Rattle.unit_defs.specs.CuCpRecords.{Attempt, CuCpContext, CuCpTerminal, CuCpRecord, terminal_in, terminal_of, with_terminal, with_attempt, on_context, serving, waiting_of, after_begun, after_asked, fails, act_one, act_all, carry_out}
+use Rattle.unit_defs.specs.CuCpRows.{other_cu_cp, handover_expires}
 use Rattle.unit_defs.specs.CuCp.{at_of, expired_on, due_one, due_each}
 use Rattle.law_requests_act_once.specs.channel.Replies.{Talk}
 use Rattle.law_requests_act_once.specs.channel.Ends.{Sent, same_node}
 use Rattle.law_requests_act_once.specs.channel.Moves.{Move, asks_at_once, ages, repeats, Net, asked_by, sent_by, expires_now, after_answer, after_move, after}
 use Rattle.law_requests_act_once.proofs.channel.Keys.{node_same, with_route_here}
-use Rattle.law_requests_act_once.specs.channel_rows.Made.{ReadsWell, orders_of, Plays, MadeWhole, NoneExpired}
-use Rattle.law_requests_act_once.specs.channel_rows.Owed.{Cancels}
+use Rattle.law_requests_act_once.specs.channel_rows.IsPlayed.{ReadsWell, orders_of, Plays, IsPlayedWhole, NoneExpired}
+use Rattle.law_requests_act_once.specs.channel_rows.Assumed.{Cancels}
 use Rattle.law_requests_act_once.specs.channel_rows.Rows.{RowPlays}
 use Rattle.law_requests_act_once.proofs.channel_rows.Plays.{plays_none, plays_one, plays_then, after_both}
 use Rattle.law_requests_act_once.proofs.channel_rows.Requests.{sent_both}
@@ -42,15 +42,15 @@ use Rattle.law_requests_act_once.proofs.channel_rows.CpRows.{expires_fine}
 
 module _ {M C : Type 0} where
   abbrev pub HasContext : CuCpRecord M C → UeId → Type 0
-  HasContext r ue = (x : CpContext) × ((terminal_of r ue).context ≡ Some x)
+  HasContext r ue = (x : CuCpContext) × ((terminal_of r ue).context ≡ Some x)
 
-  put_has : (r : CuCpRecord M C) (ue : UeId) (t : CpTerminal) → ((x : CpContext) × (t.context ≡ Some x)) → (v : UeId) → HasContext r v
+  put_has : (r : CuCpRecord M C) (ue : UeId) (t : CuCpTerminal) → ((x : CuCpContext) × (t.context ≡ Some x)) → (v : UeId) → HasContext r v
       → HasContext (with_terminal ue r t) v
   put_has r ue t has v was =
-      subst (λ (o : Option CpTerminal). (x : CpContext) × ((terminal_in o).context ≡ Some x)) (sym (find-put ue_total r.terminals ue t v))
+      subst (λ (o : Option CuCpTerminal). (x : CuCpContext) × ((terminal_in o).context ≡ Some x)) (sym (find-put ue_total r.terminals ue t v))
       (by (eq_by_cmp ue_cmp v ue))
     where
-      by : (b : Bool) → (x : CpContext) × ((terminal_in (cond b (Some t) (find ue_cmp r.terminals v))).context ≡ Some x)
+      by : (b : Bool) → (x : CuCpContext) × ((terminal_in (cond b (Some t) (find ue_cmp r.terminals v))).context ≡ Some x)
       by true = has
       by false = was
 
@@ -183,17 +183,17 @@ module _ {M C P : Type 0} (talk : Talk M C P) (n : NodeId) where
     abbrev owner : UeId
     owner = record { 0 = c.ue }
 
-    abbrev ended : CpContext → CuCpRecord M C
+    abbrev ended : CuCpContext → CuCpRecord M C
     ended x = with_terminal owner r (record (terminal_of r owner) { context = Some (serving x) })
 
-    own_channel : channel c.ue (other_cp (at_of r owner)) ≡ c
+    own_channel : channel c.ue (other_cu_cp (at_of r owner)) ≡ c
     own_channel = λ i. record { ue = c.ue; peer = sym peer i }
 
-    expired_done : (x : CpContext) → (terminal_of r owner).context ≡ Some x
+    expired_done : (x : CuCpContext) → (terminal_of r owner).context ≡ Some x
         → DueDone net r ds (carry_out talk.way owner r (handover_expires talk.way (at_of r owner) (terminal_of r owner) x))
-    unfolding handover_expires carry_out say_all say_one
+    unfolding handover_expires carry_out act_all act_one
     expired_done x is =
-        by (ask_at_once talk.way r.transactions (channel c.ue (other_cp (at_of r owner))) (cancel_of owner)) refl
+        by (ask_at_once talk.way r.transactions (channel c.ue (other_cu_cp (at_of r owner))) (cancel_of owner)) refl
         (row_says talk n net owner r at (handover_expires talk.way (at_of r owner) (terminal_of r owner) x)
         ((expires_fine talk reads (at_of r owner) (terminal_of r owner) x).0, tt))
       where
@@ -201,29 +201,29 @@ module _ {M C P : Type 0} (talk : Talk M C P) (n : NodeId) where
         has = put_has r owner (record (terminal_of r owner) { context = Some (serving x) }) (serving x, refl)
 
         begun : (a : Asked M C) (i : Option ℕ) (v : UeId) → HasContext r v
-            → HasContext (after_begun talk.way owner (other_cp (at_of r owner)) (record (ended x) { transactions = a.transactions }) i) v
+            → HasContext (after_begun talk.way owner (other_cu_cp (at_of r owner)) (record (ended x) { transactions = a.transactions }) i) v
         begun a None v was = has v was
         begun a (Some i) v was = attempt_has (record (ended x) { transactions = a.transactions }) owner _ (has owner (x, is)) v (has v was)
 
         gnb_kept : (a : Asked M C) (i : Option ℕ)
-            → (after_begun talk.way owner (other_cp (at_of r owner)) (record (ended x) { transactions = a.transactions }) i).gnb ≡ r.gnb
+            → (after_begun talk.way owner (other_cu_cp (at_of r owner)) (record (ended x) { transactions = a.transactions }) i).gnb ≡ r.gnb
         gnb_kept a None = refl
         gnb_kept a (Some i) = refl
 
-        by : (a : Answer M P (Asked M C)) → ask_at_once talk.way r.transactions (channel c.ue (other_cp (at_of r owner))) (cancel_of owner) ≡ a
+        by : (a : Answer M P (Asked M C)) → ask_at_once talk.way r.transactions (channel c.ue (other_cu_cp (at_of r owner))) (cancel_of owner) ≡ a
             → RowPlays talk net n owner (handover_expires talk.way (at_of r owner) (terminal_of r owner) x)
-            ((a then (λ b. nothing (after_asked talk.way owner (other_cp (at_of r owner)) (ended x) b))) then say_all talk.way owner (fails Timeout ∷ []))
+            ((a then (λ b. nothing (after_asked talk.way owner (other_cu_cp (at_of r owner)) (ended x) b))) then act_all talk.way owner (fails Timeout ∷ []))
             → DueDone net r ds
-            ((a then (λ b. nothing (after_asked talk.way owner (other_cp (at_of r owner)) (ended x) b))) then say_all talk.way owner (fails Timeout ∷ []))
+            ((a then (λ b. nothing (after_asked talk.way owner (other_cu_cp (at_of r owner)) (ended x) b))) then act_all talk.way owner (fails Timeout ∷ []))
         by (gives os a) e plays = (
-          asks_at_once (channel c.ue (other_cp (at_of r owner))) (cancel_of owner) ∷ [],
+          asks_at_once (channel c.ue (other_cu_cp (at_of r owner))) (cancel_of owner) ∷ [],
           plays,
-          left_cleared net (after_move talk net n (asks_at_once (channel c.ue (other_cp (at_of r owner))) (cancel_of owner))) c ds
-              (subst (λ (q : Channel). (after_move talk net n (asks_at_once (channel c.ue (other_cp (at_of r owner))) (cancel_of owner))).expired (asked_by n q) ≡ false)
+          left_cleared net (after_move talk net n (asks_at_once (channel c.ue (other_cu_cp (at_of r owner))) (cancel_of owner))) c ds
+              (subst (λ (q : Channel). (after_move talk net n (asks_at_once (channel c.ue (other_cu_cp (at_of r owner))) (cancel_of owner))).expired (asked_by n q) ≡ false)
               own_channel
-              (cleared net (channel c.ue (other_cp (at_of r owner))) (cancel_of owner) os a
-              (ap (λ (t : Transactions M C). ask_at_once talk.way t (channel c.ue (other_cp (at_of r owner))) (cancel_of owner)) at ∙ e)))
-              (λ k d. shrinks talk n (asks_at_once (channel c.ue (other_cp (at_of r owner))) (cancel_of owner) ∷ []) (tt, tt) net k d) left,
+              (cleared net (channel c.ue (other_cu_cp (at_of r owner))) (cancel_of owner) os a
+              (ap (λ (t : Transactions M C). ask_at_once talk.way t (channel c.ue (other_cu_cp (at_of r owner))) (cancel_of owner)) at ∙ e)))
+              (λ k d. shrinks talk n (asks_at_once (channel c.ue (other_cu_cp (at_of r owner))) (cancel_of owner) ∷ []) (tt, tt) net k d) left,
           gnb_kept a a.awaited,
           λ v was. begun a a.awaited v was,
         )
@@ -231,8 +231,8 @@ module _ {M C P : Type 0} (talk : Talk M C P) (n : NodeId) where
 
   -- moves, and then those of what is done after
   pub whole_both : (net : Net M C) (os : List (Output M P)) (q : CuCpRecord M C) (ms : List (Move M C)) → Plays talk net n q.transactions (sent_by n os) ms
-      → (b : Answer M P (CuCpRecord M C)) → MadeWhole talk (after talk net (orders_of talk n ms)) n (kept talk n) b
-      → MadeWhole talk net n (kept talk n) (with_outputs os b)
+      → (b : Answer M P (CuCpRecord M C)) → IsPlayedWhole talk (after talk net (orders_of talk n ms)) n (kept talk n) b
+      → IsPlayedWhole talk net n (kept talk n) (with_outputs os b)
   whole_both net os q ms first (gives more x) second = (
     ms ++ second.0,
     subst (λ (out : List (Sent M)). Plays talk net n x.transactions out (ms ++ second.0)) (sym (sent_both n os more))
@@ -242,7 +242,7 @@ module _ {M C P : Type 0} (talk : Talk M C P) (n : NodeId) where
   whole_both net os q ms first (spent k) second = tt
 
   pub whole_after : (net : Net M C) (ms : List (Move M C)) (t : Transactions M C) → Plays talk net n t [] ms → (b : Answer M P (CuCpRecord M C))
-      → MadeWhole talk (after talk net (orders_of talk n ms)) n (kept talk n) b → MadeWhole talk net n (kept talk n) b
+      → IsPlayedWhole talk (after talk net (orders_of talk n ms)) n (kept talk n) b → IsPlayedWhole talk net n (kept talk n) b
   whole_after net ms t first (gives more x) second = (
     ms ++ second.0,
     plays_then talk net n t x.transactions [] (sent_by n more) ms second.0 first second.1,
@@ -254,22 +254,22 @@ module _ {M C P : Type 0} (talk : Talk M C P) (n : NodeId) where
       → AllDue talk n net.bag (d ∷ ds) → Left net (d ∷ ds) → MayCancel r d → DueDone net r ds (due_one talk.way r d)
   due_done reads net r at (due_again c x) ds was left may = again_done net r at c x ds was left
   due_done reads net r at (expires c) ds was left may =
-      subst (λ (o : Option CpContext). DueDone net r ds (carry_out talk.way (record { 0 = c.ue }) r
+      subst (λ (o : Option CuCpContext). DueDone net r ds (carry_out talk.way (record { 0 = c.ue }) r
       (expired_on talk.way (at_of r (record { 0 = c.ue })) (terminal_of r (record { 0 = c.ue })) o))) (sym may.1.1)
       (expired_done reads net r at c ds left may.0 may.1.0 may.1.1)
 
   due_then : (net : Net M C) (r : CuCpRecord M C) (ds : List (Due M)) (a : Answer M P (CuCpRecord M C)) (f : CuCpRecord M C → Answer M P (CuCpRecord M C))
       → DueDone net r ds a
       → ((x : Net M C) (q : CuCpRecord M C) (out : List (Sent M)) → x.nodes n ≡ q.transactions → x.bag ≡ net.bag ++ out → Left x ds → q.gnb ≡ r.gnb
-      → ((v : UeId) → HasContext r v → HasContext q v) → MadeWhole talk x n (kept talk n) (f q))
-      → MadeWhole talk net n (kept talk n) (a then f)
+      → ((v : UeId) → HasContext r v → HasContext q v) → IsPlayedWhole talk x n (kept talk n) (f q))
+      → IsPlayedWhole talk net n (kept talk n) (a then f)
   due_then net r ds (gives os q) f first next =
       whole_both net os q first.0 first.1 (f q)
       (next (after talk net (orders_of talk n first.0)) q (sent_by n os) first.1.node first.1.bag first.2 first.3 first.4)
   due_then net r ds (spent k) f first next = tt
 
   pub dues_whole : ReadsWell talk → (ds : List (Due M)) (net : Net M C) (r : CuCpRecord M C) → net.nodes n ≡ r.transactions → AllDue talk n net.bag ds
-      → Left net ds → AllByRecursion (MayCancel r) ds → MadeWhole talk net n (kept talk n) (due_each talk.way ds r)
+      → Left net ds → AllByRecursion (MayCancel r) ds → IsPlayedWhole talk net n (kept talk n) (due_each talk.way ds r)
   dues_whole reads [] net r at was left may =
       ([], subst (λ (t : Transactions M C). Plays talk net n t [] []) at (plays_none talk net n), none_left net left)
   dues_whole reads (d ∷ ds) net r at was left may =

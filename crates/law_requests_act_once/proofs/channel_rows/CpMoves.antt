@@ -13,13 +13,13 @@ use Rattle.message_types.specs.declared.f1.F1.TheVariants as f1s
 use Rattle.unit_defs.specs.Ways.{Message, f1, Answer, gives, spent, ◌then◌}
 use Rattle.unit_defs.specs.Messages.{channel}
 use Rattle.unit_defs.specs.Transactions.{Transactions}
-use Rattle.unit_defs.specs.CpRecords.{Attempt, CpContext, CpTerminal, CuCpRecord, terminal_of, same_node, waiting_of, Say, asks as says_ask, cancels as says_cancel, replies as says_reply, replies_late as says_late, sends, fails, ignores, refuses, forgets as says_forget, Row, row, row_spent, carry_out}
-use Rattle.unit_defs.specs.CpRows.{CpAt, own_du}
-use Rattle.unit_defs.specs.CuCp.{at_of, ordered, is_complete, is_reestablish, is_epoch, is_own_command, may_return, is_too_early, is_ready, token_in_ready, token_of_return, token_of_attempt, token_by_attempt, token_on, token_row, token_ue, container_row, no_context_first, token_came, transferred}
+use Rattle.unit_defs.specs.CuCpRecords.{Attempt, CuCpContext, CuCpTerminal, CuCpRecord, terminal_of, same_node, waiting_of, Action, asks as says_ask, cancels as says_cancel, replies as says_reply, replies_late as says_late, sends, fails, ignores, refuses, forgets as says_forget, Row, row, row_spent, carry_out}
+use Rattle.unit_defs.specs.CuCpRows.{CuCpScope, own_du}
+use Rattle.unit_defs.specs.CuCp.{at_of, ordered, is_complete, is_reestablish, is_epoch, is_own_command, may_return, is_too_early, is_ready, token_in_ready, token_of_return, token_of_attempt, token_by_attempt, token_on, token_row, token_ue, container_row, no_context_first, token_received, transferred}
 use Rattle.law_requests_act_once.specs.channel.Replies.{Talk}
 use Rattle.law_requests_act_once.specs.channel.Moves.{Move, asks, asks_at_once, Net, asked_by, with_route, moved, expired_after, after_answer, MayAll, after}
 use Rattle.law_requests_act_once.proofs.channel.Keys.{route_cases, with_route_here, with_route_other}
-use Rattle.law_requests_act_once.specs.channel_rows.Made.{ReadsWell, orders_of, Made, NoneExpired}
+use Rattle.law_requests_act_once.specs.channel_rows.IsPlayed.{ReadsWell, orders_of, IsPlayed, NoneExpired}
 use Rattle.law_requests_act_once.specs.channel_rows.Rows.{moves_of, moves_of_all, IsAllowed, RowPlays, SpeaksOne, Speaks, RowSpeaks}
 use Rattle.law_requests_act_once.proofs.channel_rows.Plays.{may_both}
 use Rattle.law_requests_act_once.proofs.channel_rows.Requests.{drops_made}
@@ -42,7 +42,7 @@ module _ {M C P : Type 0} (talk : Talk M C P) (n : NodeId) where
       by (inl same) = ap (with_route net.expired (asked_by n q) false) same ∙ with_route_here net.expired (asked_by n q) false
       by (inr other) = with_route_other net.expired (asked_by n q) false (asked_by n c) other ∙ none c
 
-  one_may : (net : Net M C) (ue : UeId) (s : Say C) → NoneExpired talk net n → SpeaksOne talk ue s
+  one_may : (net : Net M C) (ue : UeId) (s : Action C) → NoneExpired talk net n → SpeaksOne talk ue s
       → MayAll talk net (orders_of talk n (moves_of talk ue s)) × NoneExpired talk (after talk net (orders_of talk n (moves_of talk ue s))) n
   one_may net ue (says_ask to m deadline awaited) none is = (
     ((is, none (channel ue.0 to)), tt),
@@ -63,7 +63,7 @@ module _ {M C P : Type 0} (talk : Talk M C P) (n : NodeId) where
   one_may net ue (refuses reason) none is = (tt, none)
   one_may net ue says_forget none is = ((tt, tt), none)
 
-  pub speaks_may : (says : List (Say C)) (net : Net M C) (ue : UeId) → NoneExpired talk net n → Speaks talk ue says
+  pub speaks_may : (says : List (Action C)) (net : Net M C) (ue : UeId) → NoneExpired talk net n → Speaks talk ue says
       → MayAll talk net (orders_of talk n (moves_of_all talk ue says))
   speaks_may [] net ue none is = tt
   speaks_may (s ∷ ss) net ue none is =
@@ -75,7 +75,7 @@ module _ {M C P : Type 0} (talk : Talk M C P) (n : NodeId) where
   row_may net ue (row says after) none is = speaks_may says net ue none is
   row_may net ue (row_spent k) none is = tt
 
-  pub plays_made : (net : Net M C) (ue : UeId) (what : Row C) (a : Answer M P (CuCpRecord M C)) → RowPlays talk net n ue what a → Made talk net n (kept talk n) a
+  pub plays_made : (net : Net M C) (ue : UeId) (what : Row C) (a : Answer M P (CuCpRecord M C)) → RowPlays talk net n ue what a → IsPlayed talk net n (kept talk n) a
   plays_made net ue (row says after) (gives os r) plays = (moves_of_all talk ue says, plays, says_tickless talk ue says)
   plays_made net ue (row says after) (spent k) plays = tt
   plays_made net ue (row_spent j) (gives os r) plays = absurd plays
@@ -83,13 +83,13 @@ module _ {M C P : Type 0} (talk : Talk M C P) (n : NodeId) where
 
   -- a row that says no reply is made
   pub row_made : (net : Net M C) (ue : UeId) (r : CuCpRecord M C) → net.nodes n ≡ r.transactions → NoneExpired talk net n → (what : Row C)
-      → RowSpeaks talk ue what → Made talk net n (kept talk n) (carry_out talk.way ue r what)
+      → RowSpeaks talk ue what → IsPlayed talk net n (kept talk n) (carry_out talk.way ue r what)
   row_made net ue r at none what is = plays_made net ue what (carry_out talk.way ue r what) (row_says talk n net ue r at what (row_may net ue what none is))
 
   module _ (reads : ReadsWell talk) (net : Net M C) (none : NoneExpired talk net n) (r : CuCpRecord M C) (at : net.nodes n ≡ r.transactions) where
     -- ---- orders
 
-    pub ordered_made : (order : UnitOrder) → Made talk net n (kept talk n) (ordered talk.way order r)
+    pub ordered_made : (order : UnitOrder) → IsPlayed talk net n (kept talk n) (ordered talk.way order r)
     ordered_made (orders.Attach plan) = row_made net plan.ue r at none _ (attach_fine talk reads (at_of r plan.ue) plan (terminal_of r plan.ue))
     ordered_made (orders.Handover plan) = row_made net plan.ue r at none _ (handover_fine talk reads (at_of r plan.ue) plan (terminal_of r plan.ue))
     ordered_made (orders.Cancel ue) = row_made net ue r at none _ (cancel_fine talk reads (at_of r ue) (terminal_of r ue))
@@ -98,59 +98,59 @@ module _ {M C P : Type 0} (talk : Talk M C P) (n : NodeId) where
 
     -- ---- tokens
 
-    module _ (a : CpAt) (from : NodeId) where
-      abbrev Fine : Row C → Type 0
-      Fine what = RowSpeaks talk a.ue what
+    module _ (a : CuCpScope) (from : NodeId) where
+      abbrev KeepsInvariant : Row C → Type 0
+      KeepsInvariant what = RowSpeaks talk a.ue what
 
-      fine_if : (b : Bool) (x y : Row C) → Fine x → Fine y → Fine (if b then x else y)
+      fine_if : (b : Bool) (x y : Row C) → KeepsInvariant x → KeepsInvariant y → KeepsInvariant (if b then x else y)
       fine_if true x y p q = p
       fine_if false x y p q = q
 
-      ready_fine : (token : Token) (epoch : ℕ) (t : CpTerminal) (c : CpContext) (b : Attempt) → Fine (token_in_ready talk.way a from token epoch t c b)
+      ready_fine : (token : Token) (epoch : ℕ) (t : CuCpTerminal) (c : CuCpContext) (b : Attempt) → KeepsInvariant (token_in_ready talk.way a from token epoch t c b)
       ready_fine token epoch t c b =
           fine_if (not (is_ready talk.way c.state && same_node from (own_du a c.du))) _ _ (tt, tt)
           (fine_if (is_complete talk.way token && b.epoch == epoch) _ _ (arrives_fine talk reads a epoch t c b)
           (fine_if (is_reestablish talk.way token && b.epoch + 1 == epoch) _ _ (arrives_again_fine talk reads a epoch t c b) (tt, tt)))
 
-      return_fine : (token : Token) (epoch : ℕ) (t : CpTerminal) (c : CpContext) (b : Attempt) → Fine (token_of_return talk.way a from token epoch t c b)
+      return_fine : (token : Token) (epoch : ℕ) (t : CuCpTerminal) (c : CuCpContext) (b : Attempt) → KeepsInvariant (token_of_return talk.way a from token epoch t c b)
       return_fine token epoch t c b =
           fine_if (is_reestablish talk.way token && is_epoch talk.way c.epoch 1 epoch && same_node from (own_du a c.du)) _ _
           (fine_if (may_return talk.way c.state b.kind) _ _ (returns_fine talk reads a epoch t c)
           (fine_if (is_too_early talk.way c.state b.kind) _ _ (tt, tt) (ready_fine token epoch t c b)))
           (ready_fine token epoch t c b)
 
-      attempt_fine : (token : Token) (epoch : ℕ) (t : CpTerminal) (c : CpContext) (b : Attempt) → Fine (token_of_attempt talk.way a from token epoch t c b)
+      attempt_fine : (token : Token) (epoch : ℕ) (t : CuCpTerminal) (c : CuCpContext) (b : Attempt) → KeepsInvariant (token_of_attempt talk.way a from token epoch t c b)
       attempt_fine token epoch t c b =
           fine_if (not (is_own_command talk.way c.state b.kind && same_node from (own_du a b.du))) _ _ (return_fine token epoch t c b)
           (fine_if (is_complete talk.way token && is_epoch talk.way c.epoch 1 epoch) _ _ (completes_fine talk reads a epoch t c b)
           (fine_if (is_reestablish talk.way token && is_epoch talk.way c.epoch 2 epoch) _ _ (completes_again_fine talk reads a epoch t c b)
           (return_fine token epoch t c b)))
 
-      by_attempt_fine : (token : Token) (epoch : ℕ) (t : CpTerminal) (c : CpContext) (b : Option Attempt) → Fine (token_by_attempt talk.way a from token epoch t c b)
+      by_attempt_fine : (token : Token) (epoch : ℕ) (t : CuCpTerminal) (c : CuCpContext) (b : Option Attempt) → KeepsInvariant (token_by_attempt talk.way a from token epoch t c b)
       by_attempt_fine token epoch t c None =
           fine_if (is_reestablish talk.way token && is_epoch talk.way c.epoch 1 epoch && same_node from (own_du a c.du)) _ _ (returns_fine talk reads a epoch t c) (tt, tt)
       by_attempt_fine token epoch t c (Some b) = attempt_fine token epoch t c b
 
-      on_fine : (token : Token) (epoch : ℕ) (t : CpTerminal) (c : Option CpContext) → Fine (token_on talk.way a from token epoch t c)
+      on_fine : (token : Token) (epoch : ℕ) (t : CuCpTerminal) (c : Option CuCpContext) → KeepsInvariant (token_on talk.way a from token epoch t c)
       on_fine token epoch t None = (tt, tt)
       on_fine token epoch t (Some c) =
           fine_if (is_epoch talk.way c.epoch 0 epoch && c.finished) _ _ (accepted_one talk reads a c epoch, tt) (by_attempt_fine token epoch t c c.attempt)
 
-      row_fine : (t : CpTerminal) (token : Token) → Fine (token_row talk.way a from t token)
+      row_fine : (t : CuCpTerminal) (token : Token) → KeepsInvariant (token_row talk.way a from t token)
       row_fine t (tokens.Complete ue epoch) = on_fine (tokens.Complete ue epoch) epoch t t.context
       row_fine t (tokens.Reestablish ue epoch) = on_fine (tokens.Reestablish ue epoch) epoch t t.context
       row_fine t token = (tt, tt)
 
-      container_fine : (t : CpTerminal) (token : Option Token) → Fine (container_row talk.way a from t token)
+      container_fine : (t : CuCpTerminal) (token : Option Token) → KeepsInvariant (container_row talk.way a from t token)
       container_fine t None = (tt, tt)
       container_fine t (Some token) = fine_if ((token_ue talk.way token).0 == a.ue.0) _ _ (row_fine t token) (tt, tt)
 
-      first_fine : (t : CpTerminal) (c : Option CpContext) (token : Option Token) → Fine (no_context_first talk.way a from t c token)
+      first_fine : (t : CuCpTerminal) (c : Option CuCpContext) (token : Option Token) → KeepsInvariant (no_context_first talk.way a from t c token)
       first_fine t None token = (tt, tt)
       first_fine t (Some c) token = container_fine t token
 
-    pub transferred_made : (from : NodeId) (m : Message C) → Made talk net n (kept talk n) (transferred talk.way from m r)
-    unfolding token_came
+    pub transferred_made : (from : NodeId) (m : Message C) → IsPlayed talk net n (kept talk n) (transferred talk.way from m r)
+    unfolding token_received
     transferred_made from (f1 (f1s.UlRrcMessageTransfer ue container)) =
         row_made net ue r at none _
         (first_fine (at_of r ue) from (terminal_of r ue) (terminal_of r ue).context (talk.way.unwrap container))

@@ -16,13 +16,13 @@ use Rattle.unit_defs.specs.declared.StateName.TheVariants as states
 use Rattle.unit_defs.specs.Ways.{Message, f1, e1, xn, Answer, gives, spent, ◌then◌}
 use Rattle.unit_defs.specs.Messages.{channel, cause_busy, cause_unit, are_bearers, statuses_of}
 use Rattle.unit_defs.specs.Transactions.{request, reply, kind_of, Transactions, replied}
-use Rattle.unit_defs.specs.CpRecords.{Attempt, CpContext, CpTerminal, CuCpRecord, terminal_of, has_unit, bearers_in, Say, replies as says_reply, ignores, Row, carry_out}
-use Rattle.unit_defs.specs.CpRows.{CpAt, own_up, own_du, is_between_gnbs, bearer_setup, du_release, up_release, say_status, handed_over, offer_context, refuse_offer, offer_on, offer, takes_status, status_on, status, du_release_if, offer_cancelled, is_cancellable, xn_cancelled_of, xn_cancelled_on, xn_cancelled, xn_released_of, xn_released_on, xn_released}
+use Rattle.unit_defs.specs.CuCpRecords.{Attempt, CuCpContext, CuCpTerminal, CuCpRecord, terminal_of, has_unit, bearers_in, Action, replies as says_reply, ignores, Row, carry_out}
+use Rattle.unit_defs.specs.CuCpRows.{CuCpScope, own_up, own_du, is_between_gnbs, bearer_setup, du_release, cu_up_release, status_action, handed_over, offer_context, refuse_offer, offer_on, offer, takes_status, status_on, status, du_release_if, offer_cancelled, is_cancellable, xn_cancelled_of, xn_cancelled_on, xn_cancelled, xn_released_of, xn_released_on, xn_released}
 use Rattle.unit_defs.specs.CuCp.{at_of, by_row, set_up, asked}
 use Rattle.law_requests_act_once.specs.channel.Replies.{Talk, answers}
 use Rattle.law_requests_act_once.specs.channel.Moves.{replies, forgets, Net, moved, after_answer, after_move, MayReply, May, MayAll}
 use Rattle.law_requests_act_once.proofs.channel.Keys.{with_node_here}
-use Rattle.law_requests_act_once.specs.channel_rows.Made.{ReadsWell, orders_of, Made, NoneExpired}
+use Rattle.law_requests_act_once.specs.channel_rows.IsPlayed.{ReadsWell, orders_of, IsPlayed, NoneExpired}
 use Rattle.law_requests_act_once.specs.channel_rows.Rows.{moves_of_all, IsAllowed, Speaks}
 use Rattle.law_requests_act_once.proofs.channel_rows.Plays.{plays_one}
 use Rattle.law_requests_act_once.proofs.channel_rows.Requests.{drops_made}
@@ -33,7 +33,7 @@ use Rattle.law_requests_act_once.proofs.channel_rows.CpMoves.{speaks_may, plays_
 module _ {M C P : Type 0} (talk : Talk M C P) (n : NodeId) where
   -- the newest request of the channel may be answered, by each message that answers it
   abbrev pub MayAnswer : Net M C → Channel → Message C → ℕ → Type 0
-  MayAnswer net c m i = (answer : Message C) → kind_of answer ≡ reply c.ue i → answers m answer ≡ true → MayReply talk net n c i (talk.way.spell answer)
+  MayAnswer net c m i = (answer : Message C) → kind_of answer ≡ reply c.ue i → answers m answer ≡ true → MayReply talk net n c i (talk.way.encode answer)
 
   -- what no attempt awaits any more doesn't touch what is answered
   still_after_forgetting : (net : Net M C) (c : Channel) (m : Message C) (i : ℕ) (ue : UeId) → MayAnswer net c m i
@@ -50,7 +50,7 @@ module _ {M C P : Type 0} (talk : Talk M C P) (n : NodeId) where
       }
 
   -- a reply, and then what is asked
-  reply_then : (net : Net M C) → NoneExpired talk net n → (from : NodeId) (owner : UeId) (answer : Message C) (ss : List (Say C))
+  reply_then : (net : Net M C) → NoneExpired talk net n → (from : NodeId) (owner : UeId) (answer : Message C) (ss : List (Action C))
       → May talk net n (replies (channel owner.0 from) answer) → Speaks talk owner ss
       → MayAll talk net (orders_of talk n (moves_of_all talk owner (says_reply from answer ∷ ss)))
   reply_then net none from owner answer ss first rest =
@@ -68,7 +68,7 @@ module _ {M C P : Type 0} (talk : Talk M C P) (n : NodeId) where
       → (answer : Message C) → kind_of answer ≡ reply owner instance → answers m answer ≡ true → May talk net n (replies (channel owner from) answer)
   may_for_in net from m ue i may owner instance own same answer kind fits = (
     i,
-    subst (λ (u : ℕ). MayReply talk net n (channel u from) i (talk.way.spell answer)) (sym own)
+    subst (λ (u : ℕ). MayReply talk net n (channel u from) i (talk.way.encode answer)) (sym own)
         (may answer (kind ∙ (λ j. reply (own j) (same j))) fits),
   )
 
@@ -78,15 +78,15 @@ module _ {M C P : Type 0} (talk : Talk M C P) (n : NodeId) where
         → May talk net n (replies (channel owner from) answer)
     may_for = may_for_in net from m ue i may
 
-    reply_first : (owner : UeId) (answer : Message C) (ss : List (Say C)) → May talk net n (replies (channel owner.0 from) answer) → Speaks talk owner ss
+    reply_first : (owner : UeId) (answer : Message C) (ss : List (Action C)) → May talk net n (replies (channel owner.0 from) answer) → Speaks talk owner ss
         → MayAll talk net (orders_of talk n (moves_of_all talk owner (says_reply from answer ∷ ss)))
     reply_first = reply_then net none from
 
-    allowed_made : (owner : UeId) (what : Row C) → IsAllowed talk net n owner what → Made talk net n (kept talk n) (by_row talk.way owner what r)
+    allowed_made : (owner : UeId) (what : Row C) → IsAllowed talk net n owner what → IsPlayed talk net n (kept talk n) (by_row talk.way owner what r)
     allowed_made owner what allowed = plays_made talk n net owner what (carry_out talk.way owner r what) (row_says talk n net owner r at what allowed)
 
     set_up_made : (own : 0 ≡ ue) (instance : ℕ) → instance ≡ i → (answer : Message C) → kind_of answer ≡ reply 0 instance → answers m answer ≡ true
-        → Made talk net n (kept talk n) (set_up talk.way from answer r)
+        → IsPlayed talk net n (kept talk n) (set_up talk.way from answer r)
     unfolding replied
     set_up_made own instance same answer kind fits = (
       replies (channel 0 from) answer ∷ [],
@@ -96,27 +96,27 @@ module _ {M C P : Type 0} (talk : Talk M C P) (n : NodeId) where
     )
 
     module _ (owner : UeId) (instance : ℕ) (own : owner.0 ≡ ue) (same : instance ≡ i) where
-      abbrev place : CpAt
+      abbrev place : CuCpScope
       place = at_of r owner
 
-      abbrev Fine : Row C → Type 0
-      Fine what = IsAllowed talk net n owner what
+      abbrev KeepsInvariant : Row C → Type 0
+      KeepsInvariant what = IsAllowed talk net n owner what
 
-      fine_if : (b : Bool) (x y : Row C) → Fine x → Fine y → Fine (if b then x else y)
+      fine_if : (b : Bool) (x y : Row C) → KeepsInvariant x → KeepsInvariant y → KeepsInvariant (if b then x else y)
       fine_if true x y p q = p
       fine_if false x y p q = q
 
-      speaks : (ss : List (Say C)) → Speaks talk owner ss → MayAll talk net (orders_of talk n (moves_of_all talk owner ss))
+      speaks : (ss : List (Action C)) → Speaks talk owner ss → MayAll talk net (orders_of talk n (moves_of_all talk owner ss))
       speaks ss is = speaks_may talk n ss net owner none is
 
-      confirms : (fits : answers m (xn (xns.TransportConfirm owner instance)) ≡ true) (ss : List (Say C)) → Speaks talk owner ss
+      confirms : (fits : answers m (xn (xns.TransportConfirm owner instance)) ≡ true) (ss : List (Action C)) → Speaks talk owner ss
           → MayAll talk net (orders_of talk n (moves_of_all talk owner (says_reply from (xn (xns.TransportConfirm owner instance)) ∷ ss)))
       unfolding kind_of
       confirms fits ss rest =
           reply_first owner (xn (xns.TransportConfirm owner instance)) ss (may_for owner.0 instance own same (xn (xns.TransportConfirm owner instance)) refl fits) rest
 
-      offer_fine : ((cause : ℕ) → answers m (xn (xns.HandoverPreparationFailure owner instance cause)) ≡ true) → (fresh : CpContext) (t : CpTerminal)
-          → Fine (offer talk.way place from instance fresh t)
+      offer_fine : ((cause : ℕ) → answers m (xn (xns.HandoverPreparationFailure owner instance cause)) ≡ true) → (fresh : CuCpContext) (t : CuCpTerminal)
+          → KeepsInvariant (offer talk.way place from instance fresh t)
       unfolding offer kind_of
       offer_fine fits fresh t = by t.context
         where
@@ -125,71 +125,71 @@ module _ {M C P : Type 0} (talk : Talk M C P) (n : NodeId) where
               reply_first owner (xn (xns.HandoverPreparationFailure owner instance cause)) []
               (may_for owner.0 instance own same (xn (xns.HandoverPreparationFailure owner instance cause)) refl (fits cause)) tt
 
-          by : (c : Option CpContext) → Fine (offer_on talk.way place from instance fresh t c)
+          by : (c : Option CuCpContext) → KeepsInvariant (offer_on talk.way place from instance fresh t c)
           by (Some c) = refuses cause_busy
           by None =
               fine_if (has_unit place.units (own_up place fresh.up) && has_unit place.units (own_du place fresh.du)) _ _
               (speaks (bearer_setup talk.way place fresh true ∷ []) (bearer_setup_one talk reads place fresh true, tt)) (refuses cause_unit)
 
-      status_fine : answers m (xn (xns.TransportConfirm owner instance)) ≡ true → (ss : List SnStatus) (t : CpTerminal)
-          → Fine (status talk.way place from instance ss t)
+      status_fine : answers m (xn (xns.TransportConfirm owner instance)) ≡ true → (ss : List SnStatus) (t : CuCpTerminal)
+          → KeepsInvariant (status talk.way place from instance ss t)
       unfolding status
       status_fine fits ss t = by t.context
         where
-          by : (c : Option CpContext) → Fine (status_on talk.way place from instance ss t c)
+          by : (c : Option CuCpContext) → KeepsInvariant (status_on talk.way place from instance ss t c)
           by None = speaks (ignores NoContext ∷ []) (tt, tt)
           by (Some c) =
               fine_if (takes_status talk.way c && are_bearers (bearers_in c) (statuses_of ss)) _ _
-              (confirms fits (say_status talk.way place c ss ∷ []) (status_one talk reads place c ss, tt)) (speaks (ignores Unexpected ∷ []) (tt, tt))
+              (confirms fits (status_action talk.way place c ss ∷ []) (status_one talk reads place c ss, tt)) (speaks (ignores Unexpected ∷ []) (tt, tt))
 
-      release_if : (c : CpContext) (b : Bool) (rest : List (Say C)) → Speaks talk owner rest → Speaks talk owner (du_release_if talk.way place c b ++ rest)
+      release_if : (c : CuCpContext) (b : Bool) (rest : List (Action C)) → Speaks talk owner rest → Speaks talk owner (du_release_if talk.way place c b ++ rest)
       release_if c true rest is = (du_release_one talk reads place c.du false, is)
       release_if c false rest is = is
 
-      cancelled_fine : answers m (xn (xns.TransportConfirm owner instance)) ≡ true → (t : CpTerminal) → Fine (xn_cancelled talk.way place from instance t)
+      cancelled_fine : answers m (xn (xns.TransportConfirm owner instance)) ≡ true → (t : CuCpTerminal) → KeepsInvariant (xn_cancelled talk.way place from instance t)
       unfolding xn_cancelled kind_of
       cancelled_fine fits t = by t.context
         where
-          of : (c : CpContext) (a : Option Attempt) → Fine (xn_cancelled_of talk.way place from instance t c a)
+          of : (c : CuCpContext) (a : Option Attempt) → KeepsInvariant (xn_cancelled_of talk.way place from instance t c a)
           of c None = confirms fits [] tt
           of c (Some a) = fine_if (is_cancellable talk.way c.state) _ _ (given_up c a) (confirms fits [] tt)
             where
-              given_up : (c : CpContext) (a : Attempt) → Fine (offer_cancelled talk.way place from instance t c a)
+              given_up : (c : CuCpContext) (a : Attempt) → KeepsInvariant (offer_cancelled talk.way place from instance t c a)
               given_up c a = (tt, after_forgetting c a)
                 where
-                  after_forgetting : (c : CpContext) (a : Attempt) → MayAll talk (after_move talk net n (forgets owner)) (orders_of talk n
-                      (moves_of_all talk owner (says_reply from (xn (xns.TransportConfirm owner instance)) ∷ (du_release_if talk.way place c a.du_begun ++ up_release talk.way place c.up true false ∷ []))))
+                  after_forgetting : (c : CuCpContext) (a : Attempt) → MayAll talk (after_move talk net n (forgets owner)) (orders_of talk n
+                      (moves_of_all talk owner (says_reply from (xn (xns.TransportConfirm owner instance)) ∷ (du_release_if talk.way place c a.du_begun ++ cu_up_release talk.way place c.up true false ∷ []))))
                   after_forgetting c a =
                       reply_then (after_move talk net n (forgets owner)) none from owner (xn (xns.TransportConfirm owner instance))
-                      (du_release_if talk.way place c a.du_begun ++ up_release talk.way place c.up true false ∷ [])
+                      (du_release_if talk.way place c a.du_begun ++ cu_up_release talk.way place c.up true false ∷ [])
                       (may_for_in (after_move talk net n (forgets owner)) from m ue i (still_after_forgetting net (channel ue from) m i owner may)
                       owner.0 instance own same (xn (xns.TransportConfirm owner instance)) refl fits)
-                      (release_if c a.du_begun (up_release talk.way place c.up true false ∷ []) (up_release_one talk reads place c.up true false, tt))
+                      (release_if c a.du_begun (cu_up_release talk.way place c.up true false ∷ []) (up_release_one talk reads place c.up true false, tt))
 
-          by : (c : Option CpContext) → Fine (xn_cancelled_on talk.way place from instance t c)
+          by : (c : Option CuCpContext) → KeepsInvariant (xn_cancelled_on talk.way place from instance t c)
           by None = confirms fits [] tt
           by (Some c) = of c c.attempt
 
-      released_fine : answers m (xn (xns.TransportConfirm owner instance)) ≡ true → (t : CpTerminal) → Fine (xn_released talk.way place from instance t)
+      released_fine : answers m (xn (xns.TransportConfirm owner instance)) ≡ true → (t : CuCpTerminal) → KeepsInvariant (xn_released talk.way place from instance t)
       unfolding xn_released handed_over
       released_fine fits t = by t.context
         where
-          over : (c : CpContext) (a : Attempt) → Fine (handed_over talk.way place from instance t c a)
+          over : (c : CuCpContext) (a : Attempt) → KeepsInvariant (handed_over talk.way place from instance t c a)
           over c a =
-              confirms fits (du_release talk.way place c.du true ∷ up_release talk.way place c.up false true ∷ [])
+              confirms fits (du_release talk.way place c.du true ∷ cu_up_release talk.way place c.up false true ∷ [])
               (du_release_one talk reads place c.du true, (up_release_one talk reads place c.up false true, tt))
 
-          of : (c : CpContext) (s : StateName) (a : Option Attempt) → Fine (xn_released_of talk.way place from instance t c s a)
+          of : (c : CuCpContext) (s : StateName) (a : Option Attempt) → KeepsInvariant (xn_released_of talk.way place from instance t c s a)
           of c states.Commanded (Some a) = fine_if (is_between_gnbs a.kind) _ _ (over c a) (speaks (ignores Unexpected ∷ []) (tt, tt))
           of c states.Commanded None = speaks (ignores Unexpected ∷ []) (tt, tt)
           of c s a = speaks (ignores Unexpected ∷ []) (tt, tt)
 
-          by : (c : Option CpContext) → Fine (xn_released_on talk.way place from instance t c)
+          by : (c : Option CuCpContext) → KeepsInvariant (xn_released_on talk.way place from instance t c)
           by None = speaks (ignores NoContext ∷ []) (tt, tt)
           by (Some c) = of c c.state c.attempt
 
     -- a request that was taken
-    of_message : (x : Message C) → kind_of x ≡ request ue i → m ≡ x → Made talk net n (kept talk n) (asked talk.way from x r)
+    of_message : (x : Message C) → kind_of x ≡ request ue i → m ≡ x → IsPlayed talk net n (kept talk n) (asked talk.way from x r)
     unfolding kind_of
     of_message (f1 (f1s.F1SetupRequest instance name)) is e =
         let a : 0 ≡ ue = cc in
@@ -222,5 +222,5 @@ module _ {M C P : Type 0} (talk : Talk M C P) (n : NodeId) where
         (released_fine owner instance a b (ap (λ (y : Message C). answers y (xn (xns.TransportConfirm owner instance))) e) (terminal_of r owner))
     of_message x is e = drops_made talk n net (kept talk n) r Unexpected at
 
-    pub asked_made : kind_of m ≡ request ue i → Made talk net n (kept talk n) (asked talk.way from m r)
+    pub asked_made : kind_of m ≡ request ue i → IsPlayed talk net n (kept talk n) (asked talk.way from m r)
     asked_made is = of_message m is refl

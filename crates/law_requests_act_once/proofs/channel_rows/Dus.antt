@@ -16,7 +16,7 @@ use Rattle.unit_defs.specs.Ways.{Message, f1, Output, status, uplink, rrc, Taken
 use Rattle.unit_defs.specs.Messages.{channel, is_same_gnb, are_first_bearers, bearers_of}
 use Rattle.unit_defs.specs.Teids.{teids_are_left}
 use Rattle.unit_defs.specs.Transactions.{Kind, request, reply, transfer, kind_of, with_instance, no_instance, Waiting, Transactions, waits_at, ask, on_request}
-use Rattle.unit_defs.specs.Du.{Du, DuContext, DuBearer, context_of, with_transactions, replies, replaces, closings, openings, old_downlinks, replaced, setup, context_with, modify, modify_on, release, released_on, end_markers, downlinks_of, asked, downlink_list, relayed_up, relayed_down, relay_up, relay_down, transferred, of_terminal, token_ue, set_up, of_cp, control_came, told, is_missing, missing, carried, frame_came, with_bearer, gap_after, take, taken_in, taken_of, taken_on, DuTunnel, of_context, of_bearer, confirmed, pass_up, confirm, start, du_node, due_output, tick, du_acts}
+use Rattle.unit_defs.specs.Du.{Du, DuContext, DuBearer, context_of, with_transactions, replies, replaces, closings, openings, old_downlinks, replaced, setup, context_with, modify, modify_on, release, released_on, end_markers, downlinks_of, asked, downlink_list, relayed_up, relayed_down, relay_up, relay_down, transferred, of_terminal, token_ue, set_up, of_cu_cp, control_received, told, is_missing, missing, carried, frame_received, with_bearer, gap_after, take, taken_in, taken_of, taken_on, DuTunnel, of_context, of_bearer, confirmed, pass_up, confirm, start, du_node, due_output, tick, du_acts}
 use Rattle.gnb_types.specs.Names.{node_text}
 use Rattle.gnb_types.specs.Orders.{bearer_cmp, channel_cmp}
 use Rattle.std.specs.Ordering.{nat_cmp}
@@ -28,7 +28,7 @@ use Rattle.message_types.specs.declared.f1.F1.{F1}
 use Rattle.law_requests_act_once.specs.channel.Replies.{Talk, answers}
 use Rattle.law_requests_act_once.specs.channel.Moves.{asks, ages, Net, sent_by}
 use Rattle.law_requests_act_once.proofs.channel.Nets.{Good}
-use Rattle.law_requests_act_once.specs.channel_rows.Made.{ReadsWell, AreUndated, NoneDue, Made, MadeWhole, WasSent, IsPutTo, NoneExpired}
+use Rattle.law_requests_act_once.specs.channel_rows.IsPlayed.{ReadsWell, AreUndated, NoneDue, IsPlayed, IsPlayedWhole, WasSent, IsPutTo, NoneExpired}
 use Rattle.law_requests_act_once.proofs.channel_rows.Tickless.{whole}
 use Rattle.law_requests_act_once.proofs.channel_rows.Undated.{After, ticked_undated, ask_undated, asked_then, reply_undated, request_undated}
 use Rattle.law_requests_act_once.proofs.channel_rows.Askers.{one_made, reply_made, transfer_made}
@@ -126,62 +126,62 @@ module _ {M C P : Type 0} (talk : Talk M C P) (n : NodeId) where
 
   -- ---- a control message
 
-  no_move : (net : Net M C) (r : Du M C) (a : Answer M P (Du M C)) → net.nodes n ≡ r.transactions → Leaves talk n kept r.transactions a → Made talk net n kept a
+  no_move : (net : Net M C) (r : Du M C) (a : Answer M P (Du M C)) → net.nodes n ≡ r.transactions → Leaves talk n kept r.transactions a → IsPlayed talk net n kept a
   no_move net r a at leaves = leaves_made talk n net kept a (subst (λ (t : Transactions M C). Leaves talk n kept t a) (sym at) leaves)
 
   relay_up_made : (reads : ReadsWell talk) (net : Net M C) (r : Du M C) (ue : UeId) (token : Token) (c : Option DuContext) → net.nodes n ≡ r.transactions
-      → Made talk net n kept (relayed_up talk.way ue token r c)
+      → IsPlayed talk net n kept (relayed_up talk.way ue token r c)
   unfolding kind_of
   relay_up_made reads net r ue token None at = drops_made talk n net kept r NoContext at
   relay_up_made reads net r ue token (Some c) at =
-      transfer_made talk n net kept (CuCp r.gnb) ue.0 (talk.way.spell (f1 (f1s.UlRrcMessageTransfer ue (talk.way.wrap token)))) ue.0
+      transfer_made talk n net kept (CuCp r.gnb) ue.0 (talk.way.encode (f1 (f1s.UlRrcMessageTransfer ue (talk.way.wrap token)))) ue.0
       (reads.kinds (f1 (f1s.UlRrcMessageTransfer ue (talk.way.wrap token))) ∙ is) r at
     where
       is : kind_of (f1 (f1s.UlRrcMessageTransfer ue (talk.way.wrap token))) ≡ transfer ue.0
       is = refl
 
   relay_down_made : (reads : ReadsWell talk) (net : Net M C) (r : Du M C) (ue : UeId) (container : C) (c : Option DuContext) → net.nodes n ≡ r.transactions
-      → Made talk net n kept (relayed_down talk.way ue container r c)
+      → IsPlayed talk net n kept (relayed_down talk.way ue container r c)
   relay_down_made reads net r ue container None at = drops_made talk n net kept r NoContext at
   relay_down_made reads net r ue container (Some c) at =
       transfer_made talk n net kept (Ue ue.0) ue.0 (talk.way.pass container) (reads.passes container).0 (reads.passes container).1 r at
 
   transferred_made : (reads : ReadsWell talk) (net : Net M C) (r : Du M C) (m : Message C) → net.nodes n ≡ r.transactions
-      → Made talk net n kept (transferred talk.way m r)
+      → IsPlayed talk net n kept (transferred talk.way m r)
   unfolding relay_down
   transferred_made reads net r (f1 (f1s.DlRrcMessageTransfer ue container)) at = relay_down_made reads net r ue container (context_of r ue) at
   transferred_made reads net r m at = drops_made talk n net kept r Unexpected at
 
   terminal_made : (reads : ReadsWell talk) (net : Net M C) (r : Du M C) (ue : ℕ) (m : Message C) → net.nodes n ≡ r.transactions
-      → Made talk net n kept (of_terminal talk.way ue m r)
+      → IsPlayed talk net n kept (of_terminal talk.way ue m r)
   unfolding relay_up
   terminal_made reads net r ue (rrc token) at = by ((token_ue talk.way token).0 == ue)
     where
-      by : (b : Bool) → Made talk net n kept (if b then relay_up talk.way (token_ue talk.way token) token r else drops Unexpected r)
+      by : (b : Bool) → IsPlayed talk net n kept (if b then relay_up talk.way (token_ue talk.way token) token r else drops Unexpected r)
       by true = relay_up_made reads net r (token_ue talk.way token) token (context_of r (token_ue talk.way token)) at
       by false = drops_made talk n net kept r Unexpected at
   terminal_made reads net r ue m at = drops_made talk n net kept r Unexpected at
 
   of_cp_made : (reads : ReadsWell talk) (net : Net M C) → Good talk net → (r : Du M C) → net.nodes n ≡ r.transactions
-      → (from : NodeId) (m : Message C) → WasSent talk net from n m → (k : Kind) → kind_of m ≡ k → Made talk net n kept (of_cp talk.way from m r k)
+      → (from : NodeId) (m : Message C) → WasSent talk net from n m → (k : Kind) → kind_of m ≡ k → IsPlayed talk net n kept (of_cu_cp talk.way from m r k)
   unfolding set_up
   of_cp_made reads net good r at from m sent (request ue i) is =
-      subst (λ (t : Transactions M C). Made talk net n kept
+      subst (λ (t : Transactions M C). IsPlayed talk net n kept
       (on_request talk.way r t (channel ue from) i (λ u. asked talk.way (channel ue from) m (with_transactions r u)))) at
       (request_made talk n reads net (channel ue from) m i (sent.0, sent.1, reads.kinds m ∙ is) kept r
       (λ u. asked talk.way (channel ue from) m (with_transactions r u)) at
       (asked_replies r (record (net.nodes n) { callee = taken (net.nodes n).callee (channel ue from) i }) from m ue i is))
   of_cp_made reads net good r at from m sent (reply ue i) is =
-      reply_made talk n net good kept r.transactions at (channel ue from) i (talk.way.spell m) (sent.0, sent.1, reads.kinds m ∙ is) r refl
+      reply_made talk n net good kept r.transactions at (channel ue from) i (talk.way.encode m) (sent.0, sent.1, reads.kinds m ∙ is) r refl
       (λ a. record r { is_set_up = true; transactions = a.transactions }) (λ a. refl)
   of_cp_made reads net good r at from m sent (transfer ue) is = transferred_made reads net r m at
 
   control_made : (reads : ReadsWell talk) (net : Net M C) → Good talk net → (r : Du M C) → net.nodes n ≡ r.transactions
-      → (from : NodeId) (m : Message C) → WasSent talk net from n m → Made talk net n kept (control_came talk.way from m r)
-  unfolding control_came
+      → (from : NodeId) (m : Message C) → WasSent talk net from n m → IsPlayed talk net n kept (control_received talk.way from m r)
+  unfolding control_received
   control_made reads net good r at (CuCp gnb) m sent = by (is_same_gnb gnb r.gnb)
     where
-      by : (b : Bool) → Made talk net n kept (if b then of_cp talk.way (CuCp gnb) m r (kind_of m) else drops Unexpected r)
+      by : (b : Bool) → IsPlayed talk net n kept (if b then of_cu_cp talk.way (CuCp gnb) m r (kind_of m) else drops Unexpected r)
       by true = of_cp_made reads net good r at (CuCp gnb) m sent (kind_of m) refl
       by false = drops_made talk n net kept r Unexpected at
   control_made reads net good r at (Ue ue) m sent = terminal_made reads net r ue m at
@@ -205,7 +205,7 @@ module _ {M C P : Type 0} (talk : Talk M C P) (n : NodeId) where
   carried_leaves t ue bearer c false (Some pdu) r at = (refl, at)
 
   frame_leaves : (ue : UeId) (bearer : BearerId) (c : DuContext) (b : DuBearer) (item : Taken P) (r : Du M C)
-      → Leaves talk n kept r.transactions (frame_came talk.way ue bearer c b item r)
+      → Leaves talk n kept r.transactions (frame_received talk.way ue bearer c b item r)
   frame_leaves ue bearer c b (frame_item poll restart number pdu) r =
       leaves_then talk n kept kept r.transactions
       (gives (told talk.way ue bearer b poll number) (with_bearer talk.way ue bearer c (record b { awaited = number + 1; gap = gap_after talk.way b number restart pdu }) r))
@@ -251,17 +251,17 @@ module _ {M C P : Type 0} (talk : Talk M C P) (n : NodeId) where
   is_setup_request i name = refl
 
   start_made : (reads : ReadsWell talk) (net : Net M C) (r : Du M C) → net.nodes n ≡ r.transactions → NoneExpired talk net n
-      → Made talk net n kept (start talk.way r)
+      → IsPlayed talk net n kept (start talk.way r)
   unfolding start
   start_made reads net r at none = by r.is_set_up
     where
-      by : (b : Bool) → Made talk net n kept (if b then nothing r else
+      by : (b : Bool) → IsPlayed talk net n kept (if b then nothing r else
           (ask talk.way r.transactions (channel 0 (CuCp r.gnb))
           (record { message = f1 (f1s.F1SetupRequest no_instance (node_text (du_node r))); deadline = None; awaited = false })
           then (λ a. nothing (with_transactions r a.transactions))))
       by true = no_move net r (nothing r) at (refl, refl)
       by false =
-          subst (λ (t : Transactions M C). Made talk net n kept (ask talk.way t (channel 0 (CuCp r.gnb))
+          subst (λ (t : Transactions M C). IsPlayed talk net n kept (ask talk.way t (channel 0 (CuCp r.gnb))
           (record { message = f1 (f1s.F1SetupRequest no_instance (node_text (du_node r))); deadline = None; awaited = false })
           then (λ a. nothing (with_transactions r a.transactions)))) at
           (one_made talk n kept net (asks (channel 0 (CuCp r.gnb))
@@ -273,10 +273,10 @@ module _ {M C P : Type 0} (talk : Talk M C P) (n : NodeId) where
           ) tt refl (λ a. with_transactions r a.transactions) (λ a. refl))
 
   tick_made : (net : Net M C) → Good talk net → NoneExpired talk net n → (r : Du M C) → net.nodes n ≡ r.transactions → NoneDue r.transactions
-      → MadeWhole talk net n kept (tick talk.way r)
+      → IsPlayedWhole talk net n kept (tick talk.way r)
   unfolding tick
   tick_made net good none r at late =
-      subst (λ (t : Transactions M C). MadeWhole talk net n kept (gives (flat_map (due_output talk.way) (due t.caller))
+      subst (λ (t : Transactions M C). IsPlayedWhole talk net n kept (gives (flat_map (due_output talk.way) (due t.caller))
       (with_transactions r (record t { caller = after_tick t.caller })))) at (
         ages ∷ moves_due (due (net.nodes n).caller),
         tick_plays talk n (due_output talk.way) (λ c x. refl) (λ c. refl) net good,
@@ -284,12 +284,12 @@ module _ {M C P : Type 0} (talk : Talk M C P) (n : NodeId) where
       )
 
   -- of all inputs but a tick
-  abbrev MadeBut : Net M C → Input C P → Answer M P (Du M C) → Type 0
-  MadeBut net tick_input a = Unit {0}
-  MadeBut net input a = Made talk net n kept a
+  abbrev IsPlayedBut : Net M C → Input C P → Answer M P (Du M C) → Type 0
+  IsPlayedBut net tick_input a = Unit {0}
+  IsPlayedBut net input a = IsPlayed talk net n kept a
 
   but_made : ReadsWell talk → (net : Net M C) → Good talk net → NoneExpired talk net n → (r : Du M C) → net.nodes n ≡ r.transactions
-      → (input : Input C P) → IsPutTo talk net n input → MadeBut net input (du_acts talk.way r input)
+      → (input : Input C P) → IsPutTo talk net n input → IsPlayedBut net input (du_acts talk.way r input)
   unfolding du_acts pass_up confirm
   but_made reads net good none r at (control_input from m) put = control_made reads net good r at from m put
   but_made reads net good none r at (packet_input teid item) put = no_move net r (take talk.way teid item r) at (take_leaves teid item r)
@@ -306,7 +306,7 @@ module _ {M C P : Type 0} (talk : Talk M C P) (n : NodeId) where
   but_made reads net good none r at (order_input order) put = drops_made talk n net kept r Unexpected at
 
   pub du_made : ReadsWell talk → (net : Net M C) → Good talk net → NoneExpired talk net n → (r : Du M C) → net.nodes n ≡ r.transactions
-      → NoneDue r.transactions → (input : Input C P) → IsPutTo talk net n input → MadeWhole talk net n kept (du_acts talk.way r input)
+      → NoneDue r.transactions → (input : Input C P) → IsPutTo talk net n input → IsPlayedWhole talk net n kept (du_acts talk.way r input)
   unfolding du_acts
   du_made reads net good none r at late tick_input put = tick_made net good none r at late
   du_made reads net good none r at late input put =
@@ -347,7 +347,7 @@ module _ {M C P : Type 0} (talk : Talk M C P) (n : NodeId) where
       by false c = all
   terminal_undated r ue m all = all
 
-  of_cp_undated : (r : Du M C) (from : NodeId) (m : Message C) → AreUndated r.transactions → (k : Kind) → kind_of m ≡ k → Undated (of_cp talk.way from m r k)
+  of_cp_undated : (r : Du M C) (from : NodeId) (m : Message C) → AreUndated r.transactions → (k : Kind) → kind_of m ≡ k → Undated (of_cu_cp talk.way from m r k)
   unfolding set_up waits_at
   of_cp_undated r from m all (request ue i) is =
       let t : Transactions M C = record r.transactions { callee = taken r.transactions.callee (channel ue from) i } in
@@ -357,11 +357,11 @@ module _ {M C P : Type 0} (talk : Talk M C P) (n : NodeId) where
       reply_undated talk.way kept r r.transactions (channel ue from) i (λ a. record r { is_set_up = true; transactions = a.transactions }) (λ a. refl) all all
   of_cp_undated r from m all (transfer ue) is = transfer_undated r m all
 
-  control_undated : (r : Du M C) (from : NodeId) (m : Message C) → AreUndated r.transactions → Undated (control_came talk.way from m r)
-  unfolding control_came
+  control_undated : (r : Du M C) (from : NodeId) (m : Message C) → AreUndated r.transactions → Undated (control_received talk.way from m r)
+  unfolding control_received
   control_undated r (CuCp gnb) m all = by (is_same_gnb gnb r.gnb)
     where
-      by : (b : Bool) → Undated (if b then of_cp talk.way (CuCp gnb) m r (kind_of m) else drops Unexpected r)
+      by : (b : Bool) → Undated (if b then of_cu_cp talk.way (CuCp gnb) m r (kind_of m) else drops Unexpected r)
       by true = of_cp_undated r (CuCp gnb) m all (kind_of m) refl
       by false = all
   control_undated r (Ue ue) m all = terminal_undated r ue m all

@@ -5,7 +5,7 @@ use Rattle.unit_defs.specs.Ways.{Output}
 use Rattle.unit_defs.specs.Transactions.{Transactions}
 use Rattle.law_requests_act_once.specs.channel.Replies.{Talk}
 use Rattle.law_requests_act_once.specs.channel.Moves.{Move, Net, new_net, asked_by, sent_by, after_move, Order, after, MayAll}
-use Rattle.law_requests_act_once.specs.channel_rows.Made.{orders_of, Plays, NoneExpired, GoesOn}
+use Rattle.law_requests_act_once.specs.channel_rows.IsPlayed.{orders_of, Plays, NoneExpired, GoesOn}
 use Rattle.law_requests_act_once.proofs.channel_rows.Tickless.{others_leave}
 
 module _ {M C P : Type 0} (talk : Talk M C P) where

@@ -10,7 +10,7 @@ use Rattle.law_requests_act_once.specs.channel.Moves.{Move, Net, sent_by, moved,
 use Rattle.law_requests_act_once.proofs.channel.Keys.{node_same}
 use Rattle.law_requests_act_once.proofs.channel.Kept.{good_after}
 use Rattle.law_requests_act_once.proofs.channel.Nets.{Good}
-use Rattle.law_requests_act_once.specs.channel_rows.Made.{orders_of, Plays}
+use Rattle.law_requests_act_once.specs.channel_rows.IsPlayed.{orders_of, Plays}
 
 module _ {M C P : Type 0} (talk : Talk M C P) where
   pub plays_none : (net : Net M C) (n : NodeId) → Plays talk net n (net.nodes n) [] []

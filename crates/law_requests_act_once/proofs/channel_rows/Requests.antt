@@ -13,7 +13,7 @@ use Rattle.unit_defs.specs.Transactions.{reply, kind_of, Transactions, replied, 
 use Rattle.law_requests_act_once.specs.channel.Replies.{Talk, answers}
 use Rattle.law_requests_act_once.specs.channel.Ends.{asked, Sent, Put}
 use Rattle.law_requests_act_once.specs.channel.Moves.{Move, takes, replies, replies_again, Net, answered_by, sent_by, moved, after, MayReply, May}
-use Rattle.law_requests_act_once.specs.channel_rows.Made.{ReadsWell, orders_of, Plays, Made}
+use Rattle.law_requests_act_once.specs.channel_rows.IsPlayed.{ReadsWell, orders_of, Plays, IsPlayed}
 use Rattle.law_requests_act_once.proofs.channel_rows.Plays.{plays_none, plays_one, plays_then}
 
 pub sent_both : {M P : Type 0} (n : NodeId) (a b : List (Output M P)) → sent_by n (a ++ b) ≡ sent_by n a ++ sent_by n b
@@ -32,8 +32,8 @@ module _ {M C P : Type 0} (talk : Talk M C P) (n : NodeId) where
   -- one reply, that is kept
   pub record Replied (t u : Transactions M C) (c : Channel) (m : Message C) (i : ℕ) (out : List (Sent M)) : Type 0 where
     pub message : Message C
-    pub sent : out ≡ record { from = n; to = c.peer; ue = c.ue; message = talk.way.spell message } ∷ []
-    pub kept : u ≡ record t { callee = keep t.callee c (talk.way.spell message) }
+    pub sent : out ≡ record { from = n; to = c.peer; ue = c.ue; message = talk.way.encode message } ∷ []
+    pub kept : u ≡ record t { callee = keep t.callee c (talk.way.encode message) }
     pub is_reply : kind_of message ≡ reply c.ue i
     pub fits : answers m message ≡ true
 
@@ -90,13 +90,13 @@ module _ {M C P : Type 0} (talk : Talk M C P) (n : NodeId) where
       → ((u : Transactions M C) → Leaves kept u (f u)) → Replies kept t c m i (replied talk.way t c answer then f)
   unfolding replied
   replies_here kept t c m i answer f kind fits more =
-      replies_then (λ u. u) kept t c m i (puts (control c.peer c.ue (talk.way.spell answer)) (record t { callee = keep t.callee c (talk.way.spell answer) })) f
+      replies_then (λ u. u) kept t c m i (puts (control c.peer c.ue (talk.way.encode answer)) (record t { callee = keep t.callee c (talk.way.encode answer) })) f
       (inr (record { message = answer; sent = refl; kept = refl; is_reply = kind; fits = fits })) more
 
   -- ---- the request is given
 
   module _ (reads : ReadsWell talk) (net : Net M C) (c : Channel) (m : Message C) (i : ℕ)
-      (put : Put talk net.bag (answered_by n c) (asked i (talk.way.spell m))) where
+      (put : Put talk net.bag (answered_by n c) (asked i (talk.way.encode m))) where
     abbrev pub here : Transactions M C
     here = net.nodes n
 
@@ -104,7 +104,7 @@ module _ {M C P : Type 0} (talk : Talk M C P) (n : NodeId) where
     after_take = record here { callee = taken here.callee c i }
 
     abbrev pub take_move : Move M C
-    take_move = takes c i (talk.way.spell m)
+    take_move = takes c i (talk.way.encode m)
 
     pub takes_plays : verdict here.callee c i ≡ new → Plays talk net n after_take [] (take_move ∷ [])
     takes_plays is = plays_one talk net n take_move (is, put) [] after_take refl
@@ -121,17 +121,17 @@ module _ {M C P : Type 0} (talk : Talk M C P) (n : NodeId) where
     taken_net = after talk net (orders_of talk n (take_move ∷ []))
 
     pub may_answer : (is : verdict here.callee c i ≡ new) (answer : Message C) → kind_of answer ≡ reply c.ue i → answers m answer ≡ true
-        → MayReply talk taken_net n c i (talk.way.spell answer)
+        → MayReply talk taken_net n c i (talk.way.encode answer)
     may_answer is answer kind fits =
         let p = takes_plays is in
         record {
           is_newest = ap (λ (t : Transactions M C). newest t.callee c) p.node ∙ newest_after;
           is_unanswered = ap (λ (t : Transactions M C). kept_reply t.callee c) p.node ∙ unanswered_after;
           is_reply = reads.kinds answer ∙ kind;
-          request = talk.way.spell m;
+          request = talk.way.encode m;
           was_put = (
             put.0,
-            Contains-append_left net.bag [] (record { from = c.peer; to = n; ue = put.0; message = talk.way.spell m }) put.1,
+            Contains-append_left net.bag [] (record { from = c.peer; to = n; ue = put.0; message = talk.way.encode m }) put.1,
             put.2,
           );
           fits = reads.answers_are m answer ∙ fits;
@@ -142,7 +142,7 @@ module _ {M C P : Type 0} (talk : Talk M C P) (n : NodeId) where
     may_reply is answer kind fits = (i, may_answer is answer kind fits)
 
     pub row_made : {R : Type 0} (kept : R → Transactions M C) (is : verdict here.callee c i ≡ new) (a : Answer M P R)
-        → Replies kept after_take c m i a → Made talk net n kept a
+        → Replies kept after_take c m i a → IsPlayed talk net n kept a
     unfolding replied
     row_made kept is (gives os r) (inl none) = (
       take_move ∷ [],
@@ -154,22 +154,22 @@ module _ {M C P : Type 0} (talk : Talk M C P) (n : NodeId) where
         let p = takes_plays is in (
           take_move ∷ replies c one.message ∷ [],
           subst (λ (t : Transactions M C). Plays talk net n t (sent_by n os) (take_move ∷ replies c one.message ∷ [])) (sym one.kept)
-              (subst (λ (out : List (Sent M)). Plays talk net n (record after_take { callee = keep after_take.callee c (talk.way.spell one.message) }) out
+              (subst (λ (out : List (Sent M)). Plays talk net n (record after_take { callee = keep after_take.callee c (talk.way.encode one.message) }) out
               (take_move ∷ replies c one.message ∷ [])) (sym one.sent)
-              (plays_then talk net n after_take (record after_take { callee = keep after_take.callee c (talk.way.spell one.message) }) []
-              (record { from = n; to = c.peer; ue = c.ue; message = talk.way.spell one.message } ∷ []) (take_move ∷ []) (replies c one.message ∷ []) p
+              (plays_then talk net n after_take (record after_take { callee = keep after_take.callee c (talk.way.encode one.message) }) []
+              (record { from = n; to = c.peer; ue = c.ue; message = talk.way.encode one.message } ∷ []) (take_move ∷ []) (replies c one.message ∷ []) p
               (plays_one talk taken_net n (replies c one.message) (may_reply is one.message one.is_reply one.fits)
-              (control c.peer c.ue (talk.way.spell one.message) ∷ []) (record after_take { callee = keep after_take.callee c (talk.way.spell one.message) })
+              (control c.peer c.ue (talk.way.encode one.message) ∷ []) (record after_take { callee = keep after_take.callee c (talk.way.encode one.message) })
               (ap (λ (t : Transactions M C). moved talk t (replies c one.message)) p.node)))),
           (tt, (tt, tt)),
         )
     row_made kept is (spent k) made = tt
 
     again_made : {R : Type 0} (kept : R → Transactions M C) (same : R) → here ≡ kept same
-        → Made talk net n kept (answered_again talk.way same c (kept_reply here.callee c))
+        → IsPlayed talk net n kept (answered_again talk.way same c (kept_reply here.callee c))
     again_made kept same at = by (kept_reply here.callee c) refl
       where
-        by : (k : Option M) → kept_reply here.callee c ≡ k → Made talk net n kept (answered_again talk.way same c k)
+        by : (k : Option M) → kept_reply here.callee c ≡ k → IsPlayed talk net n kept (answered_again talk.way same c k)
         by None is = ([], subst (λ (t : Transactions M C). Plays talk net n t [] []) at (plays_none talk net n), tt)
         by (Some y) is = (
           replies_again c ∷ [],
@@ -179,28 +179,28 @@ module _ {M C P : Type 0} (talk : Talk M C P) (n : NodeId) where
         )
 
     pub request_made : {R : Type 0} (kept : R → Transactions M C) (same : R) (row : Transactions M C → Answer M P R) → here ≡ kept same
-        → Replies kept after_take c m i (row after_take) → Made talk net n kept (on_request talk.way same here c i row)
+        → Replies kept after_take c m i (row after_take) → IsPlayed talk net n kept (on_request talk.way same here c i row)
     unfolding on_request
     request_made kept same row at made = by (verdict here.callee c i) refl
       where
-        by : (v : Verdict) → verdict here.callee c i ≡ v → Made talk net n kept (request_by talk.way same here c i row v)
+        by : (v : Verdict) → verdict here.callee c i ≡ v → IsPlayed talk net n kept (request_by talk.way same here c i row v)
         by new is = row_made kept is (row after_take) made
         by again is = again_made kept same at
         by stale is = ([], subst (λ (t : Transactions M C). Plays talk net n t [] []) at (plays_none talk net n), tt)
 
     -- the same, where the row's moves may be made after the request was taken
     pub request_taken : {R : Type 0} (kept : R → Transactions M C) (same : R) (row : Transactions M C → Answer M P R) → here ≡ kept same
-        → (verdict here.callee c i ≡ new → Made talk net n kept (row after_take)) → Made talk net n kept (on_request talk.way same here c i row)
+        → (verdict here.callee c i ≡ new → IsPlayed talk net n kept (row after_take)) → IsPlayed talk net n kept (on_request talk.way same here c i row)
     unfolding on_request
     request_taken kept same row at made = by (verdict here.callee c i) refl
       where
-        by : (v : Verdict) → verdict here.callee c i ≡ v → Made talk net n kept (request_by talk.way same here c i row v)
+        by : (v : Verdict) → verdict here.callee c i ≡ v → IsPlayed talk net n kept (request_by talk.way same here c i row v)
         by new is = made is
         by again is = again_made kept same at
         by stale is = ([], subst (λ (t : Transactions M C). Plays talk net n t [] []) at (plays_none talk net n), tt)
 
   -- nothing at all
-  pub leaves_made : {R : Type 0} (net : Net M C) (kept : R → Transactions M C) (a : Answer M P R) → Leaves kept (net.nodes n) a → Made talk net n kept a
+  pub leaves_made : {R : Type 0} (net : Net M C) (kept : R → Transactions M C) (a : Answer M P R) → Leaves kept (net.nodes n) a → IsPlayed talk net n kept a
   leaves_made net kept (gives os r) none = (
     [],
     subst (λ (t : Transactions M C). Plays talk net n t (sent_by n os) []) (sym none.1)
@@ -210,5 +210,5 @@ module _ {M C P : Type 0} (talk : Talk M C P) (n : NodeId) where
   leaves_made net kept (spent k) none = tt
 
   pub drops_made : {R : Type 0} (net : Net M C) (kept : R → Transactions M C) (r : R) (reason : DropReason) → net.nodes n ≡ kept r
-      → Made talk net n kept (drops reason r)
+      → IsPlayed talk net n kept (drops reason r)
   drops_made net kept r reason at = leaves_made net kept (drops reason r) (refl, sym at)

@@ -7,11 +7,11 @@ use Rattle.gnb_types.specs.declared.names.UeId.{UeId}
 use Rattle.unit_defs.specs.Ways.{Output, Answer, gives, spent, with_outputs, ◌then◌, nothing}
 use Rattle.unit_defs.specs.Messages.{channel}
 use Rattle.unit_defs.specs.Transactions.{Transactions, ask, ask_at_once, replied, replied_late}
-use Rattle.unit_defs.specs.CpRecords.{CuCpRecord, with_transactions, with_terminal, waiting_of, after_begun, after_asked, noted, Say, asks as says_ask, cancels as says_cancel, replies as says_reply, replies_late as says_late, sends, fails, ignores, refuses, forgets as says_forget, say_one, say_all, Row, row, row_spent, carry_out}
+use Rattle.unit_defs.specs.CuCpRecords.{CuCpRecord, with_transactions, with_terminal, waiting_of, after_begun, after_asked, noted, Action, asks as says_ask, cancels as says_cancel, replies as says_reply, replies_late as says_late, sends, fails, ignores, refuses, forgets as says_forget, act_one, act_all, Row, row, row_spent, carry_out}
 use Rattle.law_requests_act_once.specs.channel.Replies.{Talk}
 use Rattle.law_requests_act_once.specs.channel.Ends.{Sent}
 use Rattle.law_requests_act_once.specs.channel.Moves.{Move, asks, asks_at_once, replies, replies_late, transfers, forgets, Net, sent_by, moved, May, after, after_move, MayAll}
-use Rattle.law_requests_act_once.specs.channel_rows.Made.{orders_of, Plays}
+use Rattle.law_requests_act_once.specs.channel_rows.IsPlayed.{orders_of, Plays}
 use Rattle.law_requests_act_once.specs.channel_rows.Rows.{moves_of, moves_of_all, IsAllowed, RowPlays}
 use Rattle.law_requests_act_once.proofs.channel_rows.Plays.{plays_none, plays_one, plays_then}
 use Rattle.law_requests_act_once.proofs.channel_rows.Requests.{sent_both}
@@ -50,10 +50,10 @@ module _ {M C P : Type 0} (talk : Talk M C P) (n : NodeId) where
   same_then (gives os t) = ap (λ (o : List (Output M P)). gives o t) (append-nil os)
   same_then (spent k) = refl
 
-  says_one : (net : Net M C) (ue : UeId) (r : CuCpRecord M C) → net.nodes n ≡ r.transactions → (s : Say C)
+  says_one : (net : Net M C) (ue : UeId) (r : CuCpRecord M C) → net.nodes n ≡ r.transactions → (s : Action C)
       → MayAll talk net (orders_of talk n (moves_of talk ue s))
-      → Gives (λ os q. Plays talk net n q.transactions (sent_by n os) (moves_of talk ue s)) (say_one talk.way ue r s)
-  unfolding say_one
+      → Gives (λ os q. Plays talk net n q.transactions (sent_by n os) (moves_of talk ue s)) (act_one talk.way ue r s)
+  unfolding act_one
   says_one net ue r at (says_ask to m deadline awaited) may =
       from_move net (asks (channel ue.0 to) (waiting_of talk.way m deadline awaited))
       (ask talk.way r.transactions (channel ue.0 to) (waiting_of talk.way m deadline awaited)) (λ a. a.transactions)
@@ -75,8 +75,8 @@ module _ {M C P : Type 0} (talk : Talk M C P) (n : NodeId) where
       (ap (λ (t : Transactions M C). moved talk t (replies_late (channel ue.0 to) i m)) at
       ∙ sym (same_then (replied_late talk.way r.transactions (channel ue.0 to) i m))) (λ t. refl)
   says_one net ue r at (sends to m) may =
-      plays_one talk net n (transfers to ue.0 (talk.way.spell m)) may.0 _ r.transactions
-      (ap (λ (t : Transactions M C). moved talk t (transfers to ue.0 (talk.way.spell m))) at)
+      plays_one talk net n (transfers to ue.0 (talk.way.encode m)) may.0 _ r.transactions
+      (ap (λ (t : Transactions M C). moved talk t (transfers to ue.0 (talk.way.encode m))) at)
   says_one net ue r at (fails cause) may = subst (λ (t : Transactions M C). Plays talk net n t [] []) at (plays_none talk net n)
   says_one net ue r at (ignores reason) may = subst (λ (t : Transactions M C). Plays talk net n t [] []) at (plays_none talk net n)
   says_one net ue r at (refuses reason) may = subst (λ (t : Transactions M C). Plays talk net n t [] []) at (plays_none talk net n)
@@ -109,13 +109,13 @@ module _ {M C P : Type 0} (talk : Talk M C P) (n : NodeId) where
   may_rest net (m ∷ ms) ks may = may_rest (after_move talk net n m) ms ks may.1
 
   -- all that a row says, one after another
-  pub says_all : (says : List (Say C)) (net : Net M C) (ue : UeId) (r : CuCpRecord M C) → net.nodes n ≡ r.transactions
+  pub says_all : (says : List (Action C)) (net : Net M C) (ue : UeId) (r : CuCpRecord M C) → net.nodes n ≡ r.transactions
       → MayAll talk net (orders_of talk n (moves_of_all talk ue says))
-      → Gives (λ os q. Plays talk net n q.transactions (sent_by n os) (moves_of_all talk ue says)) (say_all talk.way ue says r)
-  unfolding say_all
+      → Gives (λ os q. Plays talk net n q.transactions (sent_by n os) (moves_of_all talk ue says)) (act_all talk.way ue says r)
+  unfolding act_all
   says_all [] net ue r at may = subst (λ (t : Transactions M C). Plays talk net n t [] []) at (plays_none talk net n)
   says_all (s ∷ ss) net ue r at may =
-      gives_then net (moves_of talk ue s) (moves_of_all talk ue ss) (say_one talk.way ue r s) (say_all talk.way ue ss) kept
+      gives_then net (moves_of talk ue s) (moves_of_all talk ue ss) (act_one talk.way ue r s) (act_all talk.way ue ss) kept
       (says_one net ue r at s (may_front net (moves_of talk ue s) (moves_of_all talk ue ss) may))
       (λ q e. says_all ss (after talk net (orders_of talk n (moves_of talk ue s))) ue q e
       (may_rest net (moves_of talk ue s) (moves_of_all talk ue ss) may))
@@ -123,7 +123,7 @@ module _ {M C P : Type 0} (talk : Talk M C P) (n : NodeId) where
   pub row_says : (net : Net M C) (ue : UeId) (r : CuCpRecord M C) → net.nodes n ≡ r.transactions → (what : Row C)
       → IsAllowed talk net n ue what → RowPlays talk net n ue what (carry_out talk.way ue r what)
   unfolding carry_out
-  row_says net ue r at (row says after) may = as_row (say_all talk.way ue says (with_terminal ue r after)) (says_all says net ue (with_terminal ue r after) at may)
+  row_says net ue r at (row says after) may = as_row (act_all talk.way ue says (with_terminal ue r after)) (says_all says net ue (with_terminal ue r after) at may)
     where
       as_row : (a : Answer M P (CuCpRecord M C)) → Gives (λ os q. Plays talk net n q.transactions (sent_by n os) (moves_of_all talk ue says)) a
           → RowPlays talk net n ue (row says after) a

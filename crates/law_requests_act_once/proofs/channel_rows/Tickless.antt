@@ -5,13 +5,13 @@ use Rattle.gnb_types.specs.declared.names.UeId.{UeId}
 use Rattle.gnb_types.specs.declared.keys.Channel.{Channel}
 use Rattle.unit_defs.specs.Ways.{Answer, gives, spent}
 use Rattle.unit_defs.specs.Transactions.{Transactions}
-use Rattle.unit_defs.specs.CpRecords.{Say, asks as says_ask, cancels as says_cancel, replies as says_reply, replies_late as says_late, sends, fails, ignores, refuses, forgets as says_forget}
+use Rattle.unit_defs.specs.CuCpRecords.{Action, asks as says_ask, cancels as says_cancel, replies as says_reply, replies_late as says_late, sends, fails, ignores, refuses, forgets as says_forget}
 use Rattle.transaction_defs.specs.Callers.{opened_at}
 use Rattle.law_requests_act_once.specs.channel.Replies.{Talk}
 use Rattle.law_requests_act_once.specs.channel.Ends.{Route, same_node, at_initiator}
 use Rattle.law_requests_act_once.specs.channel.Moves.{Move, asks_at_once, ages, Net, asked_by, with_route, expires_now, moved, expired_after, after_answer, after_move, after}
 use Rattle.law_requests_act_once.proofs.channel.Keys.{node_same, route_cases, with_route_here, with_route_other}
-use Rattle.law_requests_act_once.specs.channel_rows.Made.{orders_of, IsTickless, AreTickless, Made, MadeWhole, NoneExpired}
+use Rattle.law_requests_act_once.specs.channel_rows.IsPlayed.{orders_of, IsTickless, AreTickless, IsPlayed, IsPlayedWhole, NoneExpired}
 use Rattle.law_requests_act_once.specs.channel_rows.Rows.{moves_of, moves_of_all}
 
 pub tickless_both : {M C : Type 0} (ms ks : List (Move M C)) → AreTickless ms → AreTickless ks → AreTickless (ms ++ ks)
@@ -19,7 +19,7 @@ tickless_both [] ks first second = second
 tickless_both (m ∷ ms) ks first second = (first.0, tickless_both ms ks first.1 second)
 
 module _ {M C P : Type 0} (talk : Talk M C P) where
-  say_tickless : (ue : UeId) (s : Say C) → AreTickless (moves_of talk ue s)
+  say_tickless : (ue : UeId) (s : Action C) → AreTickless (moves_of talk ue s)
   say_tickless ue (says_ask to m deadline awaited) = (tt, tt)
   say_tickless ue (says_cancel to m) = (tt, tt)
   say_tickless ue (says_reply to m) = (tt, tt)
@@ -30,7 +30,7 @@ module _ {M C P : Type 0} (talk : Talk M C P) where
   say_tickless ue (refuses reason) = tt
   say_tickless ue says_forget = (tt, tt)
 
-  pub says_tickless : (ue : UeId) (ss : List (Say C)) → AreTickless (moves_of_all talk ue ss)
+  pub says_tickless : (ue : UeId) (ss : List (Action C)) → AreTickless (moves_of_all talk ue ss)
   says_tickless ue [] = tt
   says_tickless ue (s ∷ ss) = tickless_both (moves_of talk ue s) (moves_of_all talk ue ss) (say_tickless ue s) (says_tickless ue ss)
 
@@ -70,8 +70,8 @@ module _ {M C P : Type 0} (talk : Talk M C P) (n : NodeId) where
       by true e = absurd (true≢false (sym (shrinks ms plain net c e) ∙ none c))
       by false e = refl
 
-  pub whole : {R : Type 0} (net : Net M C) (kept : R → Transactions M C) (a : Answer M P R) → NoneExpired talk net n → Made talk net n kept a
-      → MadeWhole talk net n kept a
+  pub whole : {R : Type 0} (net : Net M C) (kept : R → Transactions M C) (a : Answer M P R) → NoneExpired talk net n → IsPlayed talk net n kept a
+      → IsPlayedWhole talk net n kept a
   whole net kept (gives os r) none made = (made.0, made.1, none_then net made.0 made.2 none)
   whole net kept (spent k) none made = tt
 

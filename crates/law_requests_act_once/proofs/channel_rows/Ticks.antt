@@ -23,7 +23,7 @@ use Rattle.law_requests_act_once.specs.channel.Ends.{Sent, asked, Put, same_node
 use Rattle.law_requests_act_once.specs.channel.Moves.{Move, ages, repeats, Net, asked_by, sent_by, expires_now, after_move, after}
 use Rattle.law_requests_act_once.proofs.channel.Keys.{node_same}
 use Rattle.law_requests_act_once.proofs.channel.Nets.{Good}
-use Rattle.law_requests_act_once.specs.channel_rows.Made.{orders_of, Plays, AreTickless, NoneDue, NoneExpired}
+use Rattle.law_requests_act_once.specs.channel_rows.IsPlayed.{orders_of, Plays, AreTickless, NoneDue, NoneExpired}
 use Rattle.law_requests_act_once.proofs.channel_rows.Tickless.{none_then}
 use Rattle.law_requests_act_once.proofs.channel_rows.Plays.{plays_none, plays_one, plays_then}
 use Rattle.law_requests_act_once.proofs.channel_rows.Requests.{sent_both}

@@ -19,7 +19,7 @@ use Rattle.law_requests_act_once.specs.channel.Exactly.{IfGives}
 use Rattle.law_requests_act_once.proofs.channel.Keys.{channel_told}
 use Rattle.law_requests_act_once.proofs.channel.Projections.{Asks, begun_asks, waiting_asks, closed_asks}
 use Rattle.law_requests_act_once.proofs.channel.Ticks.{aged_in, opened_after_tick}
-use Rattle.law_requests_act_once.specs.channel_rows.Made.{HasNoDeadline, IsUndated, AreUndated, NoneDue}
+use Rattle.law_requests_act_once.specs.channel_rows.IsPlayed.{HasNoDeadline, IsUndated, AreUndated, NoneDue}
 
 all_push : {C : Type 0} (ws : List (Waiting C)) (w : Waiting C) → AllByRecursion HasNoDeadline ws → HasNoDeadline w → AllByRecursion HasNoDeadline (ws ++ w ∷ [])
 all_push [] w all here = (here, tt)
@@ -66,8 +66,8 @@ module _ {M C P : Type 0} (way : Way M C P) where
       fresh : (b : Bool) → Keeps (begun_as way t c w (if b then begins_no_more else begun_with t.caller c w.deadline (at channel_cmp 0 t.caller.last c + 1)))
       fresh true = tt
       fresh false =
-          undated_by (begun_asks t c w.deadline (at channel_cmp 0 t.caller.last c + 1) (way.spell (with_instance (at channel_cmp 0 t.caller.last c + 1) w.message))) (
-            λ o is. let same : record { instance = at channel_cmp 0 t.caller.last c + 1; deadline = w.deadline; request = Some (way.spell (with_instance (at channel_cmp 0 t.caller.last c + 1) w.message)) } ≡ o = cc in
+          undated_by (begun_asks t c w.deadline (at channel_cmp 0 t.caller.last c + 1) (way.encode (with_instance (at channel_cmp 0 t.caller.last c + 1) w.message))) (
+            λ o is. let same : record { instance = at channel_cmp 0 t.caller.last c + 1; deadline = w.deadline; request = Some (way.encode (with_instance (at channel_cmp 0 t.caller.last c + 1) w.message)) } ≡ o = cc in
                 ap (λ (x : Opened M). x.deadline) (sym same) ∙ none,
             (all c).1,
           ) all

@@ -7,7 +7,7 @@ use Rattle.law_requests_act_once.specs.channel.Ends.{Route, at_initiator, at_res
 use Rattle.law_requests_act_once.specs.channel.Moves.{Net, new_net, ends_of, Order, after}
 use Rattle.law_requests_act_once.proofs.channel.Kept.{good_of}
 use Rattle.law_requests_act_once.proofs.channel.Exactly.{descends, only_cancels, is_answered}
-use Rattle.law_requests_act_once.specs.run_channels.Tied.{PlainControl, run_talk, sent_of, ComesOf, ends_in, AreExact}
+use Rattle.law_requests_act_once.specs.run_channels.Reached.{PlainControl, run_talk, sent_of, ComesOf, ends_in, AreExact}
 
 module _ (k : PlainControl) (orders : List (Order run_talk)) (comes : ComesOf k orders) where
   abbrev net : Net (Message Token) Token

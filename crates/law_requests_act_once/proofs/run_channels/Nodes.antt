@@ -17,17 +17,17 @@ use Rattle.tables.specs.Tables.{find, at}
 use Rattle.tables.proofs.TableLaws.{at-put}
 use Rattle.unit_defs.specs.Ways.{Message}
 use Rattle.unit_defs.specs.Transactions.{Transactions, no_transactions}
-use Rattle.unit_defs.specs.UpRecords.{CuUp}
+use Rattle.unit_defs.specs.CuUpRecords.{CuUp}
 use Rattle.unit_defs.specs.CuUp.{new_cu_up}
 use Rattle.unit_defs.specs.Du.{Du, new_du}
 use Rattle.unit_defs.specs.Core.{CoreRecord, new_core}
-use Rattle.unit_defs.specs.Static.{up_placed, du_placed, cp_placed, up_set_up, du_set_up}
+use Rattle.unit_defs.specs.Static.{cu_up_placed, du_placed, cu_cp_placed, cu_up_set_up, du_set_up}
 use Rattle.unit_defs.specs.Ue.{UeNode, new_ue, placed}
-use Rattle.run_defs.specs.Units.{Units, new_units, cp_of, with_cp, up_of, with_up, du_of, with_du, with_ue}
+use Rattle.run_defs.specs.Units.{Units, new_units, cu_cp_of, with_cu_cp, cu_up_of, with_cu_up, du_of, with_du, with_ue}
 use Rattle.run_defs.specs.Conditions.{units_placed, all_set_up}
 use Rattle.law_requests_act_once.specs.channel.Ends.{same_node}
 use Rattle.law_requests_act_once.proofs.channel.Keys.{node_same, node_told}
-use Rattle.law_requests_act_once.specs.run_channels.Tied.{PlainControl, PlainCp, kept_by}
+use Rattle.law_requests_act_once.specs.run_channels.Reached.{PlainControl, PlainCp, kept_by}
 
 abbrev pub Records : Type 0
 Records = Units (Message Token) Token
@@ -42,16 +42,16 @@ module _ (k : PlainControl) where
   -- ---- one unit's record
 
   module _ (gnb : Gnb) (number : ℕ) where
-    pub up_here : (r : CuUp (Message Token) Token) → kept_by (with_units (with_up k.units gnb number r)) (up_id gnb number) ≡ r.transactions
+    pub up_here : (r : CuUp (Message Token) Token) → kept_by (with_units (with_cu_up k.units gnb number r)) (up_id gnb number) ≡ r.transactions
     up_here r =
         ap (λ (x : CuUp (Message Token) Token). x.transactions) (at-put node_total (new_cu_up gnb number) k.units.ups (up_id gnb number) r (up_id gnb number))
-        ∙ ap (λ (b : Bool). (cond b r (up_of k.units gnb number)).transactions) (node_same (up_id gnb number))
+        ∙ ap (λ (b : Bool). (cond b r (cu_up_of k.units gnb number)).transactions) (node_same (up_id gnb number))
 
     pub up_apart : (r : CuUp (Message Token) Token) (m : NodeId) → same_node m (up_id gnb number) ≡ false
-        → kept_by (with_units (with_up k.units gnb number r)) m ≡ kept_by k m
+        → kept_by (with_units (with_cu_up k.units gnb number r)) m ≡ kept_by k m
     up_apart r (up_id h j) other =
         ap (λ (x : CuUp (Message Token) Token). x.transactions) (at-put node_total (new_cu_up h j) k.units.ups (up_id gnb number) r (up_id h j))
-        ∙ ap (λ (b : Bool). (cond b r (up_of k.units h j)).transactions) other
+        ∙ ap (λ (b : Bool). (cond b r (cu_up_of k.units h j)).transactions) other
     up_apart r (CuCp A) other = refl
     up_apart r (CuCp B) other = refl
     up_apart r (du_id h j) other = refl
@@ -74,11 +74,11 @@ module _ (k : PlainControl) where
     du_apart r Core other = refl
     du_apart r (Ue ue) other = refl
 
-  pub cp_here : (gnb : Gnb) (r : PlainCp) → kept_by (with_units (with_cp k.units gnb r)) (CuCp gnb) ≡ r.transactions
+  pub cp_here : (gnb : Gnb) (r : PlainCp) → kept_by (with_units (with_cu_cp k.units gnb r)) (CuCp gnb) ≡ r.transactions
   cp_here A r = refl
   cp_here B r = refl
 
-  pub cp_apart : (gnb : Gnb) (r : PlainCp) (m : NodeId) → same_node m (CuCp gnb) ≡ false → kept_by (with_units (with_cp k.units gnb r)) m ≡ kept_by k m
+  pub cp_apart : (gnb : Gnb) (r : PlainCp) (m : NodeId) → same_node m (CuCp gnb) ≡ false → kept_by (with_units (with_cu_cp k.units gnb r)) m ≡ kept_by k m
   cp_apart A r (CuCp A) other = absurd (true≢false (sym (node_same (CuCp A)) ∙ other))
   cp_apart A r (CuCp B) other = refl
   cp_apart B r (CuCp A) other = refl
@@ -135,31 +135,31 @@ pub set_up_same : (k : PlainControl) (m : NodeId) → kept_by (record k { units 
 set_up_same k (CuCp A) = refl
 set_up_same k (CuCp B) = refl
 set_up_same k (up_id h j) =
-    mapped_same node_cmp up_set_up (λ (x : CuUp (Message Token) Token). x.transactions) (λ x. refl) (new_cu_up h j) k.units.ups (up_id h j)
+    mapped_same node_cmp cu_up_set_up (λ (x : CuUp (Message Token) Token). x.transactions) (λ x. refl) (new_cu_up h j) k.units.ups (up_id h j)
 set_up_same k (du_id h j) =
     mapped_same node_cmp du_set_up (λ (x : Du (Message Token) Token). x.transactions) (λ x. refl) (new_du h j) k.units.dus (du_id h j)
 set_up_same k Core = refl
 set_up_same k (Ue v) = refl
 
 pub placed_same : (k : PlainControl) (plan : Plan) (m : NodeId) → kept_by (record k { units = all_set_up (units_placed plan k.units) }) m ≡ kept_by k m
-unfolding up_placed du_placed cp_placed
+unfolding cu_up_placed du_placed cu_cp_placed
 placed_same k plan m =
     let u : Records = k.units in
-    let up : CuUp (Message Token) Token = up_of u plan.gnb plan.up in
+    let up : CuUp (Message Token) Token = cu_up_of u plan.gnb plan.up in
     let du : Du (Message Token) Token = du_of u plan.gnb plan.du in
     let a : PlainControl = record k { units = with_ue u plan.ue (placed (new_ue plan)) } in
-    let b : PlainControl = record k { units = with_up a.units plan.gnb plan.up (up_placed up plan du.next_teid) } in
+    let b : PlainControl = record k { units = with_cu_up a.units plan.gnb plan.up (cu_up_placed up plan du.next_teid) } in
     let c : PlainControl = record k { units = with_du b.units plan.gnb plan.du (du_placed du plan (up.next_teid + 1)) } in
     let d : PlainControl = record k { units = units_placed plan u } in
     set_up_same d m
-    ∙ same_where (CuCp plan.gnb) c d (cp_apart c plan.gnb (cp_placed (cp_of u plan.gnb) plan)) (cps plan.gnb c) m
+    ∙ same_where (CuCp plan.gnb) c d (cp_apart c plan.gnb (cu_cp_placed (cu_cp_of u plan.gnb) plan)) (cps plan.gnb c) m
     ∙ same_where (du_id plan.gnb plan.du) b c (du_apart b plan.gnb plan.du (du_placed du plan (up.next_teid + 1)))
     (du_here b plan.gnb plan.du (du_placed du plan (up.next_teid + 1))) m
-    ∙ same_where (up_id plan.gnb plan.up) a b (up_apart a plan.gnb plan.up (up_placed up plan du.next_teid))
-    (up_here a plan.gnb plan.up (up_placed up plan du.next_teid)) m
+    ∙ same_where (up_id plan.gnb plan.up) a b (up_apart a plan.gnb plan.up (cu_up_placed up plan du.next_teid))
+    (up_here a plan.gnb plan.up (cu_up_placed up plan du.next_teid)) m
     ∙ ue_same k plan.ue (placed (new_ue plan)) m
   where
-    cps : (g : Gnb) (c : PlainControl) → kept_by (record c { units = with_cp c.units g (cp_placed (cp_of k.units g) plan) }) (CuCp g) ≡ (cp_of k.units g).transactions
+    cps : (g : Gnb) (c : PlainControl) → kept_by (record c { units = with_cu_cp c.units g (cu_cp_placed (cu_cp_of k.units g) plan) }) (CuCp g) ≡ (cu_cp_of k.units g).transactions
     cps A c = refl
     cps B c = refl
 
@@ -170,7 +170,7 @@ pick : {X : Type 0} (t : X → Kept) (x : X) (o : Option X) (d : X) (b : Bool) �
 pick t x o d true here rest = here
 pick t x o d false here rest = rest
 
-pub first_kept : (m : NodeId) → kept_by (record { units = new_units; core = new_core; letters = [] }) m ≡ no_transactions
+pub first_kept : (m : NodeId) → kept_by (record { units = new_units; core = new_core; control_messages = [] }) m ≡ no_transactions
 unfolding at find
 first_kept (CuCp A) = refl
 first_kept (CuCp B) = refl

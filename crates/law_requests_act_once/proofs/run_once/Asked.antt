@@ -19,15 +19,15 @@ use Rattle.transaction_defs.specs.Callees.{Kept, kept_at, new, again, stale, ver
 use Rattle.unit_defs.specs.Ways.{Message, f1, e1, xn}
 use Rattle.unit_defs.specs.Messages.{channel, is_same_gnb, other_gnb, shares_interface}
 use Rattle.unit_defs.specs.Transactions.{request, kind_of}
-use Rattle.unit_defs.specs.CpRecords.{terminal_of}
-use Rattle.run_defs.specs.Units.{cp_of}
+use Rattle.unit_defs.specs.CuCpRecords.{terminal_of}
+use Rattle.run_defs.specs.Units.{cu_cp_of}
 use Rattle.run_defs.specs.Runs.{plain_way}
 use Rattle.law_requests_act_once.specs.channel.Replies.{answers, overtakes, is_preparation}
 use Rattle.law_requests_act_once.specs.channel.Ends.{Route, asking_at, Sent, asked, told, Put, Once, newest_number}
-use Rattle.law_requests_act_once.specs.run_channels.Tied.{PlainControl, PlainLetter, PlainCp, run_talk, kept_by, as_sent, sent_of, ends_in, AreExact}
+use Rattle.law_requests_act_once.specs.run_channels.Reached.{PlainControl, PlainControlMessage, PlainCp, run_talk, kept_by, as_sent, sent_of, ends_in, AreExact}
 use Rattle.law_requests_act_once.proofs.run_channels.Exact.{exact_of}
-use Rattle.law_requests_act_once.proofs.run_channels.Ties.{contains_map, IsUpOrDu, IsTied}
-use Rattle.law_requests_act_once.specs.cp_offers.Offers.{offer_of, OffersStand, is_handover_request, ComesFit}
+use Rattle.law_requests_act_once.proofs.run_channels.Reaches.{contains_map, IsUpOrDu, IsReached}
+use Rattle.law_requests_act_once.specs.cu_cp_offers.Offers.{offer_of, OffersStand, is_handover_request, ComesFit}
 use Rattle.law_requests_act_once.specs.unit_setups.Setups.{IsSetup, AsksForSetup, GoesOn}
 
 -- ---- a request for a handover
@@ -48,20 +48,20 @@ handover_answers m h answer is = absurd cc
 
 -- ---- what was put, as letters
 
-abbrev as_letter : Sent (Message Token) → PlainLetter
-as_letter s = record { from = s.from; to = s.to; ue = s.ue; message = s.message }
+abbrev as_control_message : Sent (Message Token) → PlainControlMessage
+as_control_message s = record { from = s.from; to = s.to; ue = s.ue; message = s.message }
 
-letters_back : (ls : List PlainLetter) → map as_letter (map as_sent ls) ≡ ls
-letters_back [] = refl
-letters_back (l ∷ ls) = ap (λ (more : List PlainLetter). l ∷ more) (letters_back ls)
+control_messages_back : (ls : List PlainControlMessage) → map as_control_message (map as_sent ls) ≡ ls
+control_messages_back [] = refl
+control_messages_back (l ∷ ls) = ap (λ (more : List PlainControlMessage). l ∷ more) (control_messages_back ls)
 
-letter_of : (ls : List PlainLetter) (s : Sent (Message Token)) → Contains (map as_sent ls) s → Contains ls (as_letter s)
-letter_of ls s has = subst (λ (x : List PlainLetter). Contains x (as_letter s)) (letters_back ls) (contains_map as_letter (map as_sent ls) s has)
+control_message_of : (ls : List PlainControlMessage) (s : Sent (Message Token)) → Contains (map as_sent ls) s → Contains ls (as_control_message s)
+control_message_of ls s has = subst (λ (x : List PlainControlMessage). Contains x (as_control_message s)) (control_messages_back ls) (contains_map as_control_message (map as_sent ls) s has)
 
 abbrev pub route : NodeId → NodeId → ℕ → Route
 route from to ue = record { from = from; to = to; ue = ue }
 
-put_of : (ls : List PlainLetter) (l : PlainLetter) (u i : ℕ) → Contains ls l → kind_of l.message ≡ request u i
+put_of : (ls : List PlainControlMessage) (l : PlainControlMessage) (u i : ℕ) → Contains ls l → kind_of l.message ≡ request u i
     → Put run_talk (map as_sent ls) (route l.from l.to u) (asked i l.message)
 put_of ls l u i has kind = (l.ue, contains_map as_sent ls l has, kind)
 
@@ -70,28 +70,28 @@ put_of ls l u i has kind = (l.ue, contains_map as_sent ls l has, kind)
 abbrev pub UnitsAsk : PlainControl → Type 0
 UnitsAsk k = (m : NodeId) → IsUpOrDu m → (c : Channel) → AsksForSetup plain_way (asking_at (kept_by k m) c)
 
-abbrev pub NoneAskHandover : List PlainLetter → Type 0
-NoneAskHandover ls = (l : PlainLetter) → Contains ls l → IsUpOrDu l.from → is_handover_request l.message ≡ false
+abbrev pub NoneAskHandover : List PlainControlMessage → Type 0
+NoneAskHandover ls = (l : PlainControlMessage) → Contains ls l → IsUpOrDu l.from → is_handover_request l.message ≡ false
 
-module _ (k l : PlainControl) (tied : IsTied k) (now : IsTied l) (grew : (x : PlainLetter) → Contains k.letters x → Contains l.letters x)
-    (goes : (m : NodeId) → IsUpOrDu m → GoesOn plain_way (kept_by k m) (kept_by l m)) (asks : UnitsAsk k) (none : NoneAskHandover k.letters) where
+module _ (k l : PlainControl) (reached : IsReached k) (now : IsReached l) (grew : (x : PlainControlMessage) → Contains k.control_messages x → Contains l.control_messages x)
+    (goes : (m : NodeId) → IsUpOrDu m → GoesOn plain_way (kept_by k m) (kept_by l m)) (asks : UnitsAsk k) (none : NoneAskHandover k.control_messages) where
   before : AreExact k
-  before = exact_of k tied.orders tied.comes
+  before = exact_of k reached.orders reached.comes
 
   after : AreExact l
   after = exact_of l now.orders now.comes
 
   still_put : (r : Route) (i : ℕ) (y : Message Token) → Put run_talk (sent_of k) r (asked i y) → Put run_talk (sent_of l) r (asked i y)
-  still_put r i y put = (put.0, contains_map as_sent l.letters _ (grew _ (letter_of k.letters _ put.1)), put.2)
+  still_put r i y put = (put.0, contains_map as_sent l.control_messages _ (grew _ (control_message_of k.control_messages _ put.1)), put.2)
 
-  asks_none : (x : PlainLetter) → Contains l.letters x → IsUpOrDu x.from → (u i : ℕ) → kind_of x.message ≡ request u i → is_handover_request x.message ≡ true → ⊥
+  asks_none : (x : PlainControlMessage) → Contains l.control_messages x → IsUpOrDu x.from → (u i : ℕ) → kind_of x.message ≡ request u i → is_handover_request x.message ≡ true → ⊥
   asks_none x has unit u i kind h = by (cases_lt (asking_at (kept_by k x.from) (channel u x.to)).last i)
     where
       r : Route
       r = route x.from x.to u
 
       put : Put run_talk (sent_of l) r (asked i x.message)
-      put = put_of l.letters x u i has kind
+      put = put_of l.control_messages x u i has kind
 
       first : Once run_talk (ends_in k before.acts r) (Put run_talk (sent_of k) r)
       first = before.once r
@@ -104,8 +104,8 @@ module _ (k l : PlainControl) (tied : IsTied k) (now : IsTied l) (grew : (x : Pl
       earlier within =
           let was = first.was_put i (then'.given i x.message put).0 within in
           let same : was.0 ≡ x.message = then'.one_request i was.0 x.message (still_put r i was.0 was.1) put in
-          let letter = letter_of k.letters _ was.1.1 in
-          true≢false (sym h ∙ ap is_handover_request (sym same) ∙ none _ letter unit)
+          let control_message = control_message_of k.control_messages _ was.1.1 in
+          true≢false (sym h ∙ ap is_handover_request (sym same) ∙ none _ control_message unit)
 
       -- or it is the one that is open
       is_open : (o : Opened (Message Token)) → (asking_at (kept_by l x.from) (channel u x.to)).opened ≡ Some o
@@ -132,7 +132,7 @@ module _ (k l : PlainControl) (tied : IsTied k) (now : IsTied l) (grew : (x : Pl
       by (inl past) = newly past (goes x.from unit (channel u x.to)).one_more
       by (inr within) = earlier within
 
-  pub none_after : NoneAskHandover l.letters
+  pub none_after : NoneAskHandover l.control_messages
   none_after x has unit = by (is_handover_request x.message) refl
     where
       by : (b : Bool) → is_handover_request x.message ≡ b → b ≡ false
@@ -144,27 +144,27 @@ module _ (k l : PlainControl) (tied : IsTied k) (now : IsTied l) (grew : (x : Pl
 
 -- ---- a request for a handover to a CU-CP, that was put
 
-pub record WasAsked (letters : List PlainLetter) (gnb : Gnb) (ue : UeId) (i : ℕ) : Type 0 where
+pub record WasAsked (control_messages : List PlainControlMessage) (gnb : Gnb) (ue : UeId) (i : ℕ) : Type 0 where
   pub owner : ℕ
   pub message : Message Token
-  pub was_put : Contains letters (record { from = CuCp (other_gnb gnb); to = CuCp gnb; ue = owner; message = message })
+  pub was_put : Contains control_messages (record { from = CuCp (other_gnb gnb); to = CuCp gnb; ue = owner; message = message })
   pub is_request : kind_of message ≡ request ue.0 i
   pub fits : (answer : Message Token) → is_preparation answer ≡ true → answers message answer ≡ true
 
 -- ---- what comes to a CU-CP
 
-module _ (k : PlainControl) (tied : IsTied k) (none : NoneAskHandover k.letters) (core : (c : Channel) → (asking_at k.core.transactions c).last ≡ 0)
-    (gnb : Gnb) (r : PlainCp) (its : cp_of k.units gnb ≡ r) (own : r.gnb ≡ gnb) (stand : OffersStand (WasAsked k.letters gnb) r) where
+module _ (k : PlainControl) (reached : IsReached k) (none : NoneAskHandover k.control_messages) (core : (c : Channel) → (asking_at k.core.transactions c).last ≡ 0)
+    (gnb : Gnb) (r : PlainCp) (its : cu_cp_of k.units gnb ≡ r) (own : r.gnb ≡ gnb) (stand : OffersStand (WasAsked k.control_messages gnb) r) where
   abbrev exact : AreExact k
-  exact = exact_of k tied.orders tied.comes
+  exact = exact_of k reached.orders reached.comes
 
-  module _ (from : NodeId) (m : Message Token) (owner : ℕ) (has : Contains k.letters (record { from = from; to = CuCp gnb; ue = owner; message = m }))
+  module _ (from : NodeId) (m : Message Token) (owner : ℕ) (has : Contains k.control_messages (record { from = from; to = CuCp gnb; ue = owner; message = m }))
       (ue : UeId) (i : ℕ) (kind : kind_of m ≡ request ue.0 i) where
     abbrev on : Route
     on = route from (CuCp gnb) ue.0
 
     put : Put run_talk (sent_of k) on (asked i m)
-    put = put_of k.letters (record { from = from; to = CuCp gnb; ue = owner; message = m }) ue.0 i has kind
+    put = put_of k.control_messages (record { from = from; to = CuCp gnb; ue = owner; message = m }) ue.0 i has kind
 
     once : Once run_talk (ends_in k exact.acts on) (Put run_talk (sent_of k) on)
     once = exact.once on
@@ -187,7 +187,7 @@ module _ (k : PlainControl) (tied : IsTied k) (none : NoneAskHandover k.letters)
         absurd (omega arith)
     handover_of h (Ue u) e shares = absurd cc
 
-    of_other : shares_interface (CuCp r.gnb) from ≡ true → is_handover_request m ≡ true → (from ≡ CuCp (other_gnb r.gnb)) × WasAsked k.letters gnb ue i
+    of_other : shares_interface (CuCp r.gnb) from ≡ true → is_handover_request m ≡ true → (from ≡ CuCp (other_gnb r.gnb)) × WasAsked k.control_messages gnb ue i
     of_other shares h =
         let peer : from ≡ CuCp (other_gnb r.gnb) = handover_of h from refl shares in
         let at : from ≡ CuCp (other_gnb gnb) = peer ∙ ap (λ (g : Gnb). CuCp (other_gnb g)) own in (
@@ -195,14 +195,14 @@ module _ (k : PlainControl) (tied : IsTied k) (none : NoneAskHandover k.letters)
           record {
             owner = owner;
             message = m;
-            was_put = subst (λ (n : NodeId). Contains k.letters (record { from = n; to = CuCp gnb; ue = owner; message = m })) at has;
+            was_put = subst (λ (n : NodeId). Contains k.control_messages (record { from = n; to = CuCp gnb; ue = owner; message = m })) at has;
             is_request = kind;
             fits = handover_answers m h;
           },
         )
 
     -- a new request overtakes the one that is unanswered
-    module _ (j : ℕ) (peer : from ≡ CuCp (other_gnb r.gnb)) (asked_for : WasAsked k.letters gnb ue j)
+    module _ (j : ℕ) (peer : from ≡ CuCp (other_gnb r.gnb)) (asked_for : WasAsked k.control_messages gnb ue j)
         (newest_is : newest_number (kept_at r.transactions.callee (channel ue.0 from)) ≡ j) (unanswered : reply_in (kept_at r.transactions.callee (channel ue.0 from)) ≡ None) where
       newest_here : (ends_in k exact.acts on).answering.newest ≡ j
       newest_here = ap (λ (x : PlainCp). newest_number (kept_at x.transactions.callee (channel ue.0 from))) its ∙ newest_is
@@ -213,7 +213,7 @@ module _ (k : PlainControl) (tied : IsTied k) (none : NoneAskHandover k.letters)
       earlier : Put run_talk (sent_of k) on (asked j asked_for.message)
       earlier = subst (λ (n : NodeId). Put run_talk (sent_of k) (route n (CuCp gnb) ue.0) (asked j asked_for.message))
           (sym (peer ∙ ap (λ (g : Gnb). CuCp (other_gnb g)) own))
-          (put_of k.letters _ ue.0 j asked_for.was_put asked_for.is_request)
+          (put_of k.control_messages _ ue.0 j asked_for.was_put asked_for.is_request)
 
       no_reply : (y : Message Token) → Put run_talk (sent_of k) on (told j y) → ⊥
       no_reply y answer =
@@ -245,7 +245,7 @@ module _ (k : PlainControl) (tied : IsTied k) (none : NoneAskHandover k.letters)
         above e false false below h = absurd cc
 
         by : (o : Option (Kept (Message Token))) → kept_at r.transactions.callee (channel ue.0 from) ≡ o → verdict_after (newest_in (kept_at r.transactions.callee (channel ue.0 from))) i ≡ new
-            → newest_in (kept_at r.transactions.callee (channel ue.0 from)) ≡ Some j → reply_in (kept_at r.transactions.callee (channel ue.0 from)) ≡ None → WasAsked k.letters gnb ue j → overtakes m ≡ true
+            → newest_in (kept_at r.transactions.callee (channel ue.0 from)) ≡ Some j → reply_in (kept_at r.transactions.callee (channel ue.0 from)) ≡ None → WasAsked k.control_messages gnb ue j → overtakes m ≡ true
         by None e v newest_is none_kept asked_for = let wrong : None ≡ Some j = sym (ap newest_in e) ∙ newest_is in absurd cc
         by (Some kept) e v newest_is none_kept asked_for =
             let same : Some kept.instance ≡ Some j = sym (ap newest_in e) ∙ newest_is in
@@ -255,5 +255,5 @@ module _ (k : PlainControl) (tied : IsTied k) (none : NoneAskHandover k.letters)
             new_overtakes j peer asked_for (ap newest_number e ∙ its_instance) none_kept
             (subst (λ (n : ℕ). n < i) its_instance (above kept (nat_lt kept.instance i) (kept.instance == i) refl v'))
 
-    pub comes_fit : verdict r.transactions.callee (channel ue.0 from) i ≡ new → shares_interface (CuCp r.gnb) from ≡ true → ComesFit (WasAsked k.letters gnb) r from m ue i
+    pub comes_fit : verdict r.transactions.callee (channel ue.0 from) i ≡ new → shares_interface (CuCp r.gnb) from ≡ true → ComesFit (WasAsked k.control_messages gnb) r from m ue i
     comes_fit fresh shares = record { only_cancels = only_cancels fresh; of_other = of_other shares }

@@ -17,46 +17,46 @@ use Rattle.transaction_defs.specs.Callers.{Caller}
 use Rattle.unit_defs.specs.Ways.{Message, Pdu, Load, Put as UnitPut, gives, spent}
 use Rattle.unit_defs.specs.Messages.{channel, other_gnb}
 use Rattle.unit_defs.specs.Transactions.{Transactions}
-use Rattle.unit_defs.specs.CpRecords.{CpContext, CpTerminal, terminal_of, with_terminal}
-use Rattle.unit_defs.specs.Accessors.{place_in, place_of, up_has_context, du_epoch}
+use Rattle.unit_defs.specs.CuCpRecords.{CuCpContext, CuCpTerminal, terminal_of, with_terminal}
+use Rattle.unit_defs.specs.Accessors.{place_in, place_of, cu_up_has_context, du_epoch}
 use Rattle.unit_defs.specs.Core.{CoreRecord, core_acts}
 use Rattle.unit_defs.specs.Ue.{new_ue, placed}
-use Rattle.unit_defs.specs.Static.{up_placed, du_placed, cp_context, cp_placed, cp_set_up}
-use Rattle.run_defs.specs.Units.{cp_of, up_of, with_up, du_of, with_du, with_ue}
-use Rattle.run_defs.specs.States.{Lengths, letter_for, item_for, carried_for, confirmed_for, offer_for, tick_for, order_for, octets_from, octets_on, stepped, core_stepped}
+use Rattle.unit_defs.specs.Static.{cu_up_placed, du_placed, cu_cp_context, cu_cp_placed, cu_cp_set_up}
+use Rattle.run_defs.specs.Units.{cu_cp_of, cu_up_of, with_cu_up, du_of, with_du, with_ue}
+use Rattle.run_defs.specs.States.{Lengths, control_message_for, item_for, carried_for, confirmed_for, offer_for, tick_for, order_for, octets_from, octets_on, stepped, core_stepped}
 use Rattle.run_defs.specs.Written.{Written}
 use Rattle.run_defs.specs.Conditions.{is_held_by_units, units_placed, all_set_up}
 use Rattle.run_defs.specs.Runs.{Reading, PlainGiven, Plain, plain_way, plain_answer, core_done, plain_core}
 use Rattle.law_requests_act_once.specs.channel.Ends.{asking_at}
 use Rattle.law_requests_act_once.specs.channel.Exactly.{IfGives}
-use Rattle.law_requests_act_once.specs.channel_rows.Made.{IsUndated}
-use Rattle.proof_run_steps.specs.control.Control.{letters_in, with_letters, WasPut}
-use Rattle.law_requests_act_once.specs.run_channels.Tied.{PlainControl, PlainLetter, PlainCp, kept_by, CpsFit, IsPassed, at_first, by_answer, by_coming, by_placing, by_core}
+use Rattle.law_requests_act_once.specs.channel_rows.IsPlayed.{IsUndated}
+use Rattle.proof_run_steps.specs.control.Control.{control_messages_in, with_control_messages, WasPut}
+use Rattle.law_requests_act_once.specs.run_channels.Reached.{PlainControl, PlainControlMessage, PlainCp, kept_by, CpsFit, IsPassed, at_first, by_answer, by_coming, by_placing, by_core}
 use Rattle.law_requests_act_once.proofs.run_channels.Nodes.{Records, ue_same, placed_same}
-use Rattle.law_requests_act_once.proofs.run_channels.Ties.{IsUpOrDu, IsTied}
-use Rattle.law_requests_act_once.proofs.run_channels.Runs.{answer_ties, core_ties, came, was_placed}
-use Rattle.law_requests_act_once.specs.cp_deadlines.Deadlines.{preparation, FitsThere}
-use Rattle.law_requests_act_once.proofs.cp_deadlines.Midway.{same_ue, ue_told, terminal_here, terminal_apart}
-use Rattle.law_requests_act_once.specs.cp_offers.Offers.{offer_of, IsOpenAt}
+use Rattle.law_requests_act_once.proofs.run_channels.Reaches.{IsUpOrDu, IsReached}
+use Rattle.law_requests_act_once.proofs.run_channels.Runs.{answer_reaches, core_reaches, came, was_placed}
+use Rattle.law_requests_act_once.specs.cu_cp_deadlines.Deadlines.{preparation, FitsThere}
+use Rattle.law_requests_act_once.proofs.cu_cp_deadlines.Midway.{same_ue, ue_told, terminal_here, terminal_apart}
+use Rattle.law_requests_act_once.specs.cu_cp_offers.Offers.{offer_of, IsOpenAt}
 use Rattle.law_requests_act_once.specs.unit_setups.Setups.{GoesOn}
 use Rattle.law_requests_act_once.proofs.unit_setups.Growing.{goes_same}
 use Rattle.law_requests_act_once.proofs.unit_setups.Cores.{core_asks_none}
 use Rattle.law_requests_act_once.proofs.run_once.Asked.{none_after, units_after, WasAsked}
-use Rattle.law_requests_act_once.proofs.run_once.Joint.{CpFits, Joint, cps_fit, more_asked, first_joint}
+use Rattle.law_requests_act_once.proofs.run_once.Joint.{CuCpFits, Joint, cps_fit, more_asked, first_joint}
 use Rattle.law_requests_act_once.proofs.run_once.Steps.{cps_with, cps_same, ue_cps, Next, next_units}
 
 none_is_some : {X : Type 0} (x : X) → None ≡ Some x → ⊥
 none_is_some x is = absurd cc
 
 -- one terminal, and the others
-terminal_cases : (S : UeId → CpTerminal → Type 0) (r : PlainCp) (ue v : UeId) (t : CpTerminal) → S ue t → S v (terminal_of r v) → S v (terminal_of (with_terminal ue r t) v)
+terminal_cases : (S : UeId → CuCpTerminal → Type 0) (r : PlainCp) (ue v : UeId) (t : CuCpTerminal) → S ue t → S v (terminal_of r v) → S v (terminal_of (with_terminal ue r t) v)
 terminal_cases S r ue v t here apart = by (same_ue v ue) refl
   where
     by : (b : Bool) → same_ue v ue ≡ b → S v (terminal_of (with_terminal ue r t) v)
     by true e = subst (λ (w : UeId). S w (terminal_of (with_terminal ue r t) w)) (sym (ue_told v ue e)) (subst (S ue) (sym (terminal_here r ue t)) here)
     by false e = subst (S v) (sym (terminal_apart r ue v t e)) apart
 
-grown : (ls more : List PlainLetter) (x : PlainLetter) → Contains ls x → Contains (ls ++ more) x
+grown : (ls more : List PlainControlMessage) (x : PlainControlMessage) → Contains ls x → Contains (ls ++ more) x
 grown ls more x has = Contains-append_left ls more x has
 
 -- a unit keeps the same
@@ -67,24 +67,24 @@ module _ (reading : Reading) where
   -- ---- a unit's step
 
   answer_joint : (sn : Lengths) (k : PlainControl) (v : Records) (n : NodeId) (given : PlainGiven)
-      (outputs : List (UnitPut (Message Token) (Written (Load Pdu)) (Written Pdu))) → Joint k → WasPut k.letters n given
-      → plain_answer reading sn k.units n given ≡ stepped outputs v → Joint (with_letters (record k { units = v }) (letters_in n outputs))
+      (outputs : List (UnitPut (Message Token) (Written (Load Pdu)) (Written Pdu))) → Joint k → WasPut k.control_messages n given
+      → plain_answer reading sn k.units n given ≡ stepped outputs v → Joint (with_control_messages (record k { units = v }) (control_messages_in n outputs))
   answer_joint sn k v n given outputs j was is = record {
-    tied = tied;
-    cps = λ gnb. more_asked k.letters l.letters (grown k.letters (letters_in n outputs)) gnb (cp_of v gnb) (next.cps gnb);
-    units = units_after k l j.tied tied (grown k.letters (letters_in n outputs)) goes j.units j.none;
-    none = none_after k l j.tied tied (grown k.letters (letters_in n outputs)) goes j.units j.none;
+    reached = reached;
+    cps = λ gnb. more_asked k.control_messages l.control_messages (grown k.control_messages (control_messages_in n outputs)) gnb (cu_cp_of v gnb) (next.cps gnb);
+    units = units_after k l j.reached reached (grown k.control_messages (control_messages_in n outputs)) goes j.units j.none;
+    none = none_after k l j.reached reached (grown k.control_messages (control_messages_in n outputs)) goes j.units j.none;
     core = j.core;
   }
     where
       l : PlainControl
-      l = with_letters (record k { units = v }) (letters_in n outputs)
+      l = with_control_messages (record k { units = v }) (control_messages_in n outputs)
 
       next : Next reading k j v
       next = next_units reading k j sn v n given outputs was is
 
-      tied : IsTied l
-      tied = answer_ties reading k j.tied (cps_fit k j) sn v n given outputs was is
+      reached : IsReached l
+      reached = answer_reaches reading k j.reached (cps_fit k j) sn v n given outputs was is
 
       goes : (m : NodeId) → IsUpOrDu m → GoesOn plain_way (kept_by k m) (kept_by l m)
       goes (up_id g i) is = next.goes (up_id g i) is
@@ -94,21 +94,21 @@ module _ (reading : Reading) where
   -- ---- a step of the core
 
   core_joint : (sn : Lengths) (k : PlainControl) (q : CoreRecord (Message Token) Token) (given : PlainGiven)
-      (outputs : List (UnitPut (Message Token) (Written (Load Pdu)) (Written Pdu))) → Joint k → WasPut k.letters Core given
-      → plain_core reading sn k.core given ≡ core_stepped outputs q → Joint (with_letters (record k { core = q }) (letters_in Core outputs))
+      (outputs : List (UnitPut (Message Token) (Written (Load Pdu)) (Written Pdu))) → Joint k → WasPut k.control_messages Core given
+      → plain_core reading sn k.core given ≡ core_stepped outputs q → Joint (with_control_messages (record k { core = q }) (control_messages_in Core outputs))
   core_joint sn k q given outputs j was is = record {
-    tied = tied;
-    cps = λ gnb. more_asked k.letters l.letters (grown k.letters (letters_in Core outputs)) gnb (cp_of k.units gnb) (j.cps gnb);
-    units = units_after k l j.tied tied (grown k.letters (letters_in Core outputs)) goes j.units j.none;
-    none = none_after k l j.tied tied (grown k.letters (letters_in Core outputs)) goes j.units j.none;
+    reached = reached;
+    cps = λ gnb. more_asked k.control_messages l.control_messages (grown k.control_messages (control_messages_in Core outputs)) gnb (cu_cp_of k.units gnb) (j.cps gnb);
+    units = units_after k l j.reached reached (grown k.control_messages (control_messages_in Core outputs)) goes j.units j.none;
+    none = none_after k l j.reached reached (grown k.control_messages (control_messages_in Core outputs)) goes j.units j.none;
     core = λ c. ap (λ (r : Caller (Message Token)). at channel_cmp 0 r.last c) same ∙ j.core c;
   }
     where
       l : PlainControl
-      l = with_letters (record k { core = q }) (letters_in Core outputs)
+      l = with_control_messages (record k { core = q }) (control_messages_in Core outputs)
 
-      tied : IsTied l
-      tied = core_ties reading k j.tied sn q given outputs was is
+      reached : IsReached l
+      reached = core_reaches reading k j.reached sn q given outputs was is
 
       kept : (n : NodeId) → IsUpOrDu n → kept_by l n ≡ kept_by k n
       kept (up_id g i) e = refl
@@ -128,7 +128,7 @@ module _ (reading : Reading) where
       done (spent c) asks e = let same : k.core ≡ q = cc in own k.core same
 
       of_given : (g : PlainGiven) → plain_core reading sn k.core g ≡ core_stepped outputs q → q.transactions.caller ≡ k.core.transactions.caller
-      of_given (letter_for from m) e = done (core_acts plain_way k.core from m) (core_asks_none plain_way k.core from m) e
+      of_given (control_message_for from m) e = done (core_acts plain_way k.core from m) (core_asks_none plain_way k.core from m) e
       of_given (item_for teid item) e = let same : k.core ≡ q = cc in own k.core same
       of_given (carried_for item) e = let same : k.core ≡ q = cc in own k.core same
       of_given (confirmed_for item) e = let same : k.core ≡ q = cc in own k.core same
@@ -145,9 +145,9 @@ module _ (reading : Reading) where
 
   coming_joint : (k : PlainControl) (plan : Plan) → Joint k → Joint (record k { units = with_ue k.units plan.ue (new_ue plan) })
   coming_joint k plan j = record {
-    tied = tied;
-    cps = cps_same (CpFits k.letters) k.units l.units (ue_cps k.units plan.ue (new_ue plan)) j.cps;
-    units = units_after k l j.tied tied (λ x has. has) (same_asks k l (λ m is. ue_same k plan.ue (new_ue plan) m)) j.units j.none;
+    reached = reached;
+    cps = cps_same (CuCpFits k.control_messages) k.units l.units (ue_cps k.units plan.ue (new_ue plan)) j.cps;
+    units = units_after k l j.reached reached (λ x has. has) (same_asks k l (λ m is. ue_same k plan.ue (new_ue plan) m)) j.units j.none;
     none = j.none;
     core = j.core;
   }
@@ -155,8 +155,8 @@ module _ (reading : Reading) where
       l : PlainControl
       l = record k { units = with_ue k.units plan.ue (new_ue plan) }
 
-      tied : IsTied l
-      tied = came reading k j.tied plan
+      reached : IsReached l
+      reached = came reading k j.reached plan
 
   module _ (k : PlainControl) (plan : Plan) (n3 : List Tunnel) (free : is_held_by_units plan k.units ≡ false) (j : Joint k) where
     -- the terminal has no context yet
@@ -164,19 +164,19 @@ module _ (reading : Reading) where
     held false b c h = refl
     held true b c h = absurd cc
 
-    no_context : (o : Option CpContext) → (terminal_of (cp_of k.units plan.gnb) plan.ue).context ≡ o → o ≡ None
+    no_context : (o : Option CuCpContext) → (terminal_of (cu_cp_of k.units plan.gnb) plan.ue).context ≡ o → o ≡ None
     no_context None e = refl
     no_context (Some c) e =
-        absurd (true≢false (sym (ap (λ (x : Option CpContext). is_some (place_in x)) e)
-        ∙ held (is_some (place_of (cp_of k.units plan.gnb) plan.ue)) (up_has_context (up_of k.units plan.gnb plan.up) plan.ue)
+        absurd (true≢false (sym (ap (λ (x : Option CuCpContext). is_some (place_in x)) e)
+        ∙ held (is_some (place_of (cu_cp_of k.units plan.gnb) plan.ue)) (cu_up_has_context (cu_up_of k.units plan.gnb plan.up) plan.ue)
         (is_some (du_epoch (du_of k.units plan.gnb plan.du) plan.ue)) free))
 
     -- and then it is served
-    abbrev served : CpTerminal
-    served = record { context = Some (cp_context plan); taken = None }
+    abbrev served : CuCpTerminal
+    served = record { context = Some (cu_cp_context plan); taken = None }
 
-    served_fits : CpFits k.letters plan.gnb (cp_placed (cp_of k.units plan.gnb) plan)
-    unfolding cp_placed
+    served_fits : CuCpFits k.control_messages plan.gnb (cu_cp_placed (cu_cp_of k.units plan.gnb) plan)
+    unfolding cu_cp_placed
     served_fits = record {
       own = was.own;
       deadlines = record {
@@ -186,34 +186,34 @@ module _ (reading : Reading) where
         unawaited = was.deadlines.unawaited;
         sorted = was.deadlines.sorted;
       };
-      offers = λ ue. terminal_cases (λ v t. (i : ℕ) → offer_of t.context ≡ Some i → IsOpenAt r.gnb r.transactions.callee v i × WasAsked k.letters plan.gnb v i)
+      offers = λ ue. terminal_cases (λ v t. (i : ℕ) → offer_of t.context ≡ Some i → IsOpenAt r.gnb r.transactions.callee v i × WasAsked k.control_messages plan.gnb v i)
           r plan.ue ue served (λ i is. absurd (none_is_some i is)) (was.offers ue);
     }
       where
         r : PlainCp
-        r = cp_of k.units plan.gnb
+        r = cu_cp_of k.units plan.gnb
 
-        was : CpFits k.letters plan.gnb (cp_of k.units plan.gnb)
+        was : CuCpFits k.control_messages plan.gnb (cu_cp_of k.units plan.gnb)
         was = j.cps plan.gnb
 
-        none : (terminal_of (cp_of k.units plan.gnb) plan.ue).context ≡ None
-        none = no_context (terminal_of (cp_of k.units plan.gnb) plan.ue).context refl
+        none : (terminal_of (cu_cp_of k.units plan.gnb) plan.ue).context ≡ None
+        none = no_context (terminal_of (cu_cp_of k.units plan.gnb) plan.ue).context refl
 
-        undated : IsUndated (asking_at (cp_of k.units plan.gnb).transactions (channel plan.ue.0 (CuCp (other_gnb (cp_of k.units plan.gnb).gnb))))
-        undated = subst (λ (o : Option CpContext). FitsThere (CuCp (other_gnb (cp_of k.units plan.gnb).gnb))
-            (asking_at (cp_of k.units plan.gnb).transactions (channel plan.ue.0 (CuCp (other_gnb (cp_of k.units plan.gnb).gnb)))) (preparation o)) none
+        undated : IsUndated (asking_at (cu_cp_of k.units plan.gnb).transactions (channel plan.ue.0 (CuCp (other_gnb (cu_cp_of k.units plan.gnb).gnb))))
+        undated = subst (λ (o : Option CuCpContext). FitsThere (CuCp (other_gnb (cu_cp_of k.units plan.gnb).gnb))
+            (asking_at (cu_cp_of k.units plan.gnb).transactions (channel plan.ue.0 (CuCp (other_gnb (cu_cp_of k.units plan.gnb).gnb)))) (preparation o)) none
             ((j.cps plan.gnb).deadlines.there plan.ue)
 
-    set_up_fits : (h : Gnb) (r : PlainCp) → CpFits k.letters h r → CpFits k.letters h (cp_set_up r)
+    set_up_fits : (h : Gnb) (r : PlainCp) → CuCpFits k.control_messages h r → CuCpFits k.control_messages h (cu_cp_set_up r)
     set_up_fits h r f = record {
       own = f.own;
       deadlines = record { elsewhere = f.deadlines.elsewhere; there = f.deadlines.there; unawaited = f.deadlines.unawaited; sorted = f.deadlines.sorted };
       offers = f.offers;
     }
 
-    all_fit : (w : Records) → ((h : Gnb) → CpFits k.letters h (cp_of w h)) → (h : Gnb) → CpFits k.letters h (cp_of (all_set_up w) h)
-    all_fit w each A = set_up_fits A (cp_of w A) (each A)
-    all_fit w each B = set_up_fits B (cp_of w B) (each B)
+    all_fit : (w : Records) → ((h : Gnb) → CuCpFits k.control_messages h (cu_cp_of w h)) → (h : Gnb) → CuCpFits k.control_messages h (cu_cp_of (all_set_up w) h)
+    all_fit w each A = set_up_fits A (cu_cp_of w A) (each A)
+    all_fit w each B = set_up_fits B (cu_cp_of w B) (each B)
 
     abbrev there : PlainControl
     there = record k {
@@ -228,25 +228,25 @@ module _ (reading : Reading) where
 
     abbrev before : Records
     before =
-        with_du (with_up (with_ue k.units plan.ue (placed (new_ue plan))) plan.gnb plan.up (up_placed (up_of k.units plan.gnb plan.up) plan (du_of k.units plan.gnb plan.du).next_teid))
-        plan.gnb plan.du (du_placed (du_of k.units plan.gnb plan.du) plan ((up_of k.units plan.gnb plan.up).next_teid + 1))
+        with_du (with_cu_up (with_ue k.units plan.ue (placed (new_ue plan))) plan.gnb plan.up (cu_up_placed (cu_up_of k.units plan.gnb plan.up) plan (du_of k.units plan.gnb plan.du).next_teid))
+        plan.gnb plan.du (du_placed (du_of k.units plan.gnb plan.du) plan ((cu_up_of k.units plan.gnb plan.up).next_teid + 1))
 
-    before_fits : (h : Gnb) → CpFits k.letters h (cp_of before h)
+    before_fits : (h : Gnb) → CuCpFits k.control_messages h (cu_cp_of before h)
     before_fits A = j.cps A
     before_fits B = j.cps B
 
     placing_joint : Joint there
     placing_joint = record {
-      tied = tied;
+      reached = reached;
       cps = all_fit (units_placed plan k.units)
-          (cps_with (CpFits k.letters) before plan.gnb (cp_placed (cp_of k.units plan.gnb) plan) served_fits before_fits);
-      units = units_after k there j.tied tied (λ x has. has) (same_asks k there kept_there) j.units j.none;
+          (cps_with (CuCpFits k.control_messages) before plan.gnb (cu_cp_placed (cu_cp_of k.units plan.gnb) plan) served_fits before_fits);
+      units = units_after k there j.reached reached (λ x has. has) (same_asks k there kept_there) j.units j.none;
       none = j.none;
       core = j.core;
     }
       where
-        tied : IsTied there
-        tied = was_placed reading k j.tied plan n3
+        reached : IsReached there
+        reached = was_placed reading k j.reached plan n3
 
   -- ---- all that steps lead to
 

@@ -10,13 +10,13 @@ use Rattle.tables.specs.Tables.{IsSorted}
 use Rattle.message_types.specs.declared.rrc.Token.{Token}
 use Rattle.unit_defs.specs.Ways.{Message, Pdu, Load, Input, Put as UnitPut, gives, spent}
 use Rattle.unit_defs.specs.Transactions.{Transactions}
-use Rattle.unit_defs.specs.UpRecords.{CuUp}
+use Rattle.unit_defs.specs.CuUpRecords.{CuUp}
 use Rattle.unit_defs.specs.CuUp.{cu_up_acts}
 use Rattle.unit_defs.specs.Du.{Du, du_acts}
 use Rattle.unit_defs.specs.Ue.{UeNode, ue_acts}
 use Rattle.unit_defs.specs.CuCp.{cu_cp_acts}
-use Rattle.run_defs.specs.Units.{cp_of, with_cp, up_of, with_up, du_of, with_du, ue_of, with_ue}
-use Rattle.run_defs.specs.States.{Lengths, letter_for, item_for, carried_for, confirmed_for, offer_for, tick_for, order_for, octets_from, octets_on, stepped, step_spent}
+use Rattle.run_defs.specs.Units.{cu_cp_of, with_cu_cp, cu_up_of, with_cu_up, du_of, with_du, ue_of, with_ue}
+use Rattle.run_defs.specs.States.{Lengths, control_message_for, item_for, carried_for, confirmed_for, offer_for, tick_for, order_for, octets_from, octets_on, stepped, step_spent}
 use Rattle.run_defs.specs.Written.{Written, PlainStepped, WrittenStepped, written_step}
 use Rattle.run_defs.specs.Runs.{Reading, PlainGiven, Plain, plain_way, input_of, stepped_with, ue_stepped, acts_on, plain_by, plain_answer}
 use Rattle.law_requests_act_once.specs.channel.Ends.{same_node, asking_at}
@@ -25,39 +25,39 @@ use Rattle.law_requests_act_once.proofs.channel.Keys.{node_told, node_apart}
 use Rattle.law_requests_act_once.proofs.channel.Kept.{good_of}
 use Rattle.law_requests_act_once.proofs.channel_rows.Undated.{sorted_of}
 use Rattle.proof_run_steps.specs.control.Control.{WasPut}
-use Rattle.law_requests_act_once.specs.run_channels.Tied.{PlainControl, PlainCp, run_talk, kept_by}
+use Rattle.law_requests_act_once.specs.run_channels.Reached.{PlainControl, PlainCp, run_talk, kept_by}
 use Rattle.law_requests_act_once.proofs.run_channels.Nodes.{Records, up_here, up_apart, du_here, du_apart, cp_apart, ue_same}
-use Rattle.law_requests_act_once.proofs.run_channels.Ties.{IsUpOrDu}
-use Rattle.law_requests_act_once.specs.cp_deadlines.Deadlines.{DeadlinesFit}
-use Rattle.law_requests_act_once.proofs.cp_deadlines.Acts as deadlines
-use Rattle.law_requests_act_once.specs.cp_offers.Offers.{OffersStand, InputFits}
-use Rattle.law_requests_act_once.proofs.cp_offers.Acts as offers
+use Rattle.law_requests_act_once.proofs.run_channels.Reaches.{IsUpOrDu}
+use Rattle.law_requests_act_once.specs.cu_cp_deadlines.Deadlines.{DeadlinesFit}
+use Rattle.law_requests_act_once.proofs.cu_cp_deadlines.Acts as deadlines
+use Rattle.law_requests_act_once.specs.cu_cp_offers.Offers.{OffersStand, InputFits}
+use Rattle.law_requests_act_once.proofs.cu_cp_offers.Acts as offers
 use Rattle.law_requests_act_once.specs.unit_setups.Setups.{GoesOn}
 use Rattle.law_requests_act_once.proofs.unit_setups.Growing.{goes_same}
 use Rattle.law_requests_act_once.proofs.unit_setups.Dus.{du_asks}
 use Rattle.law_requests_act_once.proofs.unit_setups.CuUps.{cu_up_asks}
 use Rattle.law_requests_act_once.proofs.run_once.Asked.{WasAsked, comes_fit}
-use Rattle.law_requests_act_once.proofs.run_once.Joint.{CpFits, Joint}
+use Rattle.law_requests_act_once.proofs.run_once.Joint.{CuCpFits, Joint}
 
 -- one CU-CP's record
-pub cps_with : (Q : Gnb → PlainCp → Type 0) (u : Records) (gnb : Gnb) (r : PlainCp) → Q gnb r → ((h : Gnb) → Q h (cp_of u h)) → (h : Gnb) → Q h (cp_of (with_cp u gnb r) h)
+pub cps_with : (Q : Gnb → PlainCp → Type 0) (u : Records) (gnb : Gnb) (r : PlainCp) → Q gnb r → ((h : Gnb) → Q h (cu_cp_of u h)) → (h : Gnb) → Q h (cu_cp_of (with_cu_cp u gnb r) h)
 cps_with Q u A r here all A = here
 cps_with Q u A r here all B = all B
 cps_with Q u B r here all A = all A
 cps_with Q u B r here all B = here
 
-pub cps_same : (Q : Gnb → PlainCp → Type 0) (u v : Records) → ((h : Gnb) → cp_of v h ≡ cp_of u h) → ((h : Gnb) → Q h (cp_of u h)) → (h : Gnb) → Q h (cp_of v h)
+pub cps_same : (Q : Gnb → PlainCp → Type 0) (u v : Records) → ((h : Gnb) → cu_cp_of v h ≡ cu_cp_of u h) → ((h : Gnb) → Q h (cu_cp_of u h)) → (h : Gnb) → Q h (cu_cp_of v h)
 cps_same Q u v same all h = subst (Q h) (sym (same h)) (all h)
 
-up_cps : (u : Records) (gnb : Gnb) (number : ℕ) (r : CuUp (Message Token) Token) (h : Gnb) → cp_of (with_up u gnb number r) h ≡ cp_of u h
+up_cps : (u : Records) (gnb : Gnb) (number : ℕ) (r : CuUp (Message Token) Token) (h : Gnb) → cu_cp_of (with_cu_up u gnb number r) h ≡ cu_cp_of u h
 up_cps u gnb number r A = refl
 up_cps u gnb number r B = refl
 
-du_cps : (u : Records) (gnb : Gnb) (number : ℕ) (r : Du (Message Token) Token) (h : Gnb) → cp_of (with_du u gnb number r) h ≡ cp_of u h
+du_cps : (u : Records) (gnb : Gnb) (number : ℕ) (r : Du (Message Token) Token) (h : Gnb) → cu_cp_of (with_du u gnb number r) h ≡ cu_cp_of u h
 du_cps u gnb number r A = refl
 du_cps u gnb number r B = refl
 
-pub ue_cps : (u : Records) (ue : UeId) (x : UeNode) (h : Gnb) → cp_of (with_ue u ue x) h ≡ cp_of u h
+pub ue_cps : (u : Records) (ue : UeId) (x : UeNode) (h : Gnb) → cu_cp_of (with_ue u ue x) h ≡ cu_cp_of u h
 ue_cps u ue x A = refl
 ue_cps u ue x B = refl
 
@@ -67,11 +67,11 @@ unit_not_cp m gnb is = node_apart m (CuCp gnb) (λ e. subst IsUpOrDu e is)
 
 module _ (reading : Reading) (k : PlainControl) (j : Joint k) where
   abbrev pub Fits : Gnb → PlainCp → Type 0
-  Fits gnb r = CpFits k.letters gnb r
+  Fits gnb r = CuCpFits k.control_messages gnb r
 
   -- what units are then: CU-CPs, where no message more was put, and what is asked
   pub record Next (v : Records) : Type 0 where
-    pub cps : (gnb : Gnb) → Fits gnb (cp_of v gnb)
+    pub cps : (gnb : Gnb) → Fits gnb (cu_cp_of v gnb)
     pub goes : (m : NodeId) → IsUpOrDu m → GoesOn plain_way (kept_by k m) (kept_by (record k { units = v }) m)
 
   same_goes : (v : Records) (m : NodeId) → kept_by (record k { units = v }) m ≡ kept_by k m → GoesOn plain_way (kept_by k m) (kept_by (record k { units = v }) m)
@@ -85,25 +85,25 @@ module _ (reading : Reading) (k : PlainControl) (j : Joint k) where
   Stepped (step_spent counter) = Unit {0}
 
   sorted : (n : NodeId) → IsSorted channel_cmp (kept_by k n).caller.opened
-  sorted n = sorted_of run_talk (good_of run_talk j.tied.orders j.tied.comes.may) n (kept_by k n) (j.tied.comes.nodes n)
+  sorted n = sorted_of run_talk (good_of run_talk j.reached.orders j.reached.comes.may) n (kept_by k n) (j.reached.comes.nodes n)
 
   by_cp : (gnb : Gnb) (a : Plain PlainCp) → IfGives (λ q. DeadlinesFit q × (q.gnb ≡ gnb)) a
-      → IfGives (λ q. OffersStand (WasAsked k.letters gnb) q × (q.gnb ≡ (cp_of k.units gnb).gnb)) a → Stepped (stepped_with reading (with_cp k.units gnb) a)
+      → IfGives (λ q. OffersStand (WasAsked k.control_messages gnb) q × (q.gnb ≡ (cu_cp_of k.units gnb).gnb)) a → Stepped (stepped_with reading (with_cu_cp k.units gnb) a)
   by_cp gnb (gives os q) dates offers = record {
     cps = cps_with Fits k.units gnb q (record { own = dates.1; deadlines = dates.0; offers = offers.0 }) j.cps;
-    goes = λ m is. same_goes (with_cp k.units gnb q) m (cp_apart k gnb q m (unit_not_cp m gnb is));
+    goes = λ m is. same_goes (with_cu_cp k.units gnb q) m (cp_apart k gnb q m (unit_not_cp m gnb is));
   }
   by_cp gnb (spent counter) dates offers = tt
 
   by_up : (gnb : Gnb) (number : ℕ) (a : Plain (CuUp (Message Token) Token))
-      → IfGives (λ q. GoesOn plain_way (kept_by k (up_id gnb number)) q.transactions) a → Stepped (stepped_with reading (with_up k.units gnb number) a)
+      → IfGives (λ q. GoesOn plain_way (kept_by k (up_id gnb number)) q.transactions) a → Stepped (stepped_with reading (with_cu_up k.units gnb number) a)
   by_up gnb number (gives os q) goes = record {
-    cps = cps_same Fits k.units (with_up k.units gnb number q) (up_cps k.units gnb number q) j.cps;
+    cps = cps_same Fits k.units (with_cu_up k.units gnb number q) (up_cps k.units gnb number q) j.cps;
     goes = λ m is. by m (same_node m (up_id gnb number)) refl;
   }
     where
       v : Records
-      v = with_up k.units gnb number q
+      v = with_cu_up k.units gnb number q
 
       by : (m : NodeId) (b : Bool) → same_node m (up_id gnb number) ≡ b → GoesOn plain_way (kept_by k m) (kept_by (record k { units = v }) m)
       by m true e =
@@ -138,12 +138,12 @@ module _ (reading : Reading) (k : PlainControl) (j : Joint k) where
 
   -- what a CU-CP is given
   abbrev GivenIf : NodeId → Option (Input Token Pdu) → Type 0
-  GivenIf (CuCp gnb) (Some input) = InputFits (WasAsked k.letters gnb) (cp_of k.units gnb) input
+  GivenIf (CuCp gnb) (Some input) = InputFits (WasAsked k.control_messages gnb) (cu_cp_of k.units gnb) input
   GivenIf n o = Unit {0}
 
-  given_fits : (gnb : Gnb) (given : PlainGiven) → WasPut k.letters (CuCp gnb) given → GivenIf (CuCp gnb) (input_of reading given)
-  given_fits gnb (letter_for from m) was = λ ue i kind fresh shares.
-      comes_fit k j.tied j.none j.core gnb (cp_of k.units gnb) refl (j.cps gnb).own (j.cps gnb).offers from m was.0 was.1 ue i kind fresh shares
+  given_fits : (gnb : Gnb) (given : PlainGiven) → WasPut k.control_messages (CuCp gnb) given → GivenIf (CuCp gnb) (input_of reading given)
+  given_fits gnb (control_message_for from m) was = λ ue i kind fresh shares.
+      comes_fit k j.reached j.none j.core gnb (cu_cp_of k.units gnb) refl (j.cps gnb).own (j.cps gnb).offers from m was.0 was.1 ue i kind fresh shares
   given_fits gnb (item_for teid item) was = tt
   given_fits gnb (carried_for item) was = tt
   given_fits gnb (confirmed_for item) was = tt
@@ -153,7 +153,7 @@ module _ (reading : Reading) (k : PlainControl) (j : Joint k) where
   given_fits gnb (octets_from from octets) was = tt
   given_fits gnb (octets_on teid octets) was = tt
 
-  given_to : (n : NodeId) (given : PlainGiven) → WasPut k.letters n given → GivenIf n (input_of reading given)
+  given_to : (n : NodeId) (given : PlainGiven) → WasPut k.control_messages n given → GivenIf n (input_of reading given)
   given_to (CuCp gnb) given was = given_fits gnb given was
   given_to (up_id gnb number) given was = tt
   given_to (du_id gnb number) given was = tt
@@ -162,12 +162,12 @@ module _ (reading : Reading) (k : PlainControl) (j : Joint k) where
 
   acted : (n : NodeId) (input : Input Token Pdu) → GivenIf n (Some input) → Stepped (acts_on reading k.units n input)
   acted (CuCp gnb) input fits =
-      let r : PlainCp = cp_of k.units gnb in
+      let r : PlainCp = cu_cp_of k.units gnb in
       by_cp gnb (cu_cp_acts plain_way r input) (deadlines.cu_cp_keeps plain_way gnb r input ((j.cps gnb).deadlines, (j.cps gnb).own))
-      (offers.cu_cp_keeps plain_way gnb (WasAsked k.letters gnb) r input ((j.cps gnb).offers, (j.cps gnb).own) fits)
+      (offers.cu_cp_keeps plain_way gnb (WasAsked k.control_messages gnb) r input ((j.cps gnb).offers, (j.cps gnb).own) fits)
   acted (up_id gnb number) input fits =
-      by_up gnb number (cu_up_acts plain_way (up_of k.units gnb number) input)
-      (cu_up_asks run_talk Core (up_of k.units gnb number) (sorted (up_id gnb number)) input)
+      by_up gnb number (cu_up_acts plain_way (cu_up_of k.units gnb number) input)
+      (cu_up_asks run_talk Core (cu_up_of k.units gnb number) (sorted (up_id gnb number)) input)
   acted (du_id gnb number) input fits =
       by_du gnb number (du_acts plain_way (du_of k.units gnb number) input) (du_asks run_talk Core (du_of k.units gnb number) (sorted (du_id gnb number)) input)
   acted (Ue ue) input fits = there (ue_of k.units (record { 0 = ue }))
@@ -190,6 +190,6 @@ module _ (reading : Reading) (k : PlainControl) (j : Joint k) where
   written sn (step_spent counter) p = tt
 
   pub next_units : (sn : Lengths) (v : Records) (n : NodeId) (given : PlainGiven) (outputs : List (UnitPut (Message Token) (Written (Load Pdu)) (Written Pdu)))
-      → WasPut k.letters n given → plain_answer reading sn k.units n given ≡ stepped outputs v → Next v
+      → WasPut k.control_messages n given → plain_answer reading sn k.units n given ≡ stepped outputs v → Next v
   next_units sn v n given outputs was is =
       subst WrittenNext is (written sn (plain_by reading k.units n given (input_of reading given)) (answered n given (input_of reading given) (given_to n given was)))

@@ -21,8 +21,8 @@ use Rattle.message_types.specs.declared.e1.E1Message.TheVariants as e1s
 use Rattle.unit_defs.specs.Ways.{Message, e1, Input, control_input, packet_input, radio_input, confirm_input, offer_input, tick_input, order_input, Way, Answer, gives, spent, ◌then◌, nothing, drops}
 use Rattle.unit_defs.specs.Messages.{channel, is_same_gnb}
 use Rattle.unit_defs.specs.Transactions.{Kind, request, reply, transfer, kind_of, no_instance, Waiting, Transactions, Asked, is_empty, waits_at, with_waiting, begun_as, begin_request, ask, advance_with, advance, answered_again, request_by, on_request, on_reply}
-use Rattle.unit_defs.specs.UpRecords.{CuUp}
-use Rattle.unit_defs.specs.CuUp.{with_transactions, up_node, asked, start, set_up, control_by, ue_in, is_own_cp, control_came, take, poll, tick, cu_up_acts}
+use Rattle.unit_defs.specs.CuUpRecords.{CuUp}
+use Rattle.unit_defs.specs.CuUp.{with_transactions, up_node, asked, start, set_up, control_by, ue_in, is_own_cu_cp, control_received, take, poll, tick, cu_up_acts}
 use Rattle.law_requests_act_once.specs.channel.Replies.{Talk}
 use Rattle.law_requests_act_once.proofs.channel_rows.Requests.{Leaves, Replies}
 use Rattle.law_requests_act_once.proofs.channel_rows.CuUps.{kept, asked_replies, take_leaves, poll_leaves}
@@ -164,7 +164,7 @@ module _ {M C P : Type 0} (way : Way M C P) where
       → Replies talk n (kept talk n) t c m i a → After t.callee a
   replies_after n talk t c m i (gives os q) (inl h) = same_more t.callee q.transactions.callee (ap (λ (x : Transactions M C). x.callee) h.1)
   replies_after n talk t c m i (gives os q) (inr one) =
-      subst (λ (x : Callee M). More t.callee x) (sym (ap (λ (x : Transactions M C). x.callee) one.kept)) (keep_more t.callee c (talk.way.spell one.message))
+      subst (λ (x : Callee M). More t.callee x) (sym (ap (λ (x : Transactions M C). x.callee) one.kept)) (keep_more t.callee c (talk.way.encode one.message))
   replies_after n talk t c m i (spent k) h = tt
 
   asked_after : (t : Transactions M C) (a : Answer M P (Asked M C)) (f : Asked M C → Record) → ((x : Asked M C) → (f x).transactions ≡ x.transactions)
@@ -248,9 +248,9 @@ module _ {M C P : Type 0} (way : Way M C P) where
       (record { message = e1 (e1s.E1SetupRequest no_instance (node_text (up_node r))); deadline = None; awaited = false })))
 
   acts_after : (n : NodeId) (r : Record) (input : Input C P) → After r.transactions.callee (cu_up_acts way r input)
-  unfolding cu_up_acts control_came tick any_talk
+  unfolding cu_up_acts control_received tick any_talk
   acts_after n r (control_input from m) =
-      if_after r.transactions.callee (is_own_cp way r.gnb from) (control_by way (channel (ue_in way (kind_of m)) from) m r (kind_of m)) (drops Unexpected r)
+      if_after r.transactions.callee (is_own_cu_cp way r.gnb from) (control_by way (channel (ue_in way (kind_of m)) from) m r (kind_of m)) (drops Unexpected r)
       (kind_after n r from m (kind_of m) refl) (λ c i was. was)
   acts_after n r (packet_input teid item) = leaves_after n any_talk r.transactions (take way teid item r) (take_leaves any_talk n teid item r)
   acts_after n r tick_input = λ c i was. was
@@ -275,17 +275,17 @@ module _ {M C P : Type 0} (way : Way M C P) where
   taken_of r from m (spent k) h = tt
 
   came_taken : (r : Record) (from : NodeId) (m : Message C) → from ≡ CuCp r.gnb → (ue i : ℕ) → kind_of m ≡ request ue i
-      → TakenAfter (channel ue from) i (control_came way from m r)
-  unfolding control_came
+      → TakenAfter (channel ue from) i (control_received way from m r)
+  unfolding control_received
   came_taken r from m is ue i kind =
       subst (λ (b : Bool). TakenAfter (channel ue from) i (if b then control_by way (channel (ue_in way (kind_of m)) from) m r (kind_of m) else drops Unexpected r))
-      (sym (ap (λ (n : NodeId). is_own_cp way r.gnb n) is ∙ own r.gnb))
+      (sym (ap (λ (n : NodeId). is_own_cu_cp way r.gnb n) is ∙ own r.gnb))
       (subst (λ (k : Kind). TakenAfter (channel ue from) i (control_by way (channel (ue_in way k) from) m r k)) (sym kind)
       (request_after (up_node r) r from m ue i kind).1)
 
   pub cu_up_taken : (r : Record) (input : Input C P) → IsTaken r input (cu_up_acts way r input)
   unfolding cu_up_acts
-  cu_up_taken r (control_input from m) = taken_of r from m (control_came way from m r) (came_taken r from m)
+  cu_up_taken r (control_input from m) = taken_of r from m (control_received way from m r) (came_taken r from m)
   cu_up_taken r (packet_input teid item) = tt
   cu_up_taken r (radio_input ue bearer dir pdu content) = tt
   cu_up_taken r (confirm_input ue bearer dir pdu content) = tt

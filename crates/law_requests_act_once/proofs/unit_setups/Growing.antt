@@ -17,8 +17,8 @@ use Rattle.law_requests_act_once.specs.channel.Exactly.{IfGives}
 use Rattle.law_requests_act_once.proofs.channel.Keys.{channel_told}
 use Rattle.law_requests_act_once.proofs.channel.Projections.{Asks, closed_asks}
 use Rattle.law_requests_act_once.proofs.channel.Ticks.{aged_in, opened_after_tick}
-use Rattle.law_requests_act_once.proofs.cp_deadlines.Changes.{begun_on, Becomes, IsNext, ask_becomes, advance_becomes}
-use Rattle.law_requests_act_once.proofs.cp_deadlines.Says.{all_push}
+use Rattle.law_requests_act_once.proofs.cu_cp_deadlines.Changes.{begun_on, Becomes, IsNext, ask_becomes, advance_becomes}
+use Rattle.law_requests_act_once.proofs.cu_cp_deadlines.Says.{all_push}
 use Rattle.law_requests_act_once.specs.unit_setups.Setups.{IsSetup, SpellsSetup, AsksForSetup, Grows, GoesOn}
 
 -- an instance makes no other request of it

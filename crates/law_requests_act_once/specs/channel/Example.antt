@@ -17,7 +17,7 @@ use Rattle.law_requests_act_once.specs.channel.Moves.{Move, asks, asks_at_once, 
 -- messages are what they say
 abbrev pub plain_talk : Talk (Message Token) Token Pdu
 plain_talk = record {
-  way = record { spell = λ m. m; wrap = λ t. t; unwrap = λ t. Some t; pass = λ t. rrc t; write = λ sn pdu. pdu; number = λ sn pdu. None };
+  way = record { encode = λ m. m; wrap = λ t. t; unwrap = λ t. Some t; pass = λ t. rrc t; write = λ sn pdu. pdu; number = λ sn pdu. None };
   kind = kind_of;
   answers = answers;
   overtakes = overtakes;

@@ -9,7 +9,7 @@ use Rattle.transaction_defs.specs.Callers.{Opened, opened_at, is_awaited, close,
 use Rattle.transaction_defs.specs.Callees.{new, newest, verdict, taken, kept_reply}
 use Rattle.unit_defs.specs.Ways.{Message, Output, control, Answer, gives, spent, ◌then◌, nothing, puts}
 use Rattle.unit_defs.specs.Transactions.{request, reply, transfer, with_instance, Waiting, Transactions, no_transactions, ask, ask_at_once, advance, with_waiting, replied, replied_late, answered_again}
-use Rattle.unit_defs.specs.CpRecords.{forgotten}
+use Rattle.unit_defs.specs.CuCpRecords.{forgotten}
 use Rattle.law_requests_act_once.specs.channel.Replies.{Talk}
 use Rattle.law_requests_act_once.specs.channel.Ends.{Route, at_initiator, at_responder, same_node, asking_at, answering_at, Act, Ends, Sent, asked, told, Put, Once}
 
@@ -126,10 +126,10 @@ module _ {M C P : Type 0} (talk : Talk M C P) where
 
   -- with each instance it is a request of that instance
   abbrev pub IsRequest : ℕ → Waiting C → Type 0
-  IsRequest ue w = (i : ℕ) → talk.kind (talk.way.spell (with_instance i w.message)) ≡ request ue i
+  IsRequest ue w = (i : ℕ) → talk.kind (talk.way.encode (with_instance i w.message)) ≡ request ue i
 
   abbrev pub IsCancel : Waiting C → Type 0
-  IsCancel w = (i : ℕ) → talk.overtakes (talk.way.spell (with_instance i w.message)) ≡ true
+  IsCancel w = (i : ℕ) → talk.overtakes (talk.way.encode (with_instance i w.message)) ≡ true
 
   -- the newest request that the node took has this instance and no reply, and the message is a reply to it
   pub record MayReply (net : Net M C) (n : NodeId) (c : Channel) (i : ℕ) (y : M) : Type 0 where
@@ -149,8 +149,8 @@ module _ {M C P : Type 0} (talk : Talk M C P) where
   May net n ages = Unit {0}
   May net n (repeats c message) = (i : ℕ) × Put talk net.bag (asked_by n c) (asked i message)
   May net n (takes c i message) = (verdict (net.nodes n).callee c i ≡ new) × Put talk net.bag (answered_by n c) (asked i message)
-  May net n (replies c message) = (i : ℕ) × MayReply net n c i (talk.way.spell message)
-  May net n (replies_late c i message) = MayReply net n c i (talk.way.spell message)
+  May net n (replies c message) = (i : ℕ) × MayReply net n c i (talk.way.encode message)
+  May net n (replies_late c i message) = MayReply net n c i (talk.way.encode message)
   May net n (replies_again c) = Unit {0}
   May net n (transfers to ue message) = (u : ℕ) × (talk.kind message ≡ transfer u)
   May net n (forgets ue) = Unit {0}

@@ -6,24 +6,24 @@ use Rattle.gnb_types.specs.declared.names.UeId.{UeId}
 use Rattle.unit_defs.specs.Ways.{Answer, gives, spent}
 use Rattle.unit_defs.specs.Messages.{channel}
 use Rattle.unit_defs.specs.Transactions.{transfer}
-use Rattle.unit_defs.specs.CpRecords.{CuCpRecord, waiting_of, Say, asks as says_ask, cancels as says_cancel, replies as says_reply, replies_late as says_late, sends, fails, ignores, refuses, forgets as says_forget, Row, row, row_spent}
+use Rattle.unit_defs.specs.CuCpRecords.{CuCpRecord, waiting_of, Action, asks as says_ask, cancels as says_cancel, replies as says_reply, replies_late as says_late, sends, fails, ignores, refuses, forgets as says_forget, Row, row, row_spent}
 use Rattle.law_requests_act_once.specs.channel.Replies.{Talk}
 use Rattle.law_requests_act_once.specs.channel.Moves.{Move, asks, asks_at_once, replies, replies_late, transfers, forgets, Net, sent_by, IsRequest, IsCancel, MayAll}
-use Rattle.law_requests_act_once.specs.channel_rows.Made.{orders_of, Plays}
+use Rattle.law_requests_act_once.specs.channel_rows.IsPlayed.{orders_of, Plays}
 
 module _ {M C P : Type 0} (talk : Talk M C P) where
-  abbrev pub moves_of : UeId → Say C → List (Move M C)
+  abbrev pub moves_of : UeId → Action C → List (Move M C)
   moves_of ue (says_ask to m deadline awaited) = asks (channel ue.0 to) (waiting_of talk.way m deadline awaited) ∷ []
   moves_of ue (says_cancel to m) = asks_at_once (channel ue.0 to) (waiting_of talk.way m None false) ∷ []
   moves_of ue (says_reply to m) = replies (channel ue.0 to) m ∷ []
   moves_of ue (says_late to instance m) = replies_late (channel ue.0 to) instance m ∷ []
-  moves_of ue (sends to m) = transfers to ue.0 (talk.way.spell m) ∷ []
+  moves_of ue (sends to m) = transfers to ue.0 (talk.way.encode m) ∷ []
   moves_of ue (fails cause) = []
   moves_of ue (ignores reason) = []
   moves_of ue (refuses reason) = []
   moves_of ue says_forget = forgets ue ∷ []
 
-  abbrev pub moves_of_all : UeId → List (Say C) → List (Move M C)
+  abbrev pub moves_of_all : UeId → List (Action C) → List (Move M C)
   moves_of_all ue [] = []
   moves_of_all ue (s ∷ ss) = moves_of ue s ++ moves_of_all ue ss
 
@@ -41,18 +41,18 @@ module _ {M C P : Type 0} (talk : Talk M C P) where
 
   -- ---- what a row says without a reply: requests, cancels, and messages that are neither request nor reply
 
-  abbrev pub SpeaksOne : UeId → Say C → Type 0
+  abbrev pub SpeaksOne : UeId → Action C → Type 0
   SpeaksOne ue (says_ask to m deadline awaited) = IsRequest talk ue.0 (waiting_of talk.way m deadline awaited)
   SpeaksOne ue (says_cancel to m) = IsRequest talk ue.0 (waiting_of talk.way m None false) × IsCancel talk (waiting_of talk.way m None false)
   SpeaksOne ue (says_reply to m) = ⊥
   SpeaksOne ue (says_late to instance m) = ⊥
-  SpeaksOne ue (sends to m) = (u : ℕ) × (talk.kind (talk.way.spell m) ≡ transfer u)
+  SpeaksOne ue (sends to m) = (u : ℕ) × (talk.kind (talk.way.encode m) ≡ transfer u)
   SpeaksOne ue (fails cause) = Unit {0}
   SpeaksOne ue (ignores reason) = Unit {0}
   SpeaksOne ue (refuses reason) = Unit {0}
   SpeaksOne ue says_forget = Unit {0}
 
-  abbrev pub Speaks : UeId → List (Say C) → Type 0
+  abbrev pub Speaks : UeId → List (Action C) → Type 0
   Speaks ue says = AllByRecursion (SpeaksOne ue) says
 
   abbrev pub RowSpeaks : UeId → Row C → Type 0

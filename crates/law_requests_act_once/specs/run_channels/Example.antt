@@ -18,7 +18,7 @@ use Rattle.run_defs.specs.Runs.{Reading, plain_world}
 use Rattle.proof_run_steps.specs.steps.Reached.{reached}
 use Rattle.law_requests_act_once.specs.channel.Ends.{asking_at, answering_at}
 use Rattle.proof_run_steps.specs.control.Control.{control_of}
-use Rattle.law_requests_act_once.specs.run_channels.Tied.{kept_by}
+use Rattle.law_requests_act_once.specs.run_channels.Reached.{kept_by}
 
 abbrev pub owner : UeId
 owner = record { 0 = 1 }

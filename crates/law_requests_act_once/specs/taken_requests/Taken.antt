@@ -6,7 +6,7 @@ use Rattle.transaction_defs.specs.Callees.{newest}
 use Rattle.unit_defs.specs.Ways.{Input, control_input, Answer, gives, spent}
 use Rattle.unit_defs.specs.Messages.{channel}
 use Rattle.unit_defs.specs.Transactions.{request, kind_of, Transactions}
-use Rattle.unit_defs.specs.UpRecords.{CuUp}
+use Rattle.unit_defs.specs.CuUpRecords.{CuUp}
 
 abbrev pub NotAbove : Option ℕ → ℕ → Type 0
 NotAbove None instance = ⊥

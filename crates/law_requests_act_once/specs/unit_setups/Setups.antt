@@ -22,7 +22,7 @@ HasOneMore {M = M} a b = (b.last ≡ a.last) ⊎ ((b.last ≡ a.last + 1) × (o 
 module _ {M C P : Type 0} (way : Way M C P) where
   -- what stands for a request for setup
   abbrev pub SpellsSetup : M → Type 0
-  SpellsSetup x = (m : Message C) × IsSetup m × (x ≡ way.spell m)
+  SpellsSetup x = (m : Message C) × IsSetup m × (x ≡ way.encode m)
 
   abbrev pub AsksForSetup : Asking M C → Type 0
   AsksForSetup a =

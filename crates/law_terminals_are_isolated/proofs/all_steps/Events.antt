@@ -16,21 +16,21 @@ use Rattle.message_types.specs.declared.rrc.Token.{Token}
 use Rattle.scenario_text.specs.declared.event.Event.{Event}
 use Rattle.scenario_text.specs.declared.event.Event.TheVariants as events
 use Rattle.unit_defs.specs.Ways.{Message, Load, Pdu, held, no, teids_spent}
-use Rattle.unit_defs.specs.Static.{up_has_room, up_has_teids, du_has_teids}
+use Rattle.unit_defs.specs.Static.{cu_up_has_room, cu_up_has_teids, du_has_teids}
 use Rattle.transport_defs.specs.declared.Item.{Item}
-use Rattle.transport_defs.specs.declared.Letter.{Letter}
-use Rattle.transport_defs.specs.Links.{letter, is_in}
+use Rattle.transport_defs.specs.declared.ControlMessage.{ControlMessage}
+use Rattle.transport_defs.specs.Links.{control_message, is_in}
 use Rattle.run_defs.specs.Lines.{was_refused}
-use Rattle.run_defs.specs.Units.{Units, starting_nodes, up_of, du_of}
+use Rattle.run_defs.specs.Units.{Units, starting_nodes, cu_up_of, du_of}
 use Rattle.run_defs.specs.Written.{Written, WrittenStepped, WrittenCoreStepped}
 use Rattle.run_defs.specs.States.{stepped, step_spent, core_stepped, order_for, octets_from, octets_on, spent_counter, stops, goes_on, as_step, refused, sn_of, was_attached}
-use Rattle.run_defs.specs.Steps.{letters_spent, too_many_letters, Done, is_done, is_held, is_refused, carried_out, done_with, does, ordered_by, step}
+use Rattle.run_defs.specs.Steps.{control_messages_spent, too_many_control_messages, Done, is_done, is_held, is_refused, carried_out, done_with, does, ordered_by, step}
 use Rattle.run_defs.specs.Conditions.{is_held_by_units, is_interface}
 use Rattle.run_defs.specs.Events.{static, order_each, start, lose_message_on, lose_message, lose_items, lose_item_on, lose_item, core_injected, inject_to, inject_message, inject_item}
 use Rattle.run_defs.specs.Runs.{Reading, plain_world, happens, tunnel_end}
 use Rattle.proof_run_steps.specs.steps.Causes.{by_order, by_octets, by_octets_on, node_of, given_of, count_of, first_of, Stands}
-use Rattle.proof_run_steps.specs.steps.Made.{IsDone, Made, stays, ends, then_made, sets_up, starts, acts, holds_item, holds_pdu, offers, core_takes, core_reads, lands, loses_letter, loses_item, remarks}
-use Rattle.law_terminals_are_isolated.specs.run_slices.Units.{given_ue}
+use Rattle.proof_run_steps.specs.steps.IsOutcome.{IsDone, IsOutcome, stays, ends, then_made, sets_up, starts, acts, holds_item, holds_pdu, offers, core_takes, core_reads, lands, loses_control_message, loses_item, remarks}
+use Rattle.law_terminals_are_isolated.specs.run_projections.Units.{given_ue}
 use Rattle.law_terminals_are_isolated.proofs.own_steps.Steps.{Sound}
 use Rattle.law_terminals_are_isolated.specs.own_events.Events.{RunState, RunOutcome, AllFor}
 use Rattle.law_terminals_are_isolated.specs.named_events.Named.{event_ue}
@@ -45,11 +45,11 @@ holds_not false e = absurd cc
 module _ (reading : Reading) (event : Event) (ue : UeId) where
   -- it is made of steps that are no business of the terminal
   abbrev Apart : RunState → RunOutcome → Type 0
-  Apart s e = (made : Made (plain_world reading) event s e) × NoneFor reading event ue s e made
+  Apart s e = (made : IsOutcome (plain_world reading) event s e) × NoneFor reading event ue s e made
 
   -- ---- steps of another terminal
 
-  all_none : (who : UeId) → who ≢ ue → (s : RunState) (e : RunOutcome) (made : Made (plain_world reading) event s e)
+  all_none : (who : UeId) → who ≢ ue → (s : RunState) (e : RunOutcome) (made : IsOutcome (plain_world reading) event s e)
       → AllFor reading event who s e made → NoneFor reading event ue s e made
   all_none who apart s e (stays x) all = tt
   all_none who apart s e (ends x why) all = tt
@@ -65,7 +65,7 @@ module _ (reading : Reading) (event : Event) (ue : UeId) where
   all_none who apart s e (core_takes x number l outputs core found at is few) all = λ same. apart (sym all ∙ same)
   all_none who apart s e (core_reads x from octets outputs core is) all = tt
   all_none who apart s e (lands x number l to found at) all = tt
-  all_none who apart s e (loses_letter x number) all = tt
+  all_none who apart s e (loses_control_message x number) all = tt
   all_none who apart s e (loses_item x end item rest found) all = λ same. apart (sym all ∙ same)
   all_none who apart s e (remarks x lines plain) all = tt
 
@@ -90,18 +90,18 @@ module _ (reading : Reading) (event : Event) (ue : UeId) where
       (its : IsNotFor ue cause (given_ue reading s.units (node_of cause) (given_of cause))) where
     if_few : (outputs : RunPuts) (units : Units (Message Token) Token)
         → (plain_world reading).answer (sn_of s) s.units (node_of cause) (given_of cause) ≡ stepped outputs units
-        → IsDone outputs → (b : Bool) → too_many_letters (plain_world reading) outputs s ≡ b
-        → DoneApart s (if b then is_done (stops [] (spent_counter letters_spent))
+        → IsDone outputs → (b : Bool) → too_many_control_messages (plain_world reading) outputs s ≡ b
+        → DoneApart s (if b then is_done (stops [] (spent_counter control_messages_spent))
         else is_done (as_step (Some (node_of cause))
         (carried_out (plain_world reading) (node_of cause) (count_of cause) (first_of (plain_world reading) cause) outputs units s)))
-    if_few outputs units is fine true many = (ends s (spent_counter letters_spent), tt)
+    if_few outputs units is fine true many = (ends s (spent_counter control_messages_spent), tt)
     if_few outputs units is fine false few = (acts s cause outputs units at is fine few, its)
 
     done_apart : (answer : WrittenStepped) → (plain_world reading).answer (sn_of s) s.units (node_of cause) (given_of cause) ≡ answer
         → DoneApart s (done_with (plain_world reading) (node_of cause) (count_of cause) (first_of (plain_world reading) cause) s answer)
     done_apart (stepped (held reason ∷ []) units) is = tt
     done_apart (stepped (no reason ∷ []) units) is = tt
-    done_apart (stepped outputs units) is = if_few outputs units is tt (too_many_letters (plain_world reading) outputs s) refl
+    done_apart (stepped outputs units) is = if_few outputs units is tt (too_many_control_messages (plain_world reading) outputs s) refl
     done_apart (step_spent counter) is = (ends s (spent_counter counter), tt)
 
     does_apart : DoneApart s (does (plain_world reading) (node_of cause) (given_of cause) (count_of cause) (first_of (plain_world reading) cause) s)
@@ -119,8 +119,8 @@ module _ (reading : Reading) (event : Event) (ue : UeId) where
   unfolding static
   static_apart s plan is apart =
       choose_apart s (was_attached s plan.ue || is_held_by_units plan s.units) _ _ (λ h. refused_apart s reasons.Attached)
-      (λ free. choose_apart s (not (up_has_room (up_of s.units plan.gnb plan.up) plan)) _ _ (λ h. refused_apart s reasons.Quota)
-      (λ room. choose_apart s (up_has_teids (up_of s.units plan.gnb plan.up) plan && du_has_teids (du_of s.units plan.gnb plan.du) plan) _ _
+      (λ free. choose_apart s (not (cu_up_has_room (cu_up_of s.units plan.gnb plan.up) plan)) _ _ (λ h. refused_apart s reasons.Quota)
+      (λ room. choose_apart s (cu_up_has_teids (cu_up_of s.units plan.gnb plan.up) plan && du_has_teids (du_of s.units plan.gnb plan.du) plan) _ _
       (λ teids. (sets_up s plan is free (holds_not _ room) teids, apart)) (λ h. (ends s (spent_counter teids_spent), tt))))
 
   -- the start of a node is that of no terminal, which has number 0
@@ -157,14 +157,14 @@ module _ (reading : Reading) (event : Event) (ue : UeId) where
 
   -- ---- what is lost
 
-  message_apart : (s : RunState) (number : ℕ) (o : Option (Letter (Message Token))) → Apart s (lose_message_on (plain_world reading) number s o)
+  message_apart : (s : RunState) (number : ℕ) (o : Option (ControlMessage (Message Token))) → Apart s (lose_message_on (plain_world reading) number s o)
   message_apart s number None = refused_apart s reasons.NoSuch
   message_apart s number (Some l) =
-      choose_apart s (is_in number s.bag.flight) _ _ (λ h. (loses_letter s number, tt)) (λ h. refused_apart s reasons.Empty)
+      choose_apart s (is_in number s.bag.flight) _ _ (λ h. (loses_control_message s number, tt)) (λ h. refused_apart s reasons.Empty)
 
   lose_message_apart : (s : RunState) (number : ℕ) → Apart s (lose_message (plain_world reading) number s)
   unfolding lose_message
-  lose_message_apart s number = message_apart s number (letter s.bag number)
+  lose_message_apart s number = message_apart s number (control_message s.bag number)
 
   items_apart : (s : RunState) (end : TunnelEnd) (items : List (Item (Written (Load Pdu)))) → find tunnel_cmp s.tunnels end ≡ Some items
       → OldestIsNotTheirs ue (find tunnel_cmp s.tunnels end) → Apart s (lose_items (plain_world reading) end s items)

@@ -1,5 +1,5 @@
--- What is for no terminal, and no tick: octets that a unit drops, or the core's own, which does nothing of it. So the slices of all that
--- don't make the step stay.
+-- What is for no terminal, and no tick: octets that a unit drops, or the core's own, which does nothing of it. So the projections of all
+-- that don't make the step stay.
 use Rattle.std.proofs.Common.{◌≡◌, ℕ, ◌+◌, Bool, true, false, ◌&&◌, List, ◌∷◌, Option, Some, None, refl, sym, ap, ◌∙◌, subst, arith}
 use Rattle.std.specs.Prelude.{◌≢◌, is_some, if◌then◌else◌}
 use Rattle.std.specs.List.{AllByRecursion}
@@ -14,27 +14,27 @@ use Rattle.tables.specs.Tables.{find}
 use Rattle.message_types.specs.declared.rrc.Token.{Token}
 use Rattle.scenario_text.specs.declared.event.Event.{Event}
 use Rattle.unit_defs.specs.Ways.{Message, Pdu, Load, Put, Taken, packet_input}
-use Rattle.unit_defs.specs.UpRecords.{UpTunnel}
+use Rattle.unit_defs.specs.CuUpRecords.{CuUpTunnel}
 use Rattle.unit_defs.specs.Du.{DuTunnel}
 use Rattle.unit_defs.specs.Ue.{UeNode, is_connected}
 use Rattle.transport_defs.specs.declared.Item.{Item}
 use Rattle.run_defs.specs.Lines.{RunLine}
-use Rattle.run_defs.specs.Units.{Units, up_of, du_of, ue_of, epoch_at}
+use Rattle.run_defs.specs.Units.{Units, cu_up_of, du_of, ue_of, epoch_at}
 use Rattle.run_defs.specs.Written.{Written, WrittenStepped}
 use Rattle.run_defs.specs.States.{stepped, step_spent, sn_of, goes, carried_for, confirmed_for}
 use Rattle.run_defs.specs.Steps.{carried_out}
 use Rattle.run_defs.specs.Conditions.{same_epoch, ready_home, ready_at, ready_of, receiver_by, sender_by}
 use Rattle.run_defs.specs.Runs.{Reading, plain_world}
-use Rattle.proof_run_steps.specs.steps.Causes.{Cause, by_order, by_tick, by_octets, by_octets_on, by_attach, by_release, by_offer, by_item, by_air, by_ack, by_letter, node_of, given_of, count_of, first_of, Stands}
+use Rattle.proof_run_steps.specs.steps.Causes.{Cause, by_order, by_tick, by_octets, by_octets_on, by_attach, by_release, by_offer, by_item, by_air, by_ack, by_control_message, node_of, given_of, count_of, first_of, Stands}
 use Rattle.proof_run_steps.proofs.steps.Frames.{units_by}
 use Rattle.law_tunnels_are_owned.specs.open_tunnels.Open.{stands}
-use Rattle.law_terminals_are_isolated.specs.slices.Slices.{core_slice}
-use Rattle.law_terminals_are_isolated.specs.up_slice.CuUps.{up_slice, tunnel_ue as up_tunnel_ue}
-use Rattle.law_terminals_are_isolated.specs.du_slice.Dus.{tunnel_ue as du_tunnel_ue}
-use Rattle.law_terminals_are_isolated.specs.run_slices.Units.{units_slice, given_in, given_ue}
+use Rattle.law_terminals_are_isolated.specs.projections.Projections.{core_projection}
+use Rattle.law_terminals_are_isolated.specs.cu_up_projection.CuUps.{cu_up_projection, tunnel_ue as up_tunnel_ue}
+use Rattle.law_terminals_are_isolated.specs.du_projection.Dus.{tunnel_ue as du_tunnel_ue}
+use Rattle.law_terminals_are_isolated.specs.run_projections.Units.{units_projection, given_in, given_ue}
 use Rattle.law_tunnels_are_owned.specs.run_tunnels.Own.{IsOwnAt}
-use Rattle.law_terminals_are_isolated.specs.others_stay.Others.{IsNodeFor, IsStepFor, IsOutputFor}
-use Rattle.law_terminals_are_isolated.proofs.others_stay.Steps.{others_stay}
+use Rattle.law_terminals_are_isolated.specs.frame_of_steps.Others.{IsNodeFor, IsStepFor, IsOutputFor}
+use Rattle.law_terminals_are_isolated.proofs.frame_of_steps.Steps.{others_stay}
 use Rattle.law_terminals_are_isolated.specs.own_steps.Own.{IsActed, LeavesOthers}
 use Rattle.law_terminals_are_isolated.proofs.own_steps.Steps.{RunState, Sound}
 use Rattle.law_terminals_are_isolated.proofs.own_steps.Leaves.{same_core, same_units}
@@ -91,9 +91,9 @@ module _ (reading : Reading) (t : RunState) (sound : Sound t) (who : UeId) where
 
   pub item_never : (node : NodeId) (teid : ℕ) (key : EntityKey) (load : Load Pdu) (x : Taken Pdu) → IsOwnAt t.units node teid key load
       → stands t node teid ≡ true → given_in t.units node (Some (packet_input teid x)) ≡ None → ⊥
-  item_never (up_id gnb number) teid key load x own there is = by (find nat_cmp (up_of t.units gnb number).tunnels teid) refl is
+  item_never (up_id gnb number) teid key load x own there is = by (find nat_cmp (cu_up_of t.units gnb number).tunnels teid) refl is
     where
-      by : (o : Option UpTunnel) → find nat_cmp (up_of t.units gnb number).tunnels teid ≡ o → up_tunnel_ue o ≡ None → ⊥
+      by : (o : Option CuUpTunnel) → find nat_cmp (cu_up_of t.units gnb number).tunnels teid ≡ o → up_tunnel_ue o ≡ None → ⊥
       by None e none = closed (sym there ∙ sound.standing.0 gnb number teid ∙ ap is_some e)
         where
           closed : true ≡ false → ⊥
@@ -159,11 +159,11 @@ module _ (reading : Reading) (t : RunState) (sound : Sound t) (who : UeId) where
       absurd (item_never end.node end.teid item.key item.content.says _ (sound.tunnels end (item ∷ rest) at).0 (ap is_some at) none)
   silent event (by_air key home item) at other none node = absurd (air_never home key item at.0 key.dir none)
   silent event (by_ack key home item rest) at other none node = absurd (ack_never home key item at.0 key.dir none)
-  silent event (by_letter number l Core) at other none node = ((tt, tt), (tt, refl))
-  silent event (by_letter number l (CuCp gnb)) at other none node = absurd cc
-  silent event (by_letter number l (up_id gnb n)) at other none node = absurd cc
-  silent event (by_letter number l (du_id gnb n)) at other none node = absurd cc
-  silent event (by_letter number l (Ue n)) at other none node = absurd cc
+  silent event (by_control_message number l Core) at other none node = ((tt, tt), (tt, refl))
+  silent event (by_control_message number l (CuCp gnb)) at other none node = absurd cc
+  silent event (by_control_message number l (up_id gnb n)) at other none node = absurd cc
+  silent event (by_control_message number l (du_id gnb n)) at other none node = absurd cc
+  silent event (by_control_message number l (Ue n)) at other none node = absurd cc
 
   pub none_leaves : (event : Event) (cause : RunCause) (outputs : RunPuts) (units : Units (Message Token) Token) (s : RunState)
       (lines : List (RunLine (Message Token))) → IsActed (plain_world reading) event t cause outputs units → IsNoTick cause
@@ -176,8 +176,8 @@ module _ (reading : Reading) (t : RunState) (sound : Sound t) (who : UeId) where
       let says : Silent cause (stepped outputs units) = subst (Silent cause) acted.answers quiet.1 in
       let after : s.units ≡ t.units = same_units world event cause outputs units t s lines acted goes_so ∙ says.1 in
       record {
-        units = λ v apart. ap (units_slice v) after;
-        tunnels = λ gnb number v apart. ap (λ (u : Units (Message Token) Token). up_slice v (up_of u gnb number)) after;
-        core = λ v apart. ap (core_slice v) (same_core world event cause outputs units t s lines acted goes_so);
+        units = λ v apart. ap (units_projection v) after;
+        tunnels = λ gnb number v apart. ap (λ (u : Units (Message Token) Token). cu_up_projection v (cu_up_of u gnb number)) after;
+        core = λ v apart. ap (core_projection v) (same_core world event cause outputs units t s lines acted goes_so);
         beside = others_stay world who cause outputs units t s lines quiet.0 says.0 goes_so;
       }

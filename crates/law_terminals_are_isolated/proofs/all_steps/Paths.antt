@@ -9,7 +9,7 @@ use Rattle.run_defs.specs.Units.{Units, new_units}
 use Rattle.run_defs.specs.Written.{Written}
 use Rattle.run_defs.specs.States.{goes, stops, RunStep, new_state, radio_of}
 use Rattle.run_defs.specs.Runs.{Reading, plain_world, happens}
-use Rattle.proof_run_steps.specs.steps.Made.{Made}
+use Rattle.proof_run_steps.specs.steps.IsOutcome.{IsOutcome}
 use Rattle.proof_run_steps.specs.steps.Reached.{reached_by, reached}
 use Rattle.proof_run_steps.proofs.steps.Frames.{made_relates}
 use Rattle.proof_run_steps.proofs.steps.Runs.{made_of_steps}
@@ -29,7 +29,7 @@ use Rattle.proof_unit_steps.specs.tunnel_names.Names.{by_book}
 use Rattle.proof_unit_steps.specs.tunnels.Units.{NoneIsFree}
 use Rattle.law_tunnels_are_owned.specs.tunnel_book.Book.{book_of}
 use Rattle.law_tunnels_are_owned.proofs.tunnel_book.Books.{holds_own}
-use Rattle.law_terminals_are_isolated.proofs.step_slices.Runs.{themselves, keep}
+use Rattle.law_terminals_are_isolated.proofs.step_projections.Runs.{themselves, keep}
 use Rattle.law_tunnels_are_owned.proofs.run_tunnels.Held.{Later}
 use Rattle.law_tunnels_are_owned.proofs.run_tunnels.Runs.{Named, kept, first, own_there}
 use Rattle.law_terminals_are_isolated.proofs.own_steps.Steps.{RunState, Sound}
@@ -41,7 +41,7 @@ abbrev RunUnits : Type 0
 RunUnits = Units (Message Token) Token
 
 module _ (reading : Reading) where
-  pub step_gives : (event : Event) (t u : RunState) (told : List (RunStep (Message Token))) → Made (plain_world reading) event t (goes told u)
+  pub step_gives : (event : Event) (t u : RunState) (told : List (RunStep (Message Token))) → IsOutcome (plain_world reading) event t (goes told u)
       → GiveOnce t.units u.units
   step_gives event t u told p =
       made_relates (plain_world reading) GiveOnce give_same give_then (answer_gives reading) (λ v plan. give_same v)
@@ -91,7 +91,7 @@ module _ (reading : Reading) where
 
   -- ---- each state that a run reaches, or passes within an event, is such
 
-  goes_further : (events : List Event) (event : Event) (s t : RunState) (e : RunOutcome) → Made (plain_world reading) event s e → AfterSteps reading s
+  goes_further : (events : List Event) (event : Event) (s t : RunState) (e : RunOutcome) → IsOutcome (plain_world reading) event s e → AfterSteps reading s
       → ((x : RunState) → AfterSteps reading x → reached (plain_world reading) events x ≡ Some t → AfterSteps reading t)
       → reached_by (plain_world reading) (reached (plain_world reading) events) e ≡ Some t → AfterSteps reading t
   goes_further events event s t (goes told x) made p more is = more x (one_more event s x told p made) is

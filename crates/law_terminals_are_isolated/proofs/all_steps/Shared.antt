@@ -1,21 +1,21 @@
--- Slices that two states have in common: what leaves the others leaves each of them.
+-- Projections that two states have in common: what leaves the others leaves each of them.
 use Rattle.std.proofs.Common.{refl, sym, ◌∙◌}
 use Rattle.std.specs.Prelude.{◌≢◌}
 use Rattle.gnb_types.specs.declared.names.UeId.{UeId}
 use Rattle.run_defs.specs.States.{State}
 use Rattle.law_terminals_are_isolated.specs.own_steps.Own.{LeavesOthers}
-use Rattle.law_terminals_are_isolated.specs.all_steps.Slices.{ShareSlice}
+use Rattle.law_terminals_are_isolated.specs.all_steps.Projections.{ShareProjection}
 
 module _ {M C L P : Type 0} (ue : UeId) where
   abbrev Share : State M C L P → State M C L P → Type 0
-  Share s t = ShareSlice ue s t
+  Share s t = ShareProjection ue s t
 
   pub share_same : (s : State M C L P) → Share s s
   share_same s = record {
     units = refl;
     tunnels = λ gnb number. refl;
     core = refl;
-    letters = refl;
+    control_messages = refl;
     items = λ end key is. refl;
     radios = λ key is. refl;
     books = λ key is. refl;
@@ -28,7 +28,7 @@ module _ {M C L P : Type 0} (ue : UeId) where
     units = sym h.units;
     tunnels = λ gnb number. sym (h.tunnels gnb number);
     core = sym h.core;
-    letters = sym h.letters;
+    control_messages = sym h.control_messages;
     items = λ end key is. sym (h.items end key is);
     radios = λ key is. sym (h.radios key is);
     books = λ key is. sym (h.books key is);
@@ -41,7 +41,7 @@ module _ {M C L P : Type 0} (ue : UeId) where
     units = p.units ∙ q.units;
     tunnels = λ gnb number. p.tunnels gnb number ∙ q.tunnels gnb number;
     core = p.core ∙ q.core;
-    letters = p.letters ∙ q.letters;
+    control_messages = p.control_messages ∙ q.control_messages;
     items = λ end key is. p.items end key is ∙ q.items end key is;
     radios = λ key is. p.radios key is ∙ q.radios key is;
     books = λ key is. p.books key is ∙ q.books key is;
@@ -54,7 +54,7 @@ module _ {M C L P : Type 0} (ue : UeId) where
     units = sym (h.units ue apart);
     tunnels = λ gnb number. sym (h.tunnels gnb number ue apart);
     core = sym (h.core ue apart);
-    letters = sym (h.beside.letters ue apart);
+    control_messages = sym (h.beside.control_messages ue apart);
     items = λ end key is. sym (h.beside.tunnels end key (λ e. apart (sym is ∙ e)));
     radios = λ key is. sym (h.beside.radios key (λ e. apart (sym is ∙ e)));
     books = λ key is. sym (h.beside.books key (λ e. apart (sym is ∙ e)));

@@ -27,24 +27,24 @@ use Rattle.unit_defs.specs.Core.{CorePath}
 use Rattle.unit_defs.specs.Ue.{UeNode, is_connected, is_accessing, may_return}
 use Rattle.unit_defs.specs.Accessors.{ue_home}
 use Rattle.transport_defs.specs.declared.Item.{Item}
-use Rattle.transport_defs.specs.declared.Letter.{Letter}
-use Rattle.transport_defs.specs.Links.{letter, nth}
+use Rattle.transport_defs.specs.declared.ControlMessage.{ControlMessage}
+use Rattle.transport_defs.specs.Links.{control_message, nth}
 use Rattle.run_defs.specs.Lines.{was_refused, is_quiet, is_busy}
 use Rattle.run_defs.specs.Units.{Units, ue_of, is_source, epoch_at}
 use Rattle.run_defs.specs.Written.{Written, WrittenStepped, WrittenCoreStepped}
-use Rattle.law_terminals_are_isolated.specs.slices.Slices.{message_ue}
-use Rattle.run_defs.specs.States.{item_for, carried_for, confirmed_for, stepped, step_spent, core_stepped, letter_for, offer_for, order_for, spent_counter, stops, goes_on, as_step, refused, prints, sn_of, entity, is_attached, was_attached, has_bearer, radio_of}
-use Rattle.run_defs.specs.Steps.{letters_spent, too_many_letters, Done, is_done, is_held, is_refused, carried_out, done_with, does, ordered_by, step}
-use Rattle.run_defs.specs.Conditions.{same_epoch, ready_home, ready_at, ready_of, receiver_by, sender_by, takes_letters, serving_gnb, serving_place, goal_of, rests, has_started, state_at, is_same_place, is_other_up, is_busy_with}
+use Rattle.law_terminals_are_isolated.specs.projections.Projections.{message_ue}
+use Rattle.run_defs.specs.States.{item_for, carried_for, confirmed_for, stepped, step_spent, core_stepped, control_message_for, offer_for, order_for, spent_counter, stops, goes_on, as_step, refused, prints, sn_of, entity, is_attached, was_attached, has_bearer, radio_of}
+use Rattle.run_defs.specs.Steps.{control_messages_spent, too_many_control_messages, Done, is_done, is_held, is_refused, carried_out, done_with, does, ordered_by, step}
+use Rattle.run_defs.specs.Conditions.{same_epoch, ready_home, ready_at, ready_of, receiver_by, sender_by, takes_control_messages, serving_gnb, serving_place, goal_of, rests, has_started, state_at, is_same_place, is_other_up, is_busy_with}
 use Rattle.run_defs.specs.Events.{with_terminal, attach, offered, offer_on_path, offer_by, offer, get_done, got_by, get_on, get, carry_done, carried_by, air_item, air_at, air, confirm_done, ack_items, ack_at, ack, landed_as, core_put, give_to, give_on, give, poll_at, poll, fail, arrive, come_back, handover_to, handover, cancel, leaves, release, ask}
 use Rattle.run_defs.specs.Runs.{Reading, plain_world, happens, tunnel_end}
-use Rattle.proof_run_steps.specs.steps.Causes.{Cause, by_order, by_attach, by_release, by_offer, by_item, by_air, by_ack, by_letter, node_of, given_of, count_of, first_of, IsNoAttach, Stands}
-use Rattle.proof_run_steps.specs.steps.Made.{IsDone, Made, stays, ends, acts, holds_item, holds_pdu, offers, core_takes, lands, remarks}
+use Rattle.proof_run_steps.specs.steps.Causes.{Cause, by_order, by_attach, by_release, by_offer, by_item, by_air, by_ack, by_control_message, node_of, given_of, count_of, first_of, IsNoAttach, Stands}
+use Rattle.proof_run_steps.specs.steps.IsOutcome.{IsDone, IsOutcome, stays, ends, acts, holds_item, holds_pdu, offers, core_takes, lands, remarks}
 use Rattle.proof_run_steps.proofs.facts.Steps.{nth_has}
-use Rattle.law_terminals_are_isolated.specs.run_slices.Units.{given_ue}
+use Rattle.law_terminals_are_isolated.specs.run_projections.Units.{given_ue}
 use Rattle.law_terminals_are_isolated.proofs.own_steps.Steps.{Sound}
 use Rattle.law_terminals_are_isolated.specs.own_events.Events.{RunState, RunOutcome, AllFor}
-use Rattle.law_terminals_are_isolated.specs.named_events.Named.{teid_ue, taker_ue, letter_ue, planned_ue, event_ue}
+use Rattle.law_terminals_are_isolated.specs.named_events.Named.{teid_ue, taker_ue, control_message_ue, planned_ue, event_ue}
 
 some_ue : (a b : UeId) → Some a ≡ Some b → a ≡ b
 some_ue a b e = cc
@@ -84,7 +84,7 @@ module _ (reading : Reading) (event : Event) (ue : UeId) (s : RunState) where
 
   -- it is made of steps that are all the terminal's
   abbrev For : RunOutcome → Type 0
-  For e = (made : Made (plain_world reading) event s e) × AllFor reading event ue s e made
+  For e = (made : IsOutcome (plain_world reading) event s e) × AllFor reading event ue s e made
 
   refused_for : (reason : RefuseReason) → For (refused reason s)
   refused_for reason = (remarks s (was_refused reason ∷ []) (tt, tt), tt)
@@ -101,18 +101,18 @@ module _ (reading : Reading) (event : Event) (ue : UeId) (s : RunState) where
   module _ (cause : RunCause) (at : Stands event s cause) (its : given_ue reading s.units (node_of cause) (given_of cause) ≡ Some ue) where
     if_few : (outputs : List (Put (Message Token) (Written (Load Pdu)) (Written Pdu))) (units : Units (Message Token) Token)
         → (plain_world reading).answer (sn_of s) s.units (node_of cause) (given_of cause) ≡ stepped outputs units
-        → IsDone outputs → (b : Bool) → too_many_letters (plain_world reading) outputs s ≡ b
-        → DoneFor (if b then is_done (stops [] (spent_counter letters_spent))
+        → IsDone outputs → (b : Bool) → too_many_control_messages (plain_world reading) outputs s ≡ b
+        → DoneFor (if b then is_done (stops [] (spent_counter control_messages_spent))
         else is_done (as_step (Some (node_of cause))
         (carried_out (plain_world reading) (node_of cause) (count_of cause) (first_of (plain_world reading) cause) outputs units s)))
-    if_few outputs units is fine true many = (ends s (spent_counter letters_spent), tt)
+    if_few outputs units is fine true many = (ends s (spent_counter control_messages_spent), tt)
     if_few outputs units is fine false few = (acts s cause outputs units at is fine few, its)
 
     done_for : (answer : WrittenStepped) → (plain_world reading).answer (sn_of s) s.units (node_of cause) (given_of cause) ≡ answer
         → DoneFor (done_with (plain_world reading) (node_of cause) (count_of cause) (first_of (plain_world reading) cause) s answer)
     done_for (stepped (held reason ∷ []) units) is = tt
     done_for (stepped (no reason ∷ []) units) is = tt
-    done_for (stepped outputs units) is = if_few outputs units is tt (too_many_letters (plain_world reading) outputs s) refl
+    done_for (stepped outputs units) is = if_few outputs units is tt (too_many_control_messages (plain_world reading) outputs s) refl
     done_for (step_spent counter) is = (ends s (spent_counter counter), tt)
 
     does_for : DoneFor (does (plain_world reading) (node_of cause) (given_of cause) (count_of cause) (first_of (plain_world reading) cause) s)
@@ -189,39 +189,39 @@ module _ (reading : Reading) (event : Event) (ue : UeId) (s : RunState) where
 
   -- ---- give
 
-  give_unit_for : (number : ℕ) (l : Letter (Message Token)) (node : NodeId) → letter s.bag number ≡ Some l → l.to ≡ node
-      → given_ue reading s.units node (letter_for l.from l.message) ≡ Some ue
-      → For (if takes_letters s node then ordered_by (plain_world reading) s (does (plain_world reading) node (letter_for l.from l.message) None
+  give_unit_for : (number : ℕ) (l : ControlMessage (Message Token)) (node : NodeId) → control_message s.bag number ≡ Some l → l.to ≡ node
+      → given_ue reading s.units node (control_message_for l.from l.message) ≡ Some ue
+      → For (if takes_control_messages s node then ordered_by (plain_world reading) s (does (plain_world reading) node (control_message_for l.from l.message) None
       (landed_as (plain_world reading) number l) s) else as_step (Some node) (landed_as (plain_world reading) number l s))
   give_unit_for number l node found at its =
-      choose_for (takes_letters s node) _ _
-      (λ takes. ordered_for (does (plain_world reading) node (letter_for l.from l.message) None (landed_as (plain_world reading) number l) s)
-      (does_for (by_letter number l node) (found, at, takes) its))
+      choose_for (takes_control_messages s node) _ _
+      (λ takes. ordered_for (does (plain_world reading) node (control_message_for l.from l.message) None (landed_as (plain_world reading) number l) s)
+      (does_for (by_control_message number l node) (found, at, takes) its))
       (λ h. (lands s number l node found at, tt))
 
-  core_for : (number : ℕ) (l : Letter (Message Token)) → letter s.bag number ≡ Some l → l.to ≡ Core
+  core_for : (number : ℕ) (l : ControlMessage (Message Token)) → control_message s.bag number ≡ Some l → l.to ≡ Core
       → message_ue l.from l.message ≡ ue → (answer : WrittenCoreStepped)
-      → (plain_world reading).core_answer (sn_of s) s.core (letter_for l.from l.message) ≡ answer → For (core_put (plain_world reading) number l s answer)
+      → (plain_world reading).core_answer (sn_of s) s.core (control_message_for l.from l.message) ≡ answer → For (core_put (plain_world reading) number l s answer)
   core_for number l found at its (core_stepped outputs core) is =
-      choose_for (too_many_letters (plain_world reading) outputs s) _ _ (λ h. (ends s (spent_counter letters_spent), tt))
+      choose_for (too_many_control_messages (plain_world reading) outputs s) _ _ (λ h. (ends s (spent_counter control_messages_spent), tt))
       (λ few. (core_takes s number l outputs core found at is few, its))
 
-  give_to_for : (number : ℕ) (l : Letter (Message Token)) (node : NodeId) → letter s.bag number ≡ Some l → l.to ≡ node
+  give_to_for : (number : ℕ) (l : ControlMessage (Message Token)) (node : NodeId) → control_message s.bag number ≡ Some l → l.to ≡ node
       → Some (taker_ue node l) ≡ Some ue → For (give_to (plain_world reading) number l node s)
   give_to_for number l Core found at its =
-      core_for number l found at (some_ue _ ue its) ((plain_world reading).core_answer (sn_of s) s.core (letter_for l.from l.message)) refl
+      core_for number l found at (some_ue _ ue its) ((plain_world reading).core_answer (sn_of s) s.core (control_message_for l.from l.message)) refl
   give_to_for number l (CuCp gnb) found at its = give_unit_for number l (CuCp gnb) found at its
   give_to_for number l (CuUp gnb n) found at its = give_unit_for number l (CuUp gnb n) found at its
   give_to_for number l (Du gnb n) found at its = give_unit_for number l (Du gnb n) found at its
   give_to_for number l (Ue n) found at its = give_unit_for number l (Ue n) found at its
 
-  give_on_for : (number : ℕ) (o : Option (Letter (Message Token))) → letter s.bag number ≡ o → letter_ue o ≡ Some ue → For (give_on (plain_world reading) number s o)
+  give_on_for : (number : ℕ) (o : Option (ControlMessage (Message Token))) → control_message s.bag number ≡ o → control_message_ue o ≡ Some ue → For (give_on (plain_world reading) number s o)
   give_on_for number None found its = refused_for reasons.NoSuch
   give_on_for number (Some l) found its = give_to_for number l l.to found refl its
 
-  give_for : (number : ℕ) → letter_ue (letter s.bag number) ≡ Some ue → For (give (plain_world reading) number s)
+  give_for : (number : ℕ) → control_message_ue (control_message s.bag number) ≡ Some ue → For (give (plain_world reading) number s)
   unfolding give
-  give_for number its = give_on_for number (letter s.bag number) refl its
+  give_for number its = give_on_for number (control_message s.bag number) refl its
 
   -- ---- poll, fail, arrive, return
 
@@ -275,8 +275,8 @@ module _ (reading : Reading) (event : Event) (ue : UeId) (s : RunState) where
   unfolding cancel
   cancel_for who its =
       choose_for (not (is_attached s who)) _ _ (λ h. refused_for reasons.NoUe)
-      (λ h. choose_for (is_source s.units.cp_a who) _ _ (λ h. order_its (CuCp A) (orders.Cancel who) tt its)
-      (λ h. choose_for (is_source s.units.cp_b who) _ _ (λ h. order_its (CuCp B) (orders.Cancel who) tt its) (λ h. refused_for reasons.Empty)))
+      (λ h. choose_for (is_source s.units.cu_cp_a who) _ _ (λ h. order_its (CuCp A) (orders.Cancel who) tt its)
+      (λ h. choose_for (is_source s.units.cu_cp_b who) _ _ (λ h. order_its (CuCp B) (orders.Cancel who) tt its) (λ h. refused_for reasons.Empty)))
 
   release_for : (who : UeId) → event ≡ events.Release who → Some who ≡ Some ue → For (release (plain_world reading) who s)
   unfolding release

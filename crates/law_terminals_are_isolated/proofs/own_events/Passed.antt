@@ -9,7 +9,7 @@ use Rattle.run_defs.specs.Units.{Units, new_units}
 use Rattle.run_defs.specs.Written.{Written}
 use Rattle.run_defs.specs.States.{new_state, goes, RunStep, radio_of}
 use Rattle.run_defs.specs.Runs.{Reading, plain_world}
-use Rattle.proof_run_steps.specs.steps.Made.{Made}
+use Rattle.proof_run_steps.specs.steps.IsOutcome.{IsOutcome}
 use Rattle.proof_run_steps.specs.steps.Reached.{reached}
 use Rattle.proof_run_steps.proofs.steps.Frames.{made_relates}
 use Rattle.proof_run_steps.specs.teids.Given.{GiveOnce}
@@ -28,7 +28,7 @@ use Rattle.proof_unit_steps.specs.tunnel_names.Names.{by_book}
 use Rattle.proof_unit_steps.specs.tunnels.Units.{NoneIsFree}
 use Rattle.law_tunnels_are_owned.specs.tunnel_book.Book.{book_of}
 use Rattle.law_tunnels_are_owned.proofs.tunnel_book.Books.{holds_own}
-use Rattle.law_terminals_are_isolated.proofs.step_slices.Runs.{themselves, keep}
+use Rattle.law_terminals_are_isolated.proofs.step_projections.Runs.{themselves, keep}
 use Rattle.law_tunnels_are_owned.proofs.run_tunnels.Held.{Later}
 use Rattle.law_tunnels_are_owned.proofs.run_tunnels.Runs.{Named, kept, first, own_there}
 use Rattle.law_terminals_are_isolated.proofs.own_steps.Steps.{RunState, Sound}
@@ -41,7 +41,7 @@ module _ (reading : Reading) (events : List Event) (event : Event) (s : RunState
   abbrev PassesTo : RunState → Type 0
   PassesTo t = Passes (plain_world reading) event s t
 
-  made_gives : (t u : RunState) (told : List (RunStep (Message Token))) → Made (plain_world reading) event t (goes told u) → GiveOnce t.units u.units
+  made_gives : (t u : RunState) (told : List (RunStep (Message Token))) → IsOutcome (plain_world reading) event t (goes told u) → GiveOnce t.units u.units
   made_gives t u told p =
       made_relates (plain_world reading) GiveOnce give_same give_then (answer_gives reading) (λ v plan. give_same v)
       (λ v plan free room teids. placed_gives v plan teids) event t (goes told u) p

@@ -8,7 +8,7 @@ use Rattle.gnb_types.specs.declared.names.UeId.{UeId}
 use Rattle.tables.specs.Tables.{find}
 use Rattle.unit_defs.specs.Ways.{Put, Output, control, packet, radio, deliver, dropped, held, opened, closed, failed, no, Input, Way, Answer, gives, spent}
 use Rattle.unit_defs.specs.Teids.{last_teid, teids_are_left}
-use Rattle.unit_defs.specs.UpRecords.{UpTunnel, CuUp}
+use Rattle.unit_defs.specs.CuUpRecords.{CuUpTunnel, CuUp}
 use Rattle.unit_defs.specs.CuUp.{cu_up_acts}
 use Rattle.unit_defs.specs.Du.{DuTunnel, Du, du_acts}
 use Rattle.proof_run_steps.specs.teids.Given.{opened_by, count_from, GivesNext, below, GivesTeids}
@@ -17,11 +17,11 @@ use Rattle.proof_run_steps.proofs.teids.Dus.{du_gives}
 use Rattle.law_tunnels_are_owned.specs.open_tunnels.Open.{open_after, is_open_in, ShowsFrom}
 use Rattle.law_tunnels_are_owned.proofs.open_tunnels.CuUps.{cu_up_fits}
 use Rattle.law_tunnels_are_owned.proofs.open_tunnels.Dus.{du_fits}
-use Rattle.law_tunnels_are_owned.specs.owner_facts.Owned.{UpOwns, DuOwns}
-use Rattle.law_terminals_are_isolated.specs.slices.Steps.{PutsFor, StaysFor}
-use Rattle.law_terminals_are_isolated.specs.up_slice.CuUps.{UpSlice, up_slice, own_tunnel as up_own, up_ue}
-use Rattle.law_terminals_are_isolated.specs.du_slice.Dus.{DuSlice, du_slice, own_tunnel as du_own, du_ue}
-use Rattle.law_terminals_are_isolated.proofs.slice_owners.Owners.{up_owning, du_owning}
+use Rattle.law_tunnels_are_owned.specs.owner_facts.Owned.{CuUpOwns, DuOwns}
+use Rattle.law_terminals_are_isolated.specs.projections.Steps.{PutsFor, StaysFor}
+use Rattle.law_terminals_are_isolated.specs.cu_up_projection.CuUps.{CuUpProjection, cu_up_projection, own_tunnel as up_own, cu_up_ue}
+use Rattle.law_terminals_are_isolated.specs.du_projection.Dus.{DuProjection, du_projection, own_tunnel as du_own, du_ue}
+use Rattle.law_terminals_are_isolated.proofs.projection_owners.Owners.{up_owning, du_owning}
 
 -- a TEID is closed by one of these
 abbrev pub closes : {M L P : Type 0} → ℕ → List (Put M L P) → Bool
@@ -126,20 +126,20 @@ other_ue a b e same = differs (sym (eq-eqb a.0 b.0 (ap (λ (u : UeId). u.0) same
     differs e = absurd cc
 
 module _ {M C P : Type 0} (way : Way M C P) (ue : UeId) where
-  pub up_closes : (input : Input C P) (r : CuUp M C) → UpOwns r → up_ue r input ≡ Some ue
-      → ClosesOwn (λ (t : UpTunnel). t.ue) ue r.tunnels (cu_up_acts way r input)
+  pub up_closes : (input : Input C P) (r : CuUp M C) → CuUpOwns r → cu_up_ue r input ≡ Some ue
+      → ClosesOwn (λ (t : CuUpTunnel). t.ue) ue r.tunnels (cu_up_acts way r input)
   up_closes input r owns is = by (cu_up_acts way r input) (up_owning way ue input r owns is) (cu_up_gives way r input) (cu_up_fits way r input)
     where
-      one : (outputs : List (Output M P)) (s : CuUp M C) → PutsFor ue.0 (StaysFor up_slice ue r) (gives outputs s)
+      one : (outputs : List (Output M P)) (s : CuUp M C) → PutsFor ue.0 (StaysFor cu_up_projection ue r) (gives outputs s)
           → GivesNext r.next_teid (opened_by outputs) s.next_teid
           → ((teid : ℕ) → is_open_in s.tunnels teid ≡ open_after teid outputs (is_open_in r.tunnels teid))
-          → (teid : ℕ) → closes teid outputs ≡ true → (owner : UpTunnel) → find nat_cmp r.tunnels teid ≡ Some owner → owner.ue ≡ ue
+          → (teid : ℕ) → closes teid outputs ≡ true → (owner : CuUpTunnel) → find nat_cmp r.tunnels teid ≡ Some owner → owner.ue ≡ ue
       one outputs s p given shows teid closing owner found = at (owner.ue.0 == ue.0) refl
         where
           its : up_own owner.ue (Some owner) ≡ Some owner
           its = ap (λ (b : Bool). if b then Some owner else None) (eq-eqb owner.ue.0 owner.ue.0 refl)
 
-          there : (o : Option UpTunnel) → up_own owner.ue o ≡ Some owner → is_some o ≡ true
+          there : (o : Option CuUpTunnel) → up_own owner.ue o ≡ Some owner → is_some o ≡ true
           there None e = absurd cc
           there (Some t) e = refl
 
@@ -147,13 +147,13 @@ module _ {M C P : Type 0} (way : Way M C P) (ue : UeId) where
           at true e = same_ue owner.ue ue e
           at false e =
               let stays : up_own owner.ue (find nat_cmp s.tunnels teid) ≡ up_own owner.ue (find nat_cmp r.tunnels teid) =
-              ap (λ (x : UpSlice M C). x.tunnels teid) (p.1 owner.ue (other_ue owner.ue ue e)) in
+              ap (λ (x : CuUpProjection M C). x.tunnels teid) (p.1 owner.ue (other_ue owner.ue ue e)) in
               absurd (not_closed teid outputs r.next_teid s.next_teid given (owns.2 teid owner found)
               (sym (there (find nat_cmp s.tunnels teid) (stays ∙ ap (up_own owner.ue) found ∙ its))
-              ∙ shows teid ∙ ap (λ (o : Option UpTunnel). open_after teid outputs (is_some o)) found) closing)
+              ∙ shows teid ∙ ap (λ (o : Option CuUpTunnel). open_after teid outputs (is_some o)) found) closing)
 
-      by : (a : Answer M P (CuUp M C)) → PutsFor ue.0 (StaysFor up_slice ue r) a → GivesTeids (λ u. u.next_teid) (λ u. u.tunnels) r a
-          → ShowsFrom (λ u. u.tunnels) r.tunnels a → ClosesOwn (λ (t : UpTunnel). t.ue) ue r.tunnels a
+      by : (a : Answer M P (CuUp M C)) → PutsFor ue.0 (StaysFor cu_up_projection ue r) a → GivesTeids (λ u. u.next_teid) (λ u. u.tunnels) r a
+          → ShowsFrom (λ u. u.tunnels) r.tunnels a → ClosesOwn (λ (t : CuUpTunnel). t.ue) ue r.tunnels a
       by (gives outputs s) p q shows = λ teid closing owner found. one outputs s p q.0 shows teid closing owner found
       by (spent counter) p q shows = tt
 
@@ -161,7 +161,7 @@ module _ {M C P : Type 0} (way : Way M C P) (ue : UeId) where
       → ClosesOwn (λ (t : DuTunnel). t.ue) ue r.tunnels (du_acts way r input)
   du_closes input r owns is = by (du_acts way r input) (du_owning way ue input r owns is) (du_gives way r input) (du_fits way r input)
     where
-      one : (outputs : List (Output M P)) (s : Du M C) → PutsFor ue.0 (StaysFor du_slice ue r) (gives outputs s)
+      one : (outputs : List (Output M P)) (s : Du M C) → PutsFor ue.0 (StaysFor du_projection ue r) (gives outputs s)
           → GivesNext r.next_teid (opened_by outputs) s.next_teid
           → ((teid : ℕ) → is_open_in s.tunnels teid ≡ open_after teid outputs (is_open_in r.tunnels teid))
           → (teid : ℕ) → closes teid outputs ≡ true → (owner : DuTunnel) → find nat_cmp r.tunnels teid ≡ Some owner → owner.ue ≡ ue
@@ -178,12 +178,12 @@ module _ {M C P : Type 0} (way : Way M C P) (ue : UeId) where
           at true e = same_ue owner.ue ue e
           at false e =
               let stays : du_own owner.ue (find nat_cmp s.tunnels teid) ≡ du_own owner.ue (find nat_cmp r.tunnels teid) =
-              ap (λ (x : DuSlice M C). x.tunnels teid) (p.1 owner.ue (other_ue owner.ue ue e)) in
+              ap (λ (x : DuProjection M C). x.tunnels teid) (p.1 owner.ue (other_ue owner.ue ue e)) in
               absurd (not_closed teid outputs r.next_teid s.next_teid given (owns.2 teid owner found)
               (sym (there (find nat_cmp s.tunnels teid) (stays ∙ ap (du_own owner.ue) found ∙ its))
               ∙ shows teid ∙ ap (λ (o : Option DuTunnel). open_after teid outputs (is_some o)) found) closing)
 
-      by : (a : Answer M P (Du M C)) → PutsFor ue.0 (StaysFor du_slice ue r) a → GivesTeids (λ u. u.next_teid) (λ u. u.tunnels) r a
+      by : (a : Answer M P (Du M C)) → PutsFor ue.0 (StaysFor du_projection ue r) a → GivesTeids (λ u. u.next_teid) (λ u. u.tunnels) r a
           → ShowsFrom (λ u. u.tunnels) r.tunnels a → ClosesOwn (λ (t : DuTunnel). t.ue) ue r.tunnels a
       by (gives outputs s) p q shows = λ teid closing owner found. one outputs s p q.0 shows teid closing owner found
       by (spent counter) p q shows = tt

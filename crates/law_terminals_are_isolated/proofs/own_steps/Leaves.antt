@@ -1,4 +1,4 @@
--- A step of a unit with what is for a terminal leaves the whole slices of the others.
+-- A step of a unit with what is for a terminal leaves the whole projections of the others.
 use Rattle.std.proofs.Common.{◌≡◌, ℕ, Bool, true, false, cond, List, [], ◌∷◌, Option, Some, None, refl, sym, ap, ◌∙◌, subst}
 use Rattle.std.specs.List.{AllByRecursion}
 use Rattle.std.specs.Ordering.{eq_by_cmp}
@@ -14,34 +14,34 @@ use Rattle.tables.proofs.TableLaws.{at-put, find-put-other}
 use Rattle.message_types.specs.declared.rrc.Token.{Token}
 use Rattle.scenario_text.specs.declared.event.Event.{Event}
 use Rattle.unit_defs.specs.Ways.{Message, Pdu, Load, Put, control, packet, radio, deliver, dropped, held, opened, closed, failed, no, Input, gives, spent}
-use Rattle.unit_defs.specs.UpRecords.{CuUp}
+use Rattle.unit_defs.specs.CuUpRecords.{CuUp}
 use Rattle.unit_defs.specs.CuUp.{new_cu_up, cu_up_acts}
 use Rattle.unit_defs.specs.Du.{Du, du_acts}
 use Rattle.unit_defs.specs.Ue.{UeNode, ue_acts, new_ue}
-use Rattle.unit_defs.specs.CpRecords.{CuCpRecord}
+use Rattle.unit_defs.specs.CuCpRecords.{CuCpRecord}
 use Rattle.unit_defs.specs.CuCp.{cu_cp_acts}
 use Rattle.unit_defs.specs.Core.{CoreRecord}
 use Rattle.transport_defs.specs.declared.Item.{Item}
-use Rattle.transport_defs.specs.declared.Letter.{Letter}
+use Rattle.transport_defs.specs.declared.ControlMessage.{ControlMessage}
 use Rattle.run_defs.specs.Lines.{RunLine}
-use Rattle.run_defs.specs.Units.{Units, cp_of, with_cp, up_of, with_up, du_of, with_du, ue_of, with_ue}
+use Rattle.run_defs.specs.Units.{Units, cu_cp_of, with_cu_cp, cu_up_of, with_cu_up, du_of, with_du, ue_of, with_ue}
 use Rattle.run_defs.specs.Written.{Written, PlainStepped, WrittenStepped, written_step}
 use Rattle.run_defs.specs.States.{State, stepped, step_spent, Lengths, sn_of, World, goes, radio_of}
 use Rattle.run_defs.specs.Steps.{carried_out}
 use Rattle.run_defs.specs.Runs.{Reading, PlainGiven, Plain, plain_way, input_of, stepped_with, ue_stepped, plain_by, plain_world}
-use Rattle.proof_run_steps.specs.steps.Causes.{Cause, by_order, by_tick, by_octets, by_octets_on, by_attach, by_release, by_offer, by_item, by_air, by_ack, by_letter, node_of, given_of, count_of, first_of}
+use Rattle.proof_run_steps.specs.steps.Causes.{Cause, by_order, by_tick, by_octets, by_octets_on, by_attach, by_release, by_offer, by_item, by_air, by_ack, by_control_message, node_of, given_of, count_of, first_of}
 use Rattle.proof_run_steps.proofs.steps.Frames.{HasUnits, units_by, act_units}
 use Rattle.proof_run_steps.specs.facts.Facts.{Facts, HoldWith, PutFits, PutsFit}
 use Rattle.proof_run_steps.proofs.facts.Within.{HoldsWith}
 use Rattle.proof_run_steps.proofs.facts.Steps.{act_holds}
-use Rattle.law_terminals_are_isolated.specs.slices.Slices.{core_slice}
-use Rattle.law_terminals_are_isolated.specs.slices.Steps.{PutsFor, StaysFor}
-use Rattle.law_terminals_are_isolated.proofs.slices.Tables.{apart_ues}
-use Rattle.law_terminals_are_isolated.specs.up_slice.CuUps.{up_slice}
-use Rattle.law_terminals_are_isolated.proofs.slice_owners.Owners.{up_owning}
-use Rattle.law_terminals_are_isolated.specs.run_slices.Units.{units_slice, given_in, given_ue}
-use Rattle.law_terminals_are_isolated.specs.others_stay.Others.{IsCauseFor, IsStepFor}
-use Rattle.law_terminals_are_isolated.proofs.others_stay.Steps.{others_stay}
+use Rattle.law_terminals_are_isolated.specs.projections.Projections.{core_projection}
+use Rattle.law_terminals_are_isolated.specs.projections.Steps.{PutsFor, StaysFor}
+use Rattle.law_terminals_are_isolated.proofs.projections.Tables.{apart_ues}
+use Rattle.law_terminals_are_isolated.specs.cu_up_projection.CuUps.{cu_up_projection}
+use Rattle.law_terminals_are_isolated.proofs.projection_owners.Owners.{up_owning}
+use Rattle.law_terminals_are_isolated.specs.run_projections.Units.{units_projection, given_in, given_ue}
+use Rattle.law_terminals_are_isolated.specs.frame_of_steps.Others.{IsCauseFor, IsStepFor}
+use Rattle.law_terminals_are_isolated.proofs.frame_of_steps.Steps.{others_stay}
 use Rattle.law_terminals_are_isolated.specs.own_steps.Own.{IsActed, LeavesOthers}
 use Rattle.law_terminals_are_isolated.proofs.own_steps.Steps.{RunState, Sound, step_for, answered_for}
 
@@ -56,7 +56,7 @@ module _ {M C L P : Type 0} (world : World M C L P) (core : CoreRecord M C) wher
   has_core = record {
     units = λ u. Unit {0};
     core = λ r. r ≡ core;
-    letter = λ l. Unit {0};
+    control_message = λ l. Unit {0};
     puts_on = λ node end item. Unit {0};
     puts_on_air = λ node key item. Unit {0};
     on_tunnel = λ end item. Unit {0};
@@ -85,7 +85,7 @@ module _ {M C L P : Type 0} (world : World M C L P) (core : CoreRecord M C) wher
   core_is n s is = record {
     units = tt;
     core = is;
-    letters = each_of (λ (e : ℕ × Letter M). Unit {0}) s.bag.letters (λ e. tt);
+    control_messages = each_of (λ (e : ℕ × ControlMessage M). Unit {0}) s.bag.control_messages (λ e. tt);
     tunnels = λ end items found. each_of (λ (item : Item L). Unit {0}) items (λ item. tt);
     radios = λ key. each_of (λ (item : Item P). Unit {0}) (radio_of s key).items (λ item. tt);
     few = λ counted. absurd counted;
@@ -108,10 +108,10 @@ module _ {M C L P : Type 0} (world : World M C L P) (event : Event) (cause : Cau
 
 module _ {M C : Type 0} (ue : UeId) (u : Units M C) where
   abbrev UpsStay : Units M C → Type 0
-  UpsStay v = (gnb : Gnb) (number : ℕ) → StaysFor up_slice ue (up_of u gnb number) (up_of v gnb number)
+  UpsStay v = (gnb : Gnb) (number : ℕ) → StaysFor cu_up_projection ue (cu_up_of u gnb number) (cu_up_of v gnb number)
 
-  comes_stay : (x : UeNode) → StaysFor units_slice ue u (with_ue u ue x)
-  comes_stay x other apart = λ i. record (units_slice other u) {
+  comes_stay : (x : UeNode) → StaysFor units_projection ue u (with_ue u ue x)
+  comes_stay x other apart = λ i. record (units_projection other u) {
     node = find-put-other ue_total u.ues ue x other (apart_ues other ue apart) i;
   }
 
@@ -132,27 +132,27 @@ module _ (reading : Reading) (t : RunState) (sound : Sound t) (ue : UeId) where
   UpsWritten (stepped outputs v) = UpsStay ue t.units v
   UpsWritten (step_spent counter) = Unit {0}
 
-  up_put : (gnb : Gnb) (number : ℕ) (r : CuUp (Message Token) Token) → StaysFor up_slice ue (up_of t.units gnb number) r
-      → UpsStay ue t.units (with_up t.units gnb number r)
+  up_put : (gnb : Gnb) (number : ℕ) (r : CuUp (Message Token) Token) → StaysFor cu_up_projection ue (cu_up_of t.units gnb number) r
+      → UpsStay ue t.units (with_cu_up t.units gnb number r)
   up_put gnb number r stays g n other apart =
-      ap (up_slice other) (at-put node_total (new_cu_up g n) t.units.ups (up_id gnb number) r (up_id g n))
+      ap (cu_up_projection other) (at-put node_total (new_cu_up g n) t.units.ups (up_id gnb number) r (up_id g n))
       ∙ by (eq_by_cmp node_cmp (up_id g n) (up_id gnb number)) refl
     where
-      by : (b : Bool) → eq_by_cmp node_cmp (up_id g n) (up_id gnb number) ≡ b → up_slice other (cond b r (up_of t.units g n)) ≡ up_slice other (up_of t.units g n)
+      by : (b : Bool) → eq_by_cmp node_cmp (up_id g n) (up_id gnb number) ≡ b → cu_up_projection other (cond b r (cu_up_of t.units g n)) ≡ cu_up_projection other (cu_up_of t.units g n)
       by true tie =
           let same : up_id g n ≡ up_id gnb number = same_node (up_id g n) (up_id gnb number) tie in
           let of_gnb : g ≡ gnb = cc in
           let numbered : n ≡ number = cc in
           stays other apart
-          ∙ sym (ap (λ (x : Gnb). up_slice other (up_of t.units x n)) of_gnb ∙ ap (λ (m : ℕ). up_slice other (up_of t.units gnb m)) numbered)
+          ∙ sym (ap (λ (x : Gnb). cu_up_projection other (cu_up_of t.units x n)) of_gnb ∙ ap (λ (m : ℕ). cu_up_projection other (cu_up_of t.units gnb m)) numbered)
       by false tie = refl
 
-  by_up : (gnb : Gnb) (number : ℕ) (a : Plain (CuUp (Message Token) Token)) → PutsFor ue.0 (StaysFor up_slice ue (up_of t.units gnb number)) a
-      → UpsBy (stepped_with reading (with_up t.units gnb number) a)
+  by_up : (gnb : Gnb) (number : ℕ) (a : Plain (CuUp (Message Token) Token)) → PutsFor ue.0 (StaysFor cu_up_projection ue (cu_up_of t.units gnb number)) a
+      → UpsBy (stepped_with reading (with_cu_up t.units gnb number) a)
   by_up gnb number (gives outputs r) p = up_put gnb number r p.1
   by_up gnb number (spent counter) p = tt
 
-  by_cp : (gnb : Gnb) (a : Plain (CuCpRecord (Message Token) Token)) → UpsBy (stepped_with reading (with_cp t.units gnb) a)
+  by_cp : (gnb : Gnb) (a : Plain (CuCpRecord (Message Token) Token)) → UpsBy (stepped_with reading (with_cu_cp t.units gnb) a)
   by_cp A (gives outputs r) = λ g n other apart. refl
   by_cp B (gives outputs r) = λ g n other apart. refl
   by_cp gnb (spent counter) = tt
@@ -172,10 +172,10 @@ module _ (reading : Reading) (t : RunState) (sound : Sound t) (ue : UeId) where
   ups_acted : (node : NodeId) (given : PlainGiven) (o : Option (Input Token Pdu)) → given_in t.units node o ≡ Some ue
       → UpsBy (plain_by reading t.units node given o)
   ups_acted node given None is = λ g n other apart. refl
-  ups_acted (CuCp gnb) given (Some input) is = by_cp gnb (cu_cp_acts plain_way (cp_of t.units gnb) input)
+  ups_acted (CuCp gnb) given (Some input) is = by_cp gnb (cu_cp_acts plain_way (cu_cp_of t.units gnb) input)
   ups_acted (up_id gnb number) given (Some input) is =
-      by_up gnb number (cu_up_acts plain_way (up_of t.units gnb number) input)
-      (up_owning plain_way ue input (up_of t.units gnb number) (sound.owned.0 gnb number) is)
+      by_up gnb number (cu_up_acts plain_way (cu_up_of t.units gnb number) input)
+      (up_owning plain_way ue input (cu_up_of t.units gnb number) (sound.owned.0 gnb number) is)
   ups_acted (du_id gnb number) given (Some input) is = by_du gnb number (du_acts plain_way (du_of t.units gnb number) input)
   ups_acted (Ue n) given (Some input) is = by_ue n input (ue_of t.units (record { 0 = n }))
   ups_acted Core given (Some input) is = λ g n other apart. refl
@@ -195,10 +195,10 @@ module _ (reading : Reading) (t : RunState) (sound : Sound t) (ue : UeId) where
   abbrev RunCause : Type 0
   RunCause = Cause (Message Token) (Written (Load Pdu)) (Written Pdu)
 
-  with_terminal : (cause : RunCause) (v : RunUnits) → IsCauseFor ue t cause → StaysFor units_slice ue t.units v
-      → StaysFor units_slice ue t.units (units_by (plain_world reading) cause v)
+  with_terminal : (cause : RunCause) (v : RunUnits) → IsCauseFor ue t cause → StaysFor units_projection ue t.units v
+      → StaysFor units_projection ue t.units (units_by (plain_world reading) cause v)
   with_terminal (by_attach plan) v is stays = λ other apart.
-      subst (λ (who : UeId). units_slice other (with_ue v who (new_ue plan)) ≡ units_slice other v) (sym is) (comes_stay ue v (new_ue plan) other apart)
+      subst (λ (who : UeId). units_projection other (with_ue v who (new_ue plan)) ≡ units_projection other v) (sym is) (comes_stay ue v (new_ue plan) other apart)
       ∙ stays other apart
   with_terminal (by_order node order) v is stays = stays
   with_terminal (by_tick node) v is stays = stays
@@ -209,7 +209,7 @@ module _ (reading : Reading) (t : RunState) (sound : Sound t) (ue : UeId) where
   with_terminal (by_item end item rest) v is stays = stays
   with_terminal (by_air key home item) v is stays = stays
   with_terminal (by_ack key home item rest) v is stays = stays
-  with_terminal (by_letter number l to) v is stays = stays
+  with_terminal (by_control_message number l to) v is stays = stays
 
   ups_with : (cause : RunCause) (v : RunUnits) → UpsStay ue t.units v → UpsStay ue t.units (units_by (plain_world reading) cause v)
   ups_with (by_attach plan) v stays = stays
@@ -222,7 +222,7 @@ module _ (reading : Reading) (t : RunState) (sound : Sound t) (ue : UeId) where
   ups_with (by_item end item rest) v stays = stays
   ups_with (by_air key home item) v stays = stays
   ups_with (by_ack key home item rest) v stays = stays
-  ups_with (by_letter number l to) v stays = stays
+  ups_with (by_control_message number l to) v stays = stays
 
   pub act_leaves : (event : Event) (cause : RunCause) (outputs : List (Put (Message Token) (Written (Load Pdu)) (Written Pdu))) (units : RunUnits)
       (s : RunState) (lines : List (RunLine (Message Token))) → given_ue reading t.units (node_of cause) (given_of cause) ≡ Some ue
@@ -235,9 +235,9 @@ module _ (reading : Reading) (t : RunState) (sound : Sound t) (ue : UeId) where
       let all = answered_for reading t sound ue (sn_of t) (node_of cause) (given_of cause) outputs units is acted.answers in
       let after : s.units ≡ units_by world cause units = same_units world event cause outputs units t s lines acted goes_so in
       record {
-        units = subst (λ (v : RunUnits). StaysFor units_slice ue t.units v) (sym after) (with_terminal cause units step.1 all.1);
+        units = subst (λ (v : RunUnits). StaysFor units_projection ue t.units v) (sym after) (with_terminal cause units step.1 all.1);
         tunnels = subst (λ (v : RunUnits). UpsStay ue t.units v) (sym after)
             (ups_with cause units (ups_answered (sn_of t) (node_of cause) (given_of cause) outputs units is acted.answers));
-        core = λ other apart. ap (core_slice other) (same_core world event cause outputs units t s lines acted goes_so);
+        core = λ other apart. ap (core_projection other) (same_core world event cause outputs units t s lines acted goes_so);
         beside = others_stay world ue cause outputs units t s lines step all.0 goes_so;
       }

@@ -10,7 +10,7 @@ use Rattle.proof_run_steps.specs.steps.Reached.{reached}
 use Rattle.law_tunnels_are_owned.proofs.open_tunnels.Runs.{first_stands, stand_where_open}
 use Rattle.law_tunnels_are_owned.proofs.tunnel_owners.Placed.{first_owned}
 use Rattle.law_tunnels_are_owned.proofs.tunnel_owners.Runs.{owned_later}
-use Rattle.law_terminals_are_isolated.proofs.step_slices.Runs.{its_own}
+use Rattle.law_terminals_are_isolated.proofs.step_projections.Runs.{its_own}
 use Rattle.proof_run_steps.proofs.law_run_links.Links.{first_own, own_later}
 use Rattle.law_tunnels_are_owned.proofs.run_tunnels.Runs.{own_in_runs}
 use Rattle.law_terminals_are_isolated.proofs.own_steps.Steps.{RunState, Sound}

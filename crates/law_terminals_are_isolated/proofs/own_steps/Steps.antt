@@ -18,30 +18,30 @@ use Rattle.tables.proofs.TableLaws.{other_key}
 use Rattle.message_types.specs.declared.rrc.Token.{Token}
 use Rattle.scenario_text.specs.declared.event.Event.{Event}
 use Rattle.unit_defs.specs.Ways.{Message, Pdu, Load, Put, control, packet, radio, deliver, dropped, held, opened, closed, failed, no, Taken, Input, packet_input, radio_input, confirm_input, gives, spent}
-use Rattle.unit_defs.specs.UpRecords.{UpTunnel, CuUp}
+use Rattle.unit_defs.specs.CuUpRecords.{CuUpTunnel, CuUp}
 use Rattle.unit_defs.specs.CuUp.{cu_up_acts}
 use Rattle.unit_defs.specs.Du.{DuTunnel, Du, du_acts}
 use Rattle.unit_defs.specs.Ue.{UeNode, is_connected}
 use Rattle.transport_defs.specs.declared.Item.{Item}
 use Rattle.transport_defs.specs.Links.{items_of}
-use Rattle.run_defs.specs.Units.{Units, up_of, with_up, du_of, with_du, ue_of, epoch_at}
+use Rattle.run_defs.specs.Units.{Units, cu_up_of, with_cu_up, du_of, with_du, ue_of, epoch_at}
 use Rattle.run_defs.specs.Written.{Written, written_put, PlainStepped, WrittenStepped, written_step}
 use Rattle.run_defs.specs.States.{State, stepped, step_spent, Lengths, radio_of}
 use Rattle.run_defs.specs.Conditions.{same_epoch, ready_home, ready_at, ready_of, receiver_by, sender_by}
 use Rattle.run_defs.specs.Runs.{Reading, PlainGiven, Plain, plain_way, input_of, content_of, stepped_with, acts_on, plain_by, plain_world}
-use Rattle.proof_run_steps.specs.steps.Causes.{Cause, by_order, by_tick, by_octets, by_octets_on, by_attach, by_release, by_offer, by_item, by_air, by_ack, by_letter, node_of, given_of, Stands}
+use Rattle.proof_run_steps.specs.steps.Causes.{Cause, by_order, by_tick, by_octets, by_octets_on, by_attach, by_release, by_offer, by_item, by_air, by_ack, by_control_message, node_of, given_of, Stands}
 use Rattle.proof_run_steps.proofs.facts.Steps.{nth_has}
 use Rattle.law_tunnels_are_owned.specs.open_tunnels.Open.{stands, StandWhereOpen}
 use Rattle.law_tunnels_are_owned.specs.owner_facts.Owned.{AreOwned}
-use Rattle.law_terminals_are_isolated.specs.slices.Steps.{IsFor, StaysFor}
-use Rattle.law_terminals_are_isolated.specs.up_slice.CuUps.{tunnel_ue as up_tunnel_ue}
-use Rattle.law_terminals_are_isolated.specs.du_slice.Dus.{tunnel_ue as du_tunnel_ue}
-use Rattle.law_terminals_are_isolated.proofs.slice_owners.Owners.{apart_of}
-use Rattle.law_terminals_are_isolated.specs.run_slices.Units.{units_slice, unit_ue, given_in, given_ue, IsUnitsStepOf, AreThemselves}
-use Rattle.law_terminals_are_isolated.proofs.run_slices.Units.{given_step}
+use Rattle.law_terminals_are_isolated.specs.projections.Steps.{IsFor, StaysFor}
+use Rattle.law_terminals_are_isolated.specs.cu_up_projection.CuUps.{tunnel_ue as up_tunnel_ue}
+use Rattle.law_terminals_are_isolated.specs.du_projection.Dus.{tunnel_ue as du_tunnel_ue}
+use Rattle.law_terminals_are_isolated.proofs.projection_owners.Owners.{apart_of}
+use Rattle.law_terminals_are_isolated.specs.run_projections.Units.{units_projection, unit_ue, given_in, given_ue, IsUnitsStepOf, AreThemselves}
+use Rattle.law_terminals_are_isolated.proofs.run_projections.Units.{given_step}
 use Rattle.proof_run_steps.specs.law_run_links.Own.{HoldTheirOwn}
 use Rattle.law_tunnels_are_owned.specs.run_tunnels.Own.{IsOwnAt, TunnelsHoldTheirOwn}
-use Rattle.law_terminals_are_isolated.specs.others_stay.Others.{items_on, IsNodeFor, IsCauseFor, IsStepFor, IsOutputFor}
+use Rattle.law_terminals_are_isolated.specs.frame_of_steps.Others.{items_on, IsNodeFor, IsCauseFor, IsStepFor, IsOutputFor}
 use Rattle.law_terminals_are_isolated.proofs.own_steps.Closed.{closes, ClosesOwn, up_closes, du_closes}
 
 abbrev pub RunState : Type 0
@@ -110,9 +110,9 @@ module _ (reading : Reading) (t : RunState) (sound : Sound t) (ue : UeId) where
 
   item_its : (node : NodeId) (teid : ℕ) (key : EntityKey) (load : Load Pdu) (x : Taken Pdu) → IsOwnAt t.units node teid key load
       → unit_ue t.units node (packet_for teid x) ≡ Some ue → key.ue ≡ ue
-  item_its (up_id gnb number) teid key load x own is = by (find nat_cmp (up_of t.units gnb number).tunnels teid) refl is
+  item_its (up_id gnb number) teid key load x own is = by (find nat_cmp (cu_up_of t.units gnb number).tunnels teid) refl is
     where
-      by : (o : Option UpTunnel) → find nat_cmp (up_of t.units gnb number).tunnels teid ≡ o → up_tunnel_ue o ≡ Some ue → key.ue ≡ ue
+      by : (o : Option CuUpTunnel) → find nat_cmp (cu_up_of t.units gnb number).tunnels teid ≡ o → up_tunnel_ue o ≡ Some ue → key.ue ≡ ue
       by None e named = absurd cc
       by (Some owner) e named = (own owner e).0 ∙ some_ue owner.ue ue named
   item_its (du_id gnb number) teid key load x own is = by (find nat_cmp (du_of t.units gnb number).tunnels teid) refl is
@@ -166,7 +166,7 @@ module _ (reading : Reading) (t : RunState) (sound : Sound t) (ue : UeId) where
   cause_for event (by_ack key home item rest) at is =
       confirmed_its home key item at.0
       (subst (λ (xs : List (Item (Written Pdu))). AllByRecursion (λ (i : Item (Written Pdu)). i.key ≡ key) xs) at.1 (sound.radios key)).0 key.dir is
-  cause_for event (by_letter number l to) at is = tt
+  cause_for event (by_control_message number l to) at is = tt
 
   pub step_for : (event : Event) (cause : RunCause) → Stands event t cause → given_ue reading t.units (node_of cause) (given_of cause) ≡ Some ue
       → IsStepFor ue t cause
@@ -209,14 +209,14 @@ module _ (reading : Reading) (t : RunState) (sound : Sound t) (ue : UeId) where
 
   -- an open TEID there is the terminal's
   abbrev pub IsIts : NodeId → ℕ → Type 0
-  IsIts (up_id gnb number) teid = (owner : UpTunnel) → find nat_cmp (up_of t.units gnb number).tunnels teid ≡ Some owner → owner.ue ≡ ue
+  IsIts (up_id gnb number) teid = (owner : CuUpTunnel) → find nat_cmp (cu_up_of t.units gnb number).tunnels teid ≡ Some owner → owner.ue ≡ ue
   IsIts (du_id gnb number) teid = (owner : DuTunnel) → find nat_cmp (du_of t.units gnb number).tunnels teid ≡ Some owner → owner.ue ≡ ue
   IsIts node teid = Unit {0}
 
   empty : (node : NodeId) (teid : ℕ) → IsIts node teid → IsEmpty node teid
-  empty (up_id gnb number) teid its = by (find nat_cmp (up_of t.units gnb number).tunnels teid) refl
+  empty (up_id gnb number) teid its = by (find nat_cmp (cu_up_of t.units gnb number).tunnels teid) refl
     where
-      by : (o : Option UpTunnel) → find nat_cmp (up_of t.units gnb number).tunnels teid ≡ o → IsEmpty (up_id gnb number) teid
+      by : (o : Option CuUpTunnel) → find nat_cmp (cu_up_of t.units gnb number).tunnels teid ≡ o → IsEmpty (up_id gnb number) teid
       by None e = not_there (up_id gnb number) teid (sound.standing.0 gnb number teid ∙ ap is_some e)
       by (Some owner) e = its_items (up_id gnb number) teid (λ key load own. (own owner e).0 ∙ its owner e)
   empty (du_id gnb number) teid its = by (find nat_cmp (du_of t.units gnb number).tunnels teid) refl
@@ -246,8 +246,8 @@ module _ (reading : Reading) (t : RunState) (sound : Sound t) (ue : UeId) where
   any_closed node its (step_spent counter) = tt
 
   up_closed : (gnb : Gnb) (number : ℕ) (a : Plain (CuUp (Message Token) Token))
-      → ClosesOwn (λ (x : UpTunnel). x.ue) ue (up_of t.units gnb number).tunnels a
-      → ClosesBy (up_id gnb number) (stepped_with reading (with_up t.units gnb number) a)
+      → ClosesOwn (λ (x : CuUpTunnel). x.ue) ue (cu_up_of t.units gnb number).tunnels a
+      → ClosesBy (up_id gnb number) (stepped_with reading (with_cu_up t.units gnb number) a)
   up_closed gnb number (gives outputs r) own = own
   up_closed gnb number (spent counter) own = tt
 
@@ -261,8 +261,8 @@ module _ (reading : Reading) (t : RunState) (sound : Sound t) (ue : UeId) where
       → ClosesBy node (plain_by reading t.units node given o)
   acted node None given is = absurd cc
   acted (up_id gnb number) (Some input) given is =
-      up_closed gnb number (cu_up_acts plain_way (up_of t.units gnb number) input)
-      (up_closes plain_way ue input (up_of t.units gnb number) (sound.owned.0 gnb number) is)
+      up_closed gnb number (cu_up_acts plain_way (cu_up_of t.units gnb number) input)
+      (up_closes plain_way ue input (cu_up_of t.units gnb number) (sound.owned.0 gnb number) is)
   acted (du_id gnb number) (Some input) given is =
       du_closed gnb number (du_acts plain_way (du_of t.units gnb number) input)
       (du_closes plain_way ue input (du_of t.units gnb number) (sound.owned.1 gnb number) is)
@@ -315,7 +315,7 @@ module _ (reading : Reading) (t : RunState) (sound : Sound t) (ue : UeId) where
   pub answered_for : (lengths : Lengths) (node : NodeId) (given : PlainGiven) (outputs : List (Put (Message Token) (Written (Load Pdu)) (Written Pdu)))
       (units : Units (Message Token) Token) → given_ue reading t.units node given ≡ Some ue
       → (plain_world reading).answer lengths t.units node given ≡ stepped outputs units
-      → AllByRecursion (IsOutputFor ue t node) outputs × StaysFor units_slice ue t.units units
+      → AllByRecursion (IsOutputFor ue t node) outputs × StaysFor units_projection ue t.units units
   answered_for lengths node given outputs units is answers =
       let its : IsUnitsStepOf ue t.units (stepped outputs units) = subst (IsUnitsStepOf ue t.units) answers
       (given_step reading t.units ue lengths node given (λ gnb number. apart_of (du_of t.units gnb number) (sound.owned.1 gnb number)) (sound.itself ue) is) in

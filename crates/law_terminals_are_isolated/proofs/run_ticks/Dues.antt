@@ -15,7 +15,7 @@ use Rattle.gnb_types.proofs.OrderLemmas.{channel_total, channel_exact}
 use Rattle.tables.specs.Tables.{find, IsSorted}
 use Rattle.transaction_defs.specs.Callers.{Opened, Caller, due, due_of, is_last, repeated, Due, repeats, expires}
 use Rattle.unit_defs.specs.Messages.{channel}
-use Rattle.law_terminals_are_isolated.specs.tick_slices.Ticks.{due_ue, own_dues}
+use Rattle.law_terminals_are_isolated.specs.tick_projections.Ticks.{due_ue, own_dues}
 
 abbrev Entries : Type 0 → Type 0
 Entries M = List (Channel × Opened M)
@@ -26,8 +26,8 @@ is_own ue c = c.ue == ue
 abbrev own : {M : Type 0} → ℕ → Entries M → Entries M
 own ue es = where_key channel_cmp (is_own ue) es
 
-alike : (ue : ℕ) (q x : Channel) → channel_cmp q x ≡ Equal → is_own ue x ≡ is_own ue q
-alike ue q x e = ap (is_own ue) (sym (channel_exact q x e))
+equal : (ue : ℕ) (q x : Channel) → channel_cmp q x ≡ Equal → is_own ue x ≡ is_own ue q
+equal ue q x e = ap (is_own ue) (sym (channel_exact q x e))
 
 module _ {M : Type 0} (ue : ℕ) where
   -- ---- dues of the terminal are those of its requests
@@ -99,7 +99,7 @@ module _ {M : Type 0} (ue : ℕ) where
   found_own : (es fs : Entries M) → ((peer : NodeId) → find channel_cmp es (channel ue peer) ≡ find channel_cmp fs (channel ue peer)) → (q : Channel)
       → seek channel_cmp q (own ue es) ≡ seek channel_cmp q (own ue fs)
   found_own es fs same q =
-      find-where_key channel_cmp (is_own ue) q (alike ue q) es ∙ by (is_own ue q) refl ∙ sym (find-where_key channel_cmp (is_own ue) q (alike ue q) fs)
+      find-where_key channel_cmp (is_own ue) q (equal ue q) es ∙ by (is_own ue q) refl ∙ sym (find-where_key channel_cmp (is_own ue) q (equal ue q) fs)
     where
       by : (b : Bool) → is_own ue q ≡ b → cond b (seek channel_cmp q es) None ≡ cond b (seek channel_cmp q fs) None
       by false is = refl

@@ -9,14 +9,14 @@ use Rattle.gnb_types.specs.Orders.{channel_cmp, ue_cmp}
 use Rattle.tables.specs.Tables.{IsSorted}
 use Rattle.message_types.specs.declared.rrc.Token.{Token}
 use Rattle.unit_defs.specs.Ways.{Message, gives, spent}
-use Rattle.unit_defs.specs.UpRecords.{CuUp}
+use Rattle.unit_defs.specs.CuUpRecords.{CuUp}
 use Rattle.unit_defs.specs.CuUp.{cu_up_acts}
 use Rattle.unit_defs.specs.Du.{Du, du_acts}
 use Rattle.unit_defs.specs.Ue.{UeNode, ue_acts}
-use Rattle.unit_defs.specs.CpRecords.{CuCpRecord, new_cu_cp}
+use Rattle.unit_defs.specs.CuCpRecords.{CuCpRecord, new_cu_cp}
 use Rattle.unit_defs.specs.CuCp.{cu_cp_acts}
 use Rattle.unit_defs.specs.Core.{CoreRecord, core_acts}
-use Rattle.run_defs.specs.Units.{cp_of}
+use Rattle.run_defs.specs.Units.{cu_cp_of}
 use Rattle.run_defs.specs.States.{goes}
 use Rattle.run_defs.specs.Runs.{Reading, Plain, plain_way, plain_world}
 use Rattle.proof_unit_steps.specs.answers.After.{HoldsAfter}
@@ -29,7 +29,7 @@ use Rattle.law_requests_act_once.proofs.channel.Kept.{good_of}
 use Rattle.law_requests_act_once.proofs.channel_rows.Undated.{sorted_of}
 use Rattle.proof_run_steps.specs.control.Control.{IsKept, control_of}
 use Rattle.proof_run_steps.proofs.control.Runs.{made_holds as control_holds}
-use Rattle.law_requests_act_once.specs.run_channels.Tied.{PlainControl, run_talk, kept_by, IsPassed, at_first, by_answer, by_coming, by_placing, by_core as by_core_step}
+use Rattle.law_requests_act_once.specs.run_channels.Reached.{PlainControl, run_talk, kept_by, IsPassed, at_first, by_answer, by_coming, by_placing, by_core as by_core_step}
 use Rattle.law_requests_act_once.proofs.run_once.Joint.{Joint}
 use Rattle.law_requests_act_once.proofs.run_once.Passed.{joint}
 use Rattle.law_terminals_are_isolated.specs.own_events.Events.{RunState}
@@ -98,7 +98,7 @@ module _ (reading : Reading) where
   ordered_on t (one_more event x y told p made) =
       made_holds (plain_world reading) (written_facts in_order) (plain_kept in_order keep reading) event x (goes told y) made (ordered_on x p)
 
-  pub terminals_on : (t : RunState) → AfterSteps reading t → (gnb : Gnb) → IsSorted ue_cmp (cp_of t.units gnb).terminals
+  pub terminals_on : (t : RunState) → AfterSteps reading t → (gnb : Gnb) → IsSorted ue_cmp (cu_cp_of t.units gnb).terminals
   terminals_on t p gnb = (ordered_on t p).units.2 gnb
 
   -- ---- open requests
@@ -119,4 +119,4 @@ module _ (reading : Reading) where
   requests_on t p node =
       let k : PlainControl = control_of t in
       let j : Joint k = joint reading k (passed_on t p) in
-      sorted_of run_talk (good_of run_talk j.tied.orders j.tied.comes.may) node (kept_by k node) (j.tied.comes.nodes node)
+      sorted_of run_talk (good_of run_talk j.reached.orders j.reached.comes.may) node (kept_by k node) (j.reached.comes.nodes node)

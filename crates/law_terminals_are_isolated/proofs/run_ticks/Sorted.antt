@@ -17,10 +17,10 @@ use Rattle.tables.proofs.TableLaws.{sorted-put}
 use Rattle.transaction_defs.specs.Callers.{due, Due, repeats, expires}
 use Rattle.unit_defs.specs.Ways.{Message, f1, e1, xn, Input, control_input, packet_input, radio_input, confirm_input, offer_input, tick_input, order_input, Way, Answer, nothing}
 use Rattle.unit_defs.specs.Messages.{channel, shares_interface}
-use Rattle.unit_defs.specs.Static.{cp_placed}
+use Rattle.unit_defs.specs.Static.{cu_cp_placed}
 use Rattle.unit_defs.specs.Transactions.{Kind, request, reply, transfer, kind_of, Asked, ask, ask_at_once, advance, replied, replied_late}
-use Rattle.unit_defs.specs.CpRecords.{Attempt, CuCpRecord, terminal_of, with_transactions, Say, asks, cancels, replies, replies_late, sends, fails, ignores, refuses, forgets, Row, row, row_spent, with_terminal, with_attempt, waiting_of, after_begun, after_asked, noted, say_one, say_all, carry_out}
-use Rattle.unit_defs.specs.CuCp.{at_of, Answered, answers_none, answers_with, answer, after_failed_setup, put_next, closed_at, answered_by, reply_came, with_unit, set_up, asked, token_came, transferred, control_by, control_came, due_one, due_each, command_on, command_each, ues_of, tick, ordered, cu_cp_acts}
+use Rattle.unit_defs.specs.CuCpRecords.{Attempt, CuCpRecord, terminal_of, with_transactions, Action, asks, cancels, replies, replies_late, sends, fails, ignores, refuses, forgets, Row, row, row_spent, with_terminal, with_attempt, waiting_of, after_begun, after_asked, noted, act_one, act_all, carry_out}
+use Rattle.unit_defs.specs.CuCp.{at_of, Answered, answers_none, answers_with, answer, after_failed_setup, put_next, closed_at, answered_by, reply_received, with_unit, set_up, asked, token_received, transferred, control_by, control_received, due_one, due_each, command_on, command_each, ues_of, tick, ordered, cu_cp_acts}
 use Rattle.proof_unit_steps.specs.answers.After.{HoldsAfter}
 use Rattle.proof_unit_steps.proofs.answers.Answers.{holds_if, holds_then, any_then, holds_request, holds_reply}
 
@@ -47,8 +47,8 @@ module _ {M C P : Type 0} (way : Way M C P) where
       by None = h
       by (Some instance) = sorted-put ue_total r.terminals ue _ h
 
-  say_stays : (ue : UeId) (s : Say C) (r : CuCpRecord M C) → Ordered r → Stays (say_one way ue r s)
-  unfolding say_one
+  say_stays : (ue : UeId) (s : Action C) (r : CuCpRecord M C) → Ordered r → Stays (act_one way ue r s)
+  unfolding act_one
   say_stays ue (asks to m deadline awaited) r h =
       any_then Ordered (ask way r.transactions (channel ue.0 to) (waiting_of way m deadline awaited))
       (λ a. nothing (after_asked way ue to (noted way ue to awaited r) a)) (λ a. after_stays ue to (noted way ue to awaited r) a (noted_stays ue to awaited r h))
@@ -65,10 +65,10 @@ module _ {M C P : Type 0} (way : Way M C P) where
   say_stays ue (refuses reason) r h = h
   say_stays ue forgets r h = h
 
-  says_stay : (ue : UeId) (ss : List (Say C)) (r : CuCpRecord M C) → Ordered r → Stays (say_all way ue ss r)
-  unfolding say_all
+  says_stay : (ue : UeId) (ss : List (Action C)) (r : CuCpRecord M C) → Ordered r → Stays (act_all way ue ss r)
+  unfolding act_all
   says_stay ue [] r h = h
-  says_stay ue (s ∷ ss) r h = holds_then Ordered Ordered (say_one way ue r s) (say_all way ue ss) (say_stays ue s r h) (λ q k. says_stay ue ss q k)
+  says_stay ue (s ∷ ss) r h = holds_then Ordered Ordered (act_one way ue r s) (act_all way ue ss) (say_stays ue s r h) (λ q k. says_stay ue ss q k)
 
   carry_stays : (ue : UeId) (x : Row C) (r : CuCpRecord M C) → Ordered r → Stays (carry_out way ue r x)
   unfolding carry_out
@@ -88,8 +88,8 @@ module _ {M C P : Type 0} (way : Way M C P) where
       holds_then Ordered Ordered (carry_out way ue (closed_at way c r) taken) (put_next way ue c) (carry_stays ue taken (closed_at way c r) h)
       (λ q k. next_stays ue c q k)
 
-  reply_stays : (ue : UeId) (c : Channel) (instance : ℕ) (m : Message C) (r : CuCpRecord M C) → Ordered r → Stays (reply_came way ue c instance m r)
-  unfolding reply_came
+  reply_stays : (ue : UeId) (c : Channel) (instance : ℕ) (m : Message C) (r : CuCpRecord M C) → Ordered r → Stays (reply_received way ue c instance m r)
+  unfolding reply_received
   reply_stays ue c instance m r h = answered_stays ue c m (answer way (at_of r ue) c.peer instance m (terminal_of r ue)) r h
 
   -- ---- requests and tokens
@@ -107,8 +107,8 @@ module _ {M C P : Type 0} (way : Way M C P) where
   asked_stays from (xn (xns.UeContextRelease ue i)) r h = carry_stays ue _ r h
   asked_stays from m r h = h
 
-  token_stays : (ue : UeId) (from : NodeId) (container : C) (r : CuCpRecord M C) → Ordered r → Stays (token_came way ue from container r)
-  unfolding token_came
+  token_stays : (ue : UeId) (from : NodeId) (container : C) (r : CuCpRecord M C) → Ordered r → Stays (token_received way ue from container r)
+  unfolding token_received
   token_stays ue from container r h = carry_stays ue _ r h
 
   transferred_stays : (from : NodeId) (m : Message C) (r : CuCpRecord M C) → Ordered r → Stays (transferred way from m r)
@@ -120,12 +120,12 @@ module _ {M C P : Type 0} (way : Way M C P) where
       holds_request way Ordered r r.transactions (channel n from) instance (λ t. asked way from m (with_transactions r t)) h
       (λ t. asked_stays from m (with_transactions r t) h)
   by_stays from m (reply n instance) r h =
-      holds_reply way Ordered r r.transactions (channel n from) instance (reply_came way (record { 0 = n }) (channel n from) instance m r) h
+      holds_reply way Ordered r r.transactions (channel n from) instance (reply_received way (record { 0 = n }) (channel n from) instance m r) h
       (reply_stays (record { 0 = n }) (channel n from) instance m r h)
   by_stays from m (transfer n) r h = transferred_stays from m r h
 
-  control_stays : (from : NodeId) (m : Message C) (r : CuCpRecord M C) → Ordered r → Stays (control_came way from m r)
-  unfolding control_came
+  control_stays : (from : NodeId) (m : Message C) (r : CuCpRecord M C) → Ordered r → Stays (control_received way from m r)
+  unfolding control_received
   control_stays from m r h = holds_if Ordered (shares_interface (cp_node r.gnb) from) _ _ (by_stays from m (kind_of m) r h) h
 
   -- ---- a tick
@@ -168,6 +168,6 @@ module _ {M C P : Type 0} (way : Way M C P) where
   cp_stays (confirm_input ue bearer dir pdu content) r h = h
   cp_stays (offer_input ue bearer p) r h = h
 
-  pub placed_stays : (r : CuCpRecord M C) (plan : Plan) → Ordered r → Ordered (cp_placed r plan)
-  unfolding cp_placed
+  pub placed_stays : (r : CuCpRecord M C) (plan : Plan) → Ordered r → Ordered (cu_cp_placed r plan)
+  unfolding cu_cp_placed
   placed_stays r plan h = sorted-put ue_total r.terminals plan.ue _ h

@@ -1,4 +1,5 @@
--- A tick of a unit does the same for a terminal in two states after steps of runs, where its slice there and what is shared are the same.
+-- A tick of a unit does the same for a terminal in two states after steps of runs, where its projection there and what is shared are the
+-- same.
 use Rattle.std.proofs.Common.{◌≡◌, ℕ, ◌==◌, Bool, true, false, cond, List, [], ◌∷◌, map, Some, refl, sym, ap, ◌∙◌, subst, eqb-true}
 use Rattle.std.specs.Prelude.{if◌then◌else◌}
 use Rattle.std.specs.Ordering.{is_eq}
@@ -13,26 +14,26 @@ use Rattle.gnb_types.proofs.OrderLemmas.{node_total}
 use Rattle.tables.proofs.TableLaws.{at-put}
 use Rattle.message_types.specs.declared.rrc.Token.{Token}
 use Rattle.unit_defs.specs.Ways.{Message, Pdu, Load, Put, Output, control, packet, radio, deliver, dropped, held, opened, closed, failed, no, tick_input, gives, spent}
-use Rattle.unit_defs.specs.UpRecords.{CuUp}
+use Rattle.unit_defs.specs.CuUpRecords.{CuUp}
 use Rattle.unit_defs.specs.CuUp.{new_cu_up, cu_up_acts}
 use Rattle.unit_defs.specs.Du.{Du, new_du, du_acts}
-use Rattle.unit_defs.specs.CpRecords.{CuCpRecord}
+use Rattle.unit_defs.specs.CuCpRecords.{CuCpRecord}
 use Rattle.unit_defs.specs.CuCp.{cu_cp_acts}
-use Rattle.run_defs.specs.Units.{Units, cp_of, with_cp, up_of, with_up, du_of, with_du}
+use Rattle.run_defs.specs.Units.{Units, cu_cp_of, with_cu_cp, cu_up_of, with_cu_up, du_of, with_du}
 use Rattle.run_defs.specs.Written.{written_item, written_pdu, written_put, PlainStepped, written_step}
 use Rattle.run_defs.specs.States.{Lengths, stepped, step_spent, tick_for, sn_of}
 use Rattle.run_defs.specs.Runs.{Reading, Plain, plain_way, stepped_with, plain_by, plain_world}
-use Rattle.law_terminals_are_isolated.specs.slices.Steps.{seen}
-use Rattle.law_terminals_are_isolated.specs.cp_slice.CuCps.{cp_view}
-use Rattle.law_terminals_are_isolated.specs.up_slice.CuUps.{up_view}
-use Rattle.law_terminals_are_isolated.specs.du_slice.Dus.{du_view}
-use Rattle.law_terminals_are_isolated.specs.slice_arguments.Views.{StayAlikeAt}
-use Rattle.law_terminals_are_isolated.specs.tick_slices.Ticks.{names_ue, outputs_of, ShowsOwn, cp_own_tick, du_own_tick, up_own_tick}
-use Rattle.law_terminals_are_isolated.proofs.tick_slices.CuCps.{cp_shows, cp_depends}
-use Rattle.law_terminals_are_isolated.proofs.tick_slices.Dus.{du_shows, du_depends, up_shows, up_depends}
+use Rattle.law_terminals_are_isolated.specs.projections.Steps.{seen}
+use Rattle.law_terminals_are_isolated.specs.cu_cp_projection.CuCps.{cu_cp_view}
+use Rattle.law_terminals_are_isolated.specs.cu_up_projection.CuUps.{cu_up_view}
+use Rattle.law_terminals_are_isolated.specs.du_projection.Dus.{du_view}
+use Rattle.law_terminals_are_isolated.specs.projection_arguments.Views.{StayEqualAt}
+use Rattle.law_terminals_are_isolated.specs.tick_projections.Ticks.{names_ue, outputs_of, ShowsOwn, cu_cp_own_tick, du_own_tick, cu_up_own_tick}
+use Rattle.law_terminals_are_isolated.proofs.tick_projections.CuCps.{cp_shows, cp_depends}
+use Rattle.law_terminals_are_isolated.proofs.tick_projections.Dus.{du_shows, du_depends, up_shows, up_depends}
 use Rattle.law_terminals_are_isolated.specs.own_events.Events.{RunState}
 use Rattle.law_terminals_are_isolated.specs.all_steps.Steps.{AfterSteps}
-use Rattle.law_terminals_are_isolated.specs.run_ticks.Ticks.{IsUnit, TickAlike}
+use Rattle.law_terminals_are_isolated.specs.run_ticks.Ticks.{IsUnit, TickEqual}
 use Rattle.law_terminals_are_isolated.proofs.run_ticks.Runs.{terminals_on, requests_on}
 use Rattle.law_terminals_are_isolated.proofs.run_ticks.Dues.{dues_same}
 
@@ -108,8 +109,8 @@ module _ (reading : Reading) (ue : UeId) where
   kept view p q xs ys e = (cc, cc)
 
   both_show : {R S : Type 0} (node : NodeId) (view : R → S) (back again : R → RunUnits) (x y own other : Plain R) → ShowsOwn view ue.0 x own
-      → ShowsOwn view ue.0 y other → seen view own ≡ seen view other → ((r q : R) → view r ≡ view q → StayAlikeAt node ue (back r) (again q))
-      → TickAlike node ue (stepped_with reading back x) (stepped_with reading again y)
+      → ShowsOwn view ue.0 y other → seen view own ≡ seen view other → ((r q : R) → view r ≡ view q → StayEqualAt node ue (back r) (again q))
+      → TickEqual node ue (stepped_with reading back x) (stepped_with reading again y)
   both_show node view back again (gives xs r) (gives ys q) (gives os p) (gives ps s) first second same stay =
       let e = kept view p s os ps same in
       (first.0 ∙ ap (outputs_of ue.0) e.0 ∙ sym second.0, stay r q (first.1 ∙ e.1 ∙ sym second.1))
@@ -120,43 +121,43 @@ module _ (reading : Reading) (ue : UeId) where
   both_show node view back again (spent m) (spent n) own other first second same stay = tt
 
   -- what is put is there
-  up_there : (u : RunUnits) (gnb : Gnb) (number : ℕ) (r : CuUp (Message Token) Token) → up_of (with_up u gnb number r) gnb number ≡ r
+  up_there : (u : RunUnits) (gnb : Gnb) (number : ℕ) (r : CuUp (Message Token) Token) → cu_up_of (with_cu_up u gnb number r) gnb number ≡ r
   up_there u gnb number r =
       at-put node_total (new_cu_up gnb number) u.ups (up_id gnb number) r (up_id gnb number)
-      ∙ ap (λ (b : Bool). cond b r (up_of u gnb number)) (ap is_eq (tied_itself node_total (up_id gnb number)))
+      ∙ ap (λ (b : Bool). cond b r (cu_up_of u gnb number)) (ap is_eq (tied_itself node_total (up_id gnb number)))
 
   du_there : (u : RunUnits) (gnb : Gnb) (number : ℕ) (r : Du (Message Token) Token) → du_of (with_du u gnb number r) gnb number ≡ r
   du_there u gnb number r =
       at-put node_total (new_du gnb number) u.dus (du_id gnb number) r (du_id gnb number)
       ∙ ap (λ (b : Bool). cond b r (du_of u gnb number)) (ap is_eq (tied_itself node_total (du_id gnb number)))
 
-  cp_there : (gnb : Gnb) (u v : RunUnits) (r q : CuCpRecord (Message Token) Token) → cp_view ue r ≡ cp_view ue q
-      → StayAlikeAt (CuCp gnb) ue (with_cp u gnb r) (with_cp v gnb q)
+  cp_there : (gnb : Gnb) (u v : RunUnits) (r q : CuCpRecord (Message Token) Token) → cu_cp_view ue r ≡ cu_cp_view ue q
+      → StayEqualAt (CuCp gnb) ue (with_cu_cp u gnb r) (with_cu_cp v gnb q)
   cp_there A u v r q e = e
   cp_there B u v r q e = e
 
   module _ (s t : RunState) (p : AfterSteps reading s) (q : AfterSteps reading t) where
-    ticked : (node : NodeId) → IsUnit node → StayAlikeAt node ue s.units t.units
-        → TickAlike node ue (plain_by reading s.units node tick_for (Some tick_input)) (plain_by reading t.units node tick_for (Some tick_input))
+    ticked : (node : NodeId) → IsUnit node → StayEqualAt node ue s.units t.units
+        → TickEqual node ue (plain_by reading s.units node tick_for (Some tick_input)) (plain_by reading t.units node tick_for (Some tick_input))
     ticked (CuCp gnb) is e =
-        let r = cp_of s.units gnb in
-        let k = cp_of t.units gnb in
-        both_show (CuCp gnb) (cp_view ue) (with_cp s.units gnb) (with_cp t.units gnb) (cu_cp_acts plain_way r tick_input) (cu_cp_acts plain_way k tick_input)
-        (cp_own_tick plain_way ue r) (cp_own_tick plain_way ue k) (cp_shows plain_way ue r (terminals_on reading s p gnb))
+        let r = cu_cp_of s.units gnb in
+        let k = cu_cp_of t.units gnb in
+        both_show (CuCp gnb) (cu_cp_view ue) (with_cu_cp s.units gnb) (with_cu_cp t.units gnb) (cu_cp_acts plain_way r tick_input) (cu_cp_acts plain_way k tick_input)
+        (cu_cp_own_tick plain_way ue r) (cu_cp_own_tick plain_way ue k) (cp_shows plain_way ue r (terminals_on reading s p gnb))
         (cp_shows plain_way ue k (terminals_on reading t q gnb))
         (cp_depends plain_way ue r k e
         (dues_same ue.0 r.transactions.caller k.transactions.caller (requests_on reading s p (CuCp gnb)) (requests_on reading t q (CuCp gnb))
         (λ peer i. (e i).0.requests.opened peer)) (requests_on reading s p (CuCp gnb)) (requests_on reading t q (CuCp gnb)))
         (cp_there gnb s.units t.units)
     ticked (up_id gnb number) is e =
-        let r = up_of s.units gnb number in
-        let k = up_of t.units gnb number in
-        both_show (up_id gnb number) (up_view ue) (with_up s.units gnb number) (with_up t.units gnb number) (cu_up_acts plain_way r tick_input)
-        (cu_up_acts plain_way k tick_input) (up_own_tick plain_way ue r) (up_own_tick plain_way ue k) (up_shows plain_way ue r) (up_shows plain_way ue k)
+        let r = cu_up_of s.units gnb number in
+        let k = cu_up_of t.units gnb number in
+        both_show (up_id gnb number) (cu_up_view ue) (with_cu_up s.units gnb number) (with_cu_up t.units gnb number) (cu_up_acts plain_way r tick_input)
+        (cu_up_acts plain_way k tick_input) (cu_up_own_tick plain_way ue r) (cu_up_own_tick plain_way ue k) (up_shows plain_way ue r) (up_shows plain_way ue k)
         (up_depends plain_way ue r k e
         (dues_same ue.0 r.transactions.caller k.transactions.caller (requests_on reading s p (up_id gnb number)) (requests_on reading t q (up_id gnb number))
         (λ peer i. (e i).0.requests.opened peer)) (requests_on reading s p (up_id gnb number)) (requests_on reading t q (up_id gnb number)))
-        (λ x y at. ap (up_view ue) (up_there s.units gnb number x) ∙ at ∙ sym (ap (up_view ue) (up_there t.units gnb number y)))
+        (λ x y at. ap (cu_up_view ue) (up_there s.units gnb number x) ∙ at ∙ sym (ap (cu_up_view ue) (up_there t.units gnb number y)))
     ticked (du_id gnb number) is e =
         let r = du_of s.units gnb number in
         let k = du_of t.units gnb number in
@@ -169,8 +170,8 @@ module _ (reading : Reading) (ue : UeId) where
     ticked Core is e = absurd is
     ticked (Ue n) is e = absurd is
 
-    written : (a b : Lengths) → a ue ≡ b ue → (node : NodeId) (x y : PlainStepped) → TickAlike node ue x y
-        → TickAlike node ue (written_step a x) (written_step b y)
+    written : (a b : Lengths) → a ue ≡ b ue → (node : NodeId) (x y : PlainStepped) → TickEqual node ue x y
+        → TickEqual node ue (written_step a x) (written_step b y)
     written a b same node (stepped xs u) (stepped ys v) h = (
       outputs_written ue a xs ∙ ap (map (written_put a)) h.0 ∙ named_same ue a b same ys ∙ sym (outputs_written ue b ys),
       h.1,
@@ -179,7 +180,7 @@ module _ (reading : Reading) (ue : UeId) where
     written a b same node (step_spent m) (stepped ys v) h = tt
     written a b same node (step_spent m) (step_spent n) h = tt
 
-    pub ticks_alike : (node : NodeId) → IsUnit node → StayAlikeAt node ue s.units t.units → sn_of s ue ≡ sn_of t ue
-        → TickAlike node ue ((plain_world reading).answer (sn_of s) s.units node tick_for) ((plain_world reading).answer (sn_of t) t.units node tick_for)
-    ticks_alike node is e lengths = written (sn_of s) (sn_of t) lengths node (plain_by reading s.units node tick_for (Some tick_input))
+    pub ticks_equal : (node : NodeId) → IsUnit node → StayEqualAt node ue s.units t.units → sn_of s ue ≡ sn_of t ue
+        → TickEqual node ue ((plain_world reading).answer (sn_of s) s.units node tick_for) ((plain_world reading).answer (sn_of t) t.units node tick_for)
+    ticks_equal node is e lengths = written (sn_of s) (sn_of t) lengths node (plain_by reading s.units node tick_for (Some tick_input))
         (plain_by reading t.units node tick_for (Some tick_input)) (ticked node is e)

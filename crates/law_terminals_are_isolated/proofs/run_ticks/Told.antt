@@ -11,28 +11,28 @@ use Rattle.transaction_defs.specs.Callers.{Begin, begun, running, spent as begin
 use Rattle.unit_defs.specs.Ways.{Message, Pdu, Load, Put, control, packet, radio, deliver, dropped, held, opened, closed, failed, no, Way, tick_input, Answer, gives, spent, with_outputs, ◌then◌, nothing}
 use Rattle.unit_defs.specs.Messages.{channel}
 use Rattle.unit_defs.specs.Transactions.{Waiting, Transactions, is_empty, waits_at, with_waiting, begun_as, begin_request, ask, ask_at_once, replied, replied_late}
-use Rattle.unit_defs.specs.CpRecords.{CuCpRecord, terminal_of, with_transactions, Say, asks, cancels, replies, replies_late, sends, fails, ignores, refuses, forgets, Row, row, row_spent, with_terminal, waiting_of, after_asked, noted, say_one, say_all, carry_out}
+use Rattle.unit_defs.specs.CuCpRecords.{CuCpRecord, terminal_of, with_transactions, Action, asks, cancels, replies, replies_late, sends, fails, ignores, refuses, forgets, Row, row, row_spent, with_terminal, waiting_of, after_asked, noted, act_one, act_all, carry_out}
 use Rattle.unit_defs.specs.CuCp.{at_of, due_one, due_each, command_on, command_each, ues_of, tick, cu_cp_acts}
 use Rattle.unit_defs.specs.Du.{Du, due_output as du_output, tick as du_tick, du_acts}
-use Rattle.unit_defs.specs.UpRecords.{CuUp}
+use Rattle.unit_defs.specs.CuUpRecords.{CuUp}
 use Rattle.unit_defs.specs.CuUp.{due_output as up_output, tick as up_tick, cu_up_acts}
-use Rattle.run_defs.specs.Units.{Units, cp_of, with_cp, up_of, with_up, du_of, with_du}
+use Rattle.run_defs.specs.Units.{Units, cu_cp_of, with_cu_cp, cu_up_of, with_cu_up, du_of, with_du}
 use Rattle.run_defs.specs.Written.{written_put, PlainStepped, written_step}
 use Rattle.run_defs.specs.States.{Lengths, stepped, step_spent, tick_for}
 use Rattle.run_defs.specs.Runs.{Reading, Plain, plain_way, stepped_with, plain_by, plain_world}
-use Rattle.law_terminals_are_isolated.proofs.slices.Answers.{all_append}
-use Rattle.law_terminals_are_isolated.specs.run_ticks.Ticks.{IsUnit, IsTold, AreTold}
+use Rattle.law_terminals_are_isolated.proofs.projections.Answers.{all_append}
+use Rattle.law_terminals_are_isolated.specs.run_ticks.Ticks.{IsUnit, IsReported, AreReported}
 
 module _ {M P : Type 0} where
   abbrev Told : {R : Type 0} → Answer M P R → Type 0
-  Told (gives outputs after) = AllByRecursion IsTold outputs
+  Told (gives outputs after) = AllByRecursion IsReported outputs
   Told (spent counter) = Unit {0}
 
   told_then : {R S : Type 0} (a : Answer M P R) (f : R → Answer M P S) → Told a → ((r : R) → Told (f r)) → Told (a then f)
   told_then {S = S} (gives xs r) f p each = by (f r) (each r)
     where
       by : (b : Answer M P S) → Told b → Told (with_outputs xs b)
-      by (gives ys s) q = all_append IsTold xs ys p q
+      by (gives ys s) q = all_append IsReported xs ys p q
       by (spent n) q = tt
   told_then (spent n) f p each = tt
 
@@ -58,8 +58,8 @@ module _ {M C P : Type 0} (way : Way M C P) where
   unfolding ask_at_once
   at_once_told t c w = request_told (with_waiting (record t { caller = close t.caller c }) c []) c w
 
-  say_told : (ue : UeId) (s : Say C) (r : CuCpRecord M C) → Told (say_one way ue r s)
-  unfolding say_one replied replied_late
+  say_told : (ue : UeId) (s : Action C) (r : CuCpRecord M C) → Told (act_one way ue r s)
+  unfolding act_one replied replied_late
   say_told ue (asks to m deadline awaited) r =
       told_then (ask way r.transactions (channel ue.0 to) (waiting_of way m deadline awaited)) (λ a. nothing (after_asked way ue to (noted way ue to awaited r) a))
       (ask_told r.transactions (channel ue.0 to) (waiting_of way m deadline awaited)) (λ a. tt)
@@ -76,10 +76,10 @@ module _ {M C P : Type 0} (way : Way M C P) where
   say_told ue (refuses reason) r = (tt, tt)
   say_told ue forgets r = tt
 
-  says_told : (ue : UeId) (ss : List (Say C)) (r : CuCpRecord M C) → Told (say_all way ue ss r)
-  unfolding say_all
+  says_told : (ue : UeId) (ss : List (Action C)) (r : CuCpRecord M C) → Told (act_all way ue ss r)
+  unfolding act_all
   says_told ue [] r = tt
-  says_told ue (s ∷ ss) r = told_then (say_one way ue r s) (say_all way ue ss) (say_told ue s r) (says_told ue ss)
+  says_told ue (s ∷ ss) r = told_then (act_one way ue r s) (act_all way ue ss) (say_told ue s r) (says_told ue ss)
 
   carry_told : (ue : UeId) (x : Row C) (r : CuCpRecord M C) → Told (carry_out way ue r x)
   unfolding carry_out
@@ -108,7 +108,7 @@ module _ {M C P : Type 0} (way : Way M C P) where
   unfolding du_acts du_tick
   du_told r = each (due r.transactions.caller)
     where
-      each : (ds : List (Due M)) → AllByRecursion IsTold (flat_map (du_output way) ds)
+      each : (ds : List (Due M)) → AllByRecursion IsReported (flat_map (du_output way) ds)
       each [] = tt
       each (repeats c m ∷ ds) = (tt, each ds)
       each (expires c ∷ ds) = each ds
@@ -117,31 +117,31 @@ module _ {M C P : Type 0} (way : Way M C P) where
   unfolding cu_up_acts up_tick
   up_told r = each (due r.transactions.caller)
     where
-      each : (ds : List (Due M)) → AllByRecursion IsTold (flat_map (up_output way) ds)
+      each : (ds : List (Due M)) → AllByRecursion IsReported (flat_map (up_output way) ds)
       each [] = tt
       each (repeats c m ∷ ds) = (tt, each ds)
       each (expires c ∷ ds) = each ds
 
 module _ (reading : Reading) where
-  of_told : {R : Type 0} (back : R → Units (Message Token) Token) (a : Plain R) → Told a → AreTold (stepped_with reading back a)
+  of_told : {R : Type 0} (back : R → Units (Message Token) Token) (a : Plain R) → Told a → AreReported (stepped_with reading back a)
   of_told back (gives outputs r) h = h
   of_told back (spent counter) h = tt
 
-  ticked_told : (u : Units (Message Token) Token) (node : NodeId) → IsUnit node → AreTold (plain_by reading u node tick_for (Some tick_input))
-  ticked_told u (CuCp gnb) is = of_told (with_cp u gnb) (cu_cp_acts plain_way (cp_of u gnb) tick_input) (cp_told plain_way (cp_of u gnb))
+  ticked_told : (u : Units (Message Token) Token) (node : NodeId) → IsUnit node → AreReported (plain_by reading u node tick_for (Some tick_input))
+  ticked_told u (CuCp gnb) is = of_told (with_cu_cp u gnb) (cu_cp_acts plain_way (cu_cp_of u gnb) tick_input) (cp_told plain_way (cu_cp_of u gnb))
   ticked_told u (up_id gnb number) is =
-      of_told (with_up u gnb number) (cu_up_acts plain_way (up_of u gnb number) tick_input) (up_told plain_way (up_of u gnb number))
+      of_told (with_cu_up u gnb number) (cu_up_acts plain_way (cu_up_of u gnb number) tick_input) (up_told plain_way (cu_up_of u gnb number))
   ticked_told u (du_id gnb number) is =
       of_told (with_du u gnb number) (du_acts plain_way (du_of u gnb number) tick_input) (du_told plain_way (du_of u gnb number))
   ticked_told u Core is = absurd is
   ticked_told u (Ue n) is = absurd is
 
-  each_written : (lengths : Lengths) (xs : List (Put (Message Token) (Load Pdu) Pdu)) → AllByRecursion IsTold xs
-      → AllByRecursion IsTold (map (written_put lengths) xs)
+  each_written : (lengths : Lengths) (xs : List (Put (Message Token) (Load Pdu) Pdu)) → AllByRecursion IsReported xs
+      → AllByRecursion IsReported (map (written_put lengths) xs)
   each_written lengths [] all = tt
   each_written lengths (x ∷ xs) all = (by x all.0, each_written lengths xs all.1)
     where
-      by : (y : Put (Message Token) (Load Pdu) Pdu) → IsTold y → IsTold (written_put lengths y)
+      by : (y : Put (Message Token) (Load Pdu) Pdu) → IsReported y → IsReported (written_put lengths y)
       by (control to u m) is = tt
       by (packet to teid u bearer dir tag load) is = absurd is
       by (radio u bearer dir epoch tag pdu) is = absurd is
@@ -153,10 +153,10 @@ module _ (reading : Reading) where
       by (failed u cause) is = tt
       by (no reason) is = tt
 
-  written_told : (lengths : Lengths) (x : PlainStepped) → AreTold x → AreTold (written_step lengths x)
+  written_told : (lengths : Lengths) (x : PlainStepped) → AreReported x → AreReported (written_step lengths x)
   written_told lengths (stepped outputs v) h = each_written lengths outputs h
   written_told lengths (step_spent counter) h = tt
 
   pub ticks_told : (lengths : Lengths) (u : Units (Message Token) Token) (node : NodeId) → IsUnit node
-      → AreTold ((plain_world reading).answer lengths u node tick_for)
+      → AreReported ((plain_world reading).answer lengths u node tick_for)
   ticks_told lengths u node is = written_told lengths (plain_by reading u node tick_for (Some tick_input)) (ticked_told u node is)

@@ -1,4 +1,4 @@
--- After the same acts a terminal's slice is the same.
+-- After the same acts a terminal's projection is the same.
 use Rattle.std.proofs.Common.{◌≡◌, ℕ, List, [], ◌∷◌, sym, ap, ◌∙◌, subst}
 use Rattle.gnb_types.specs.declared.names.NodeId.{NodeId}
 use Rattle.gnb_types.specs.declared.names.NodeId.TheVariants.{CuUp as up_id, Du as du_id}
@@ -14,18 +14,18 @@ use Rattle.run_defs.specs.Written.{Written}
 use Rattle.run_defs.specs.States.{goes, new_state, RunStep}
 use Rattle.run_defs.specs.Runs.{Reading, plain_world}
 use Rattle.proof_run_steps.specs.steps.Causes.{node_of}
-use Rattle.proof_run_steps.specs.steps.Made.{Made}
+use Rattle.proof_run_steps.specs.steps.IsOutcome.{IsOutcome}
 use Rattle.law_terminals_are_isolated.specs.own_events.Events.{RunState, RunOutcome}
-use Rattle.law_terminals_are_isolated.specs.all_steps.Slices.{ShareSlice}
+use Rattle.law_terminals_are_isolated.specs.all_steps.Projections.{ShareProjection}
 use Rattle.law_terminals_are_isolated.specs.all_steps.Steps.{AfterSteps, NoneFor}
 use Rattle.law_terminals_are_isolated.proofs.all_steps.Shared.{share_same, share_back, share_then}
 use Rattle.law_terminals_are_isolated.proofs.all_steps.Others.{SharesAt, made_shares}
-use Rattle.law_terminals_are_isolated.specs.alike_steps.Places.{Shared, shared_at, RunCause, Place, in_place}
-use Rattle.law_terminals_are_isolated.specs.alike_states.States.{shared_but_room, IsTicked}
-use Rattle.law_terminals_are_isolated.specs.alike_states.Cores.{IsOffered, IsTaken}
-use Rattle.law_terminals_are_isolated.proofs.alike_states.Shares.{offer_shares, core_shares}
-use Rattle.law_terminals_are_isolated.specs.two_runs.Acts.{TerminalAct, acts_by, is_offered, is_taken, is_lost, ticks_at, is_placed, hears, ActsItself, IsLost, IsPlaced, Heard, IsHeard, HasActed, not_yet, by_others, by_itself, by_offer, by_core, by_loss, by_ticking, by_static, by_hearing}
-use Rattle.law_terminals_are_isolated.proofs.two_runs.Alike.{acted_after, itself_shares, loss_shares, tick_shares, placed_shares, heard_shares}
+use Rattle.law_terminals_are_isolated.specs.step_consistency.Places.{Shared, shared_at, RunCause, Place, in_place}
+use Rattle.law_terminals_are_isolated.specs.equal_projections.States.{shared_but_room, IsTicked}
+use Rattle.law_terminals_are_isolated.specs.equal_projections.Cores.{IsOffered, IsTaken}
+use Rattle.law_terminals_are_isolated.proofs.equal_projections.Shares.{offer_shares, core_shares}
+use Rattle.law_terminals_are_isolated.specs.two_runs.Acts.{TerminalAct, acts_by, is_offered, is_taken, is_lost, ticks_at, is_placed, receives, ActsItself, IsLost, IsPlaced, Received, IsReceived, HasActed, not_yet, by_others, by_itself, by_offer, by_core, by_loss, by_ticking, by_static, by_hearing}
+use Rattle.law_terminals_are_isolated.proofs.two_runs.EqualStates.{acted_after, itself_shares, loss_shares, tick_shares, placed_shares, received_shares}
 
 -- ---- what two acts have in common, where they are the same
 
@@ -74,19 +74,19 @@ up_in a b v w x y e = cc
 du_in : (a b : Plan) (v w x y : Shared) → is_placed a v w ≡ is_placed b x y → w ≡ y
 du_in a b v w x y e = cc
 
-heard_in : (a b : Heard) → hears a ≡ hears b → a ≡ b
-heard_in a b e = cc
+received_in : (a b : Received) → receives a ≡ receives b → a ≡ b
+received_in a b e = cc
 
 module _ (reading : Reading) (ue : UeId) where
   abbrev Share : RunState → RunState → Type 0
-  Share s t = ShareSlice ue s t
+  Share s t = ShareProjection ue s t
 
   abbrev Acted : List TerminalAct → RunState → Type 0
   Acted acts s = HasActed reading ue acts s
 
-  -- steps of others leave the slice
+  -- steps of others leave the projection
   others_share : (event : Event) (s t : RunState) (e : RunOutcome) (told : List (RunStep (Message Token))) → AfterSteps reading s
-      → (made : Made (plain_world reading) event s e) → NoneFor reading event ue s e made → e ≡ goes told t → Share s t
+      → (made : IsOutcome (plain_world reading) event s e) → NoneFor reading event ue s e made → e ≡ goes told t → Share s t
   others_share event s t e told p made none goes_so = subst (SharesAt reading ue s) goes_so (made_shares reading ue event s e made p none)
 
   -- what a run shares with another one after these acts, if it did so before its last one
@@ -103,7 +103,7 @@ module _ (reading : Reading) (ue : UeId) where
   from_first acts s t none first (by_loss list more end item x y p a is) = absurd cc
   from_first acts s t none first (by_ticking list rest node u v q b so) = absurd cc
   from_first acts s t none first (by_static list rest plan u v q b so) = absurd cc
-  from_first acts s t none first (by_hearing list rest heard u v q b so) = absurd cc
+  from_first acts s t none first (by_hearing list rest received u v q b so) = absurd cc
 
   itself_then : (acts more : List TerminalAct) (cause : RunCause) (place : Place) (s x : RunState) → Acted more s → ActsItself reading ue cause place s x
       → acts ≡ acts_by cause (shared_at s.units (node_of (in_place place cause))) ∷ more → Shares more s → Shares acts x
@@ -125,7 +125,7 @@ module _ (reading : Reading) (ue : UeId) where
   itself_then acts more cause place s x p a is again t (by_loss list rest end item u v q b so) = absurd cc
   itself_then acts more cause place s x p a is again t (by_ticking list rest node u v q b so) = absurd cc
   itself_then acts more cause place s x p a is again t (by_static list rest plan u v q b so) = absurd cc
-  itself_then acts more cause place s x p a is again t (by_hearing list rest heard u v q b so) = absurd cc
+  itself_then acts more cause place s x p a is again t (by_hearing list rest received u v q b so) = absurd cc
 
   offer_then : (acts more : List TerminalAct) (bearer : BearerId) (packet : List ℕ) (s x : RunState) → Acted more s → IsOffered reading ue bearer packet s x
       → acts ≡ is_offered bearer packet ∷ more → Shares more s → Shares acts x
@@ -146,7 +146,7 @@ module _ (reading : Reading) (ue : UeId) where
   offer_then acts more bearer packet s x p a is again t (by_loss list rest end item u v q b so) = absurd cc
   offer_then acts more bearer packet s x p a is again t (by_ticking list rest node u v q b so) = absurd cc
   offer_then acts more bearer packet s x p a is again t (by_static list rest plan u v q b so) = absurd cc
-  offer_then acts more bearer packet s x p a is again t (by_hearing list rest heard u v q b so) = absurd cc
+  offer_then acts more bearer packet s x p a is again t (by_hearing list rest received u v q b so) = absurd cc
 
   core_then : (acts more : List TerminalAct) (from : NodeId) (message : Message Token) (s x : RunState) → Acted more s → IsTaken reading ue from message s x
       → acts ≡ is_taken from message ∷ more → Shares more s → Shares acts x
@@ -167,7 +167,7 @@ module _ (reading : Reading) (ue : UeId) where
   core_then acts more from message s x p a is again t (by_loss list rest end item u v q b so) = absurd cc
   core_then acts more from message s x p a is again t (by_ticking list rest node u v q b so) = absurd cc
   core_then acts more from message s x p a is again t (by_static list rest plan u v q b so) = absurd cc
-  core_then acts more from message s x p a is again t (by_hearing list rest heard u v q b so) = absurd cc
+  core_then acts more from message s x p a is again t (by_hearing list rest received u v q b so) = absurd cc
 
   loss_then : (acts more : List TerminalAct) (end : TunnelEnd) (item : Item (Written (Load Pdu))) (s x : RunState) → Acted more s → IsLost ue end item s x
       → acts ≡ is_lost end item ∷ more → Shares more s → Shares acts x
@@ -188,7 +188,7 @@ module _ (reading : Reading) (ue : UeId) where
   loss_then acts more end item s x p a is again t (by_core list rest from message u v q b so) = absurd cc
   loss_then acts more end item s x p a is again t (by_ticking list rest node u v q b so) = absurd cc
   loss_then acts more end item s x p a is again t (by_static list rest plan u v q b so) = absurd cc
-  loss_then acts more end item s x p a is again t (by_hearing list rest heard u v q b so) = absurd cc
+  loss_then acts more end item s x p a is again t (by_hearing list rest received u v q b so) = absurd cc
 
   tick_then : (acts more : List TerminalAct) (node : NodeId) (s x : RunState) → Acted more s → IsTicked reading node s x
       → acts ≡ ticks_at node (shared_but_room s.units node) ∷ more → Shares more s → Shares acts x
@@ -210,7 +210,7 @@ module _ (reading : Reading) (ue : UeId) where
   tick_then acts more node s x p a is again t (by_core list rest from message u v q b so) = absurd cc
   tick_then acts more node s x p a is again t (by_loss list rest end item u v q b so) = absurd cc
   tick_then acts more node s x p a is again t (by_static list rest plan u v q b so) = absurd cc
-  tick_then acts more node s x p a is again t (by_hearing list rest heard u v q b so) = absurd cc
+  tick_then acts more node s x p a is again t (by_hearing list rest received u v q b so) = absurd cc
 
   static_then : (acts more : List TerminalAct) (plan : Plan) (s x : RunState) → Acted more s → IsPlaced ue plan s x
       → acts ≡ is_placed plan (shared_but_room s.units (up_id plan.gnb plan.up)) (shared_but_room s.units (du_id plan.gnb plan.du)) ∷ more
@@ -234,27 +234,27 @@ module _ (reading : Reading) (ue : UeId) where
   static_then acts more plan s x p a is again t (by_core list rest from message u v q b so) = absurd cc
   static_then acts more plan s x p a is again t (by_loss list rest end item u v q b so) = absurd cc
   static_then acts more plan s x p a is again t (by_ticking list rest node u v q b so) = absurd cc
-  static_then acts more plan s x p a is again t (by_hearing list rest heard u v q b so) = absurd cc
+  static_then acts more plan s x p a is again t (by_hearing list rest received u v q b so) = absurd cc
 
-  hear_then : (acts more : List TerminalAct) (heard : Heard) (s x : RunState) → Acted more s → IsHeard reading ue heard s x
-      → acts ≡ hears heard ∷ more → Shares more s → Shares acts x
-  hear_then acts more heard s x p a is again t (not_yet list u none start) = absurd cc
-  hear_then acts more heard s x p a is again t (by_others list event u v e told q made apart goes_so) =
-      share_then ue x u v (hear_then acts more heard s x p a is again u q)
+  receive_then : (acts more : List TerminalAct) (received : Received) (s x : RunState) → Acted more s → IsReceived reading ue received s x
+      → acts ≡ receives received ∷ more → Shares more s → Shares acts x
+  receive_then acts more received s x p a is again t (not_yet list u none start) = absurd cc
+  receive_then acts more received s x p a is again t (by_others list event u v e told q made apart goes_so) =
+      share_then ue x u v (receive_then acts more received s x p a is again u q)
       (others_share event u v e told (acted_after reading ue list u q) made apart goes_so)
-  hear_then acts more heard s x p a is again t (by_hearing list rest second u v q b so) =
+  receive_then acts more received s x p a is again t (by_hearing list rest second u v q b so) =
       let both = sym is ∙ so in
       let one = act_of _ _ more rest both in
       let left = rest_of _ _ more rest both in
-      heard_shares reading ue heard s x u v (acted_after reading ue more s p) (acted_after reading ue rest u q)
+      received_shares reading ue received s x u v (acted_after reading ue more s p) (acted_after reading ue rest u q)
       (again u (subst (λ (list : List TerminalAct). Acted list u) (sym left) q)) a
-      (subst (λ (k : Heard). IsHeard reading ue k u v) (sym (heard_in heard second one)) b)
-  hear_then acts more heard s x p a is again t (by_itself list rest cause place u v q b so) = absurd cc
-  hear_then acts more heard s x p a is again t (by_offer list rest bearer packet u v q b so) = absurd cc
-  hear_then acts more heard s x p a is again t (by_core list rest from message u v q b so) = absurd cc
-  hear_then acts more heard s x p a is again t (by_loss list rest end item u v q b so) = absurd cc
-  hear_then acts more heard s x p a is again t (by_ticking list rest node u v q b so) = absurd cc
-  hear_then acts more heard s x p a is again t (by_static list rest plan u v q b so) = absurd cc
+      (subst (λ (k : Received). IsReceived reading ue k u v) (sym (received_in received second one)) b)
+  receive_then acts more received s x p a is again t (by_itself list rest cause place u v q b so) = absurd cc
+  receive_then acts more received s x p a is again t (by_offer list rest bearer packet u v q b so) = absurd cc
+  receive_then acts more received s x p a is again t (by_core list rest from message u v q b so) = absurd cc
+  receive_then acts more received s x p a is again t (by_loss list rest end item u v q b so) = absurd cc
+  receive_then acts more received s x p a is again t (by_ticking list rest node u v q b so) = absurd cc
+  receive_then acts more received s x p a is again t (by_static list rest plan u v q b so) = absurd cc
 
   -- ---- the same acts
 
@@ -268,4 +268,4 @@ module _ (reading : Reading) (ue : UeId) where
   same_acts acts s (by_loss list more end item x y p a is) t q = loss_then list more end item x y p a is (same_acts more x p) t q
   same_acts acts s (by_ticking list more node x y p a is) t q = tick_then list more node x y p a is (same_acts more x p) t q
   same_acts acts s (by_static list more plan x y p a is) t q = static_then list more plan x y p a is (same_acts more x p) t q
-  same_acts acts s (by_hearing list more heard x y p a is) t q = hear_then list more heard x y p a is (same_acts more x p) t q
+  same_acts acts s (by_hearing list more received x y p a is) t q = receive_then list more received x y p a is (same_acts more x p) t q

@@ -9,15 +9,15 @@ use Rattle.gnb_types.specs.declared.names.UeId.{UeId}
 use Rattle.message_types.specs.declared.rrc.Token.{Token}
 use Rattle.scenario_text.specs.declared.event.Event.{Event}
 use Rattle.unit_defs.specs.Ways.{Message}
-use Rattle.transport_defs.specs.declared.Letter.{Letter}
+use Rattle.transport_defs.specs.declared.ControlMessage.{ControlMessage}
 use Rattle.run_defs.specs.Lines.{RunLine}
 use Rattle.run_defs.specs.States.{goes, stops, told_before, ◌next◌, goes_on, as_step, RunStep}
 use Rattle.run_defs.specs.Steps.{carried_out}
 use Rattle.run_defs.specs.Runs.{Reading, plain_world}
-use Rattle.proof_run_steps.specs.steps.Causes.{by_order, by_tick, by_octets, by_octets_on, by_attach, by_release, by_offer as by_own_offer, by_item, by_air, by_ack, by_letter, node_of, given_of, count_of, first_of}
-use Rattle.proof_run_steps.specs.steps.Made.{IsDone, Made, stays, ends, then_made, sets_up, starts, acts as acts_so, holds_item, holds_pdu, offers, core_takes, core_reads, lands, loses_letter, loses_item, remarks}
-use Rattle.law_terminals_are_isolated.specs.slices.Slices.{message_ue}
-use Rattle.law_terminals_are_isolated.specs.run_slices.Units.{given_ue}
+use Rattle.proof_run_steps.specs.steps.Causes.{by_order, by_tick, by_octets, by_octets_on, by_attach, by_release, by_offer as by_own_offer, by_item, by_air, by_ack, by_control_message, node_of, given_of, count_of, first_of}
+use Rattle.proof_run_steps.specs.steps.IsOutcome.{IsDone, IsOutcome, stays, ends, then_made, sets_up, starts, acts as acts_so, holds_item, holds_pdu, offers, core_takes, core_reads, lands, loses_control_message, loses_item, remarks}
+use Rattle.law_terminals_are_isolated.specs.projections.Projections.{message_ue}
+use Rattle.law_terminals_are_isolated.specs.run_projections.Units.{given_ue}
 use Rattle.law_terminals_are_isolated.specs.own_steps.Own.{IsActed}
 use Rattle.law_terminals_are_isolated.proofs.own_steps.Steps.{Sound}
 use Rattle.law_terminals_are_isolated.specs.own_events.Events.{RunState, RunOutcome}
@@ -25,11 +25,11 @@ use Rattle.law_terminals_are_isolated.specs.all_steps.Steps.{AfterSteps, none_ye
 use Rattle.law_terminals_are_isolated.proofs.all_steps.Paths.{sound_on}
 use Rattle.law_terminals_are_isolated.proofs.all_steps.Nones.{item_never, air_never, ack_never}
 use Rattle.law_terminals_are_isolated.specs.run_ticks.Ticks.{IsUnit}
-use Rattle.law_terminals_are_isolated.specs.alike_steps.Places.{RunCause, Place, in_place}
-use Rattle.law_terminals_are_isolated.proofs.alike_steps.Units.{RunUnits, RunPuts}
-use Rattle.law_terminals_are_isolated.specs.alike_states.Cores.{RunWithin, core_does, IsOffered}
-use Rattle.law_terminals_are_isolated.specs.two_runs.Acts.{TerminalAct, nowhere, IsBare, ActsItself, Heard, heard_from, heard_on, heard_cause, HasActed, not_yet, by_others, by_itself, by_offer, by_core, by_loss, by_ticking, by_static, by_hearing}
-use Rattle.law_terminals_are_isolated.proofs.two_runs.Alike.{acted_after}
+use Rattle.law_terminals_are_isolated.specs.step_consistency.Places.{RunCause, Place, in_place}
+use Rattle.law_terminals_are_isolated.proofs.step_consistency.Units.{RunUnits, RunPuts}
+use Rattle.law_terminals_are_isolated.specs.equal_projections.Cores.{RunWithin, core_does, IsOffered}
+use Rattle.law_terminals_are_isolated.specs.two_runs.Acts.{TerminalAct, nowhere, IsBare, ActsItself, Received, received_from, received_on, received_cause, HasActed, not_yet, by_others, by_itself, by_offer, by_core, by_loss, by_ticking, by_static, by_hearing}
+use Rattle.law_terminals_are_isolated.proofs.two_runs.EqualStates.{acted_after}
 
 -- ---- what outcomes say
 
@@ -70,7 +70,7 @@ parts (goes l z) more told t e = by (more z) refl e
 place_of : RunCause → Place
 place_of (by_item end item rest) = record { items = rest; pdus = []; number = 0 }
 place_of (by_ack key home item rest) = record { items = []; pdus = rest; number = 0 }
-place_of (by_letter number l to) = record { items = []; pdus = []; number = number }
+place_of (by_control_message number l to) = record { items = []; pdus = []; number = number }
 place_of cause = record { items = []; pdus = []; number = 0 }
 
 placed_so : (cause : RunCause) → in_place (place_of cause) (in_place nowhere cause) ≡ cause
@@ -85,7 +85,7 @@ placed_so (by_own_offer who bearer p) = refl
 placed_so (by_item end item rest) = refl
 placed_so (by_air key home item) = refl
 placed_so (by_ack key home item rest) = refl
-placed_so (by_letter number l to) = refl
+placed_so (by_control_message number l to) = refl
 
 still_bare : (cause : RunCause) → in_place nowhere (in_place nowhere cause) ≡ in_place nowhere cause
 still_bare (by_item end item rest) = refl
@@ -129,7 +129,7 @@ module _ (reading : Reading) (ue : UeId) where
   Lives s = (acts : List TerminalAct) × HasActed reading ue acts s × AllByRecursion IsBare acts
 
   others_live : (event : Event) (s t : RunState) (e : RunOutcome) (told : List (RunStep (Message Token))) → Lives s
-      → (made : Made (plain_world reading) event s e) → NoneFor reading event ue s e made → e ≡ goes told t → Lives t
+      → (made : IsOutcome (plain_world reading) event s e) → NoneFor reading event ue s e made → e ≡ goes told t → Lives t
   others_live event s t e told l made none goes_so = (l.0, by_others l.0 event s t e told l.1 made none goes_so, l.2)
 
   its_lives : (cause : RunCause) (s t : RunState) → Lives s → given_ue reading s.units (node_of cause) (given_of cause) ≡ Some ue → StepBy cause s t → Lives t
@@ -153,10 +153,10 @@ module _ (reading : Reading) (ue : UeId) where
       own : ActsItself reading ue (in_place nowhere cause) (place_of cause) s t
       own = abbrev_own cause its step (sym (placed_so cause))
 
-  heard_lives : (heard : Heard) (s t : RunState) → Lives s → StepBy (heard_cause ue heard) s t → Lives t
-  heard_lives heard s t l a = (
+  received_lives : (received : Received) (s t : RunState) → Lives s → StepBy (received_cause ue received) s t → Lives t
+  received_lives received s t l a = (
     _,
-    by_hearing _ l.0 heard s t l.1 (record {
+    by_hearing _ l.0 received s t l.1 (record {
       event = a.event;
       outputs = a.outputs;
       units = a.units;
@@ -169,35 +169,35 @@ module _ (reading : Reading) (ue : UeId) where
   )
 
   -- what is for no terminal, at the terminal's own node, is octets
-  hears_lives : (cause : RunCause) (s t : RunState) → Sound s → Lives s → IsNoTick cause → given_ue reading s.units (node_of cause) (given_of cause) ≡ None
+  receives_lives : (cause : RunCause) (s t : RunState) → Sound s → Lives s → IsNoTick cause → given_ue reading s.units (node_of cause) (given_of cause) ≡ None
       → node_of cause ≡ Ue ue.0 → StepBy cause s t → Lives t
-  hears_lives (by_octets from to octets) s t sound l other none at a =
-      heard_lives (heard_from from octets) s t l (subst (λ (n : NodeId). StepBy (by_octets from n octets) s t) at a)
-  hears_lives (by_octets_on end octets) s t sound l other none at a =
-      heard_lives (heard_on end.teid octets) s t l (subst (λ (n : NodeId). StepBy (by_octets_on (record { node = n; teid = end.teid }) octets) s t) at a)
-  hears_lives (by_order Core order) s t sound l other none at a = absurd cc
-  hears_lives (by_order (CuCp gnb) order) s t sound l other none at a = absurd cc
-  hears_lives (by_order (up_id gnb number) order) s t sound l other none at a = absurd cc
-  hears_lives (by_order (du_id gnb number) order) s t sound l other none at a = absurd cc
-  hears_lives (by_order (Ue n) order) s t sound l other none at a = absurd cc
-  hears_lives (by_tick Core) s t sound l other none at a = absurd cc
-  hears_lives (by_tick (Ue n)) s t sound l other none at a = absurd cc
-  hears_lives (by_tick (CuCp gnb)) s t sound l other none at a = absurd other
-  hears_lives (by_tick (up_id gnb number)) s t sound l other none at a = absurd other
-  hears_lives (by_tick (du_id gnb number)) s t sound l other none at a = absurd other
-  hears_lives (by_attach plan) s t sound l other none at a = absurd cc
-  hears_lives (by_release gnb who) s t sound l other none at a = absurd cc
-  hears_lives (by_own_offer who bearer p) s t sound l other none at a = absurd cc
-  hears_lives (by_item end item rest) s t sound l other none at a =
+  receives_lives (by_octets from to octets) s t sound l other none at a =
+      received_lives (received_from from octets) s t l (subst (λ (n : NodeId). StepBy (by_octets from n octets) s t) at a)
+  receives_lives (by_octets_on end octets) s t sound l other none at a =
+      received_lives (received_on end.teid octets) s t l (subst (λ (n : NodeId). StepBy (by_octets_on (record { node = n; teid = end.teid }) octets) s t) at a)
+  receives_lives (by_order Core order) s t sound l other none at a = absurd cc
+  receives_lives (by_order (CuCp gnb) order) s t sound l other none at a = absurd cc
+  receives_lives (by_order (up_id gnb number) order) s t sound l other none at a = absurd cc
+  receives_lives (by_order (du_id gnb number) order) s t sound l other none at a = absurd cc
+  receives_lives (by_order (Ue n) order) s t sound l other none at a = absurd cc
+  receives_lives (by_tick Core) s t sound l other none at a = absurd cc
+  receives_lives (by_tick (Ue n)) s t sound l other none at a = absurd cc
+  receives_lives (by_tick (CuCp gnb)) s t sound l other none at a = absurd other
+  receives_lives (by_tick (up_id gnb number)) s t sound l other none at a = absurd other
+  receives_lives (by_tick (du_id gnb number)) s t sound l other none at a = absurd other
+  receives_lives (by_attach plan) s t sound l other none at a = absurd cc
+  receives_lives (by_release gnb who) s t sound l other none at a = absurd cc
+  receives_lives (by_own_offer who bearer p) s t sound l other none at a = absurd cc
+  receives_lives (by_item end item rest) s t sound l other none at a =
       absurd (item_never reading s sound ue end.node end.teid item.key item.content.says _ (sound.tunnels end (item ∷ rest) a.acted.stands).0
       (ap is_some a.acted.stands) none)
-  hears_lives (by_air key home item) s t sound l other none at a = absurd (air_never reading s sound ue home key item a.acted.stands.0 key.dir none)
-  hears_lives (by_ack key home item rest) s t sound l other none at a = absurd (ack_never reading s sound ue home key item a.acted.stands.0 key.dir none)
-  hears_lives (by_letter number l Core) s t sound lives other none at a = absurd cc
-  hears_lives (by_letter number l (CuCp gnb)) s t sound lives other none at a = absurd cc
-  hears_lives (by_letter number l (up_id gnb n)) s t sound lives other none at a = absurd cc
-  hears_lives (by_letter number l (du_id gnb n)) s t sound lives other none at a = absurd cc
-  hears_lives (by_letter number l (Ue n)) s t sound lives other none at a = absurd cc
+  receives_lives (by_air key home item) s t sound l other none at a = absurd (air_never reading s sound ue home key item a.acted.stands.0 key.dir none)
+  receives_lives (by_ack key home item rest) s t sound l other none at a = absurd (ack_never reading s sound ue home key item a.acted.stands.0 key.dir none)
+  receives_lives (by_control_message number l Core) s t sound lives other none at a = absurd cc
+  receives_lives (by_control_message number l (CuCp gnb)) s t sound lives other none at a = absurd cc
+  receives_lives (by_control_message number l (up_id gnb n)) s t sound lives other none at a = absurd cc
+  receives_lives (by_control_message number l (du_id gnb n)) s t sound lives other none at a = absurd cc
+  receives_lives (by_control_message number l (Ue n)) s t sound lives other none at a = absurd cc
 
   -- ---- ticks of units
 
@@ -237,11 +237,11 @@ module _ (reading : Reading) (ue : UeId) where
   tick_or (by_item end item rest) = inl tt
   tick_or (by_air key home item) = inl tt
   tick_or (by_ack key home item rest) = inl tt
-  tick_or (by_letter number l to) = inl tt
+  tick_or (by_control_message number l to) = inl tt
 
   -- ---- a step of a unit, whosever it is
 
-  act_lives : (event : Event) (cause : RunCause) (outputs : RunPuts) (units : RunUnits) (s t : RunState) → Lives s → (made : Made (plain_world reading) event s
+  act_lives : (event : Event) (cause : RunCause) (outputs : RunPuts) (units : RunUnits) (s t : RunState) → Lives s → (made : IsOutcome (plain_world reading) event s
       (as_step (Some (node_of cause)) (carried_out (plain_world reading) (node_of cause) (count_of cause) (first_of (plain_world reading) cause) outputs units s)))
       → (IsNotFor ue cause (given_ue reading s.units (node_of cause) (given_of cause)) → NoneFor reading event ue s _ made)
       → (told : List (RunStep (Message Token)))
@@ -258,7 +258,7 @@ module _ (reading : Reading) (ue : UeId) where
         where
           at_node : IsNotMadeBy ue (node_of cause) ⊎ (node_of cause ≡ Ue ue.0) → Lives t
           at_node (inl away) = apart_from (subst (λ (o : Option UeId). IsNotFor ue cause o) (sym e) (other, away))
-          at_node (inr own) = hears_lives cause s t (sound_on reading s (acted_after reading ue l.0 s l.1)) l other e own a
+          at_node (inr own) = receives_lives cause s t (sound_on reading s (acted_after reading ue l.0 s l.1)) l other e own a
 
       by : (o : Option UeId) → given_ue reading s.units (node_of cause) (given_of cause) ≡ o → Lives t
       by None e = at_none e (tick_or cause)
@@ -270,7 +270,7 @@ module _ (reading : Reading) (ue : UeId) where
 
   -- ---- a whole event
 
-  made_lives : (event : Event) (s : RunState) (e : RunOutcome) (made : Made (plain_world reading) event s e) → Lives s
+  made_lives : (event : Event) (s : RunState) (e : RunOutcome) (made : IsOutcome (plain_world reading) event s e) → Lives s
       → (told : List (RunStep (Message Token))) (t : RunState) → e ≡ goes told t → Lives t
   made_lives event s e (stays x) l told t is = subst (λ (z : RunState). Lives z) (state_of [] told x t is) l
   made_lives event s e (ends x why) l told t is = absurd cc
@@ -323,17 +323,17 @@ module _ (reading : Reading) (ue : UeId) where
               outputs = outputs;
               core = core;
               lines = step.lines;
-              found = found ∙ ap (λ (k : Letter (Message Token)). Some k) same;
+              found = found ∙ ap (λ (k : ControlMessage (Message Token)). Some k) same;
               its = its;
               answers = is;
               few = few;
-              goes_so = sym (ap (λ (k : Letter (Message Token)). core_does reading number k outputs core x) same) ∙ step.goes_so;
+              goes_so = sym (ap (λ (k : ControlMessage (Message Token)). core_does reading number k outputs core x) same) ∙ step.goes_so;
             }) refl,
             (tt, lives.2),
           )
   made_lives event s e (core_reads x from octets outputs core is) l told t so = others_live event x t _ told l (core_reads x from octets outputs core is) tt so
-  made_lives event s e (lands x number letter to found at) l told t so = others_live event x t _ told l (lands x number letter to found at) tt so
-  made_lives event s e (loses_letter x number) l told t so = others_live event x t _ told l (loses_letter x number) tt so
+  made_lives event s e (lands x number control_message to found at) l told t so = others_live event x t _ told l (lands x number control_message to found at) tt so
+  made_lives event s e (loses_control_message x number) l told t so = others_live event x t _ told l (loses_control_message x number) tt so
   made_lives event s e (loses_item x end item rest found) l told t so = of (is_it item.key.ue)
     where
       of : (item.key.ue ≡ ue) ⊎ (item.key.ue ≢ ue) → Lives t

@@ -13,9 +13,9 @@ use Rattle.transport_defs.specs.declared.Item.{Item}
 use Rattle.run_defs.specs.States.{new_state, goes, RunStep}
 use Rattle.run_defs.specs.Runs.{Reading, plain_world, tunnel_end}
 use Rattle.proof_run_steps.specs.steps.Causes.{Cause, by_tick, node_of, given_of}
-use Rattle.proof_run_steps.specs.steps.Made.{Made, stays, ends, then_made, sets_up, starts, acts, holds_item, holds_pdu, offers, core_takes, core_reads, lands, loses_letter, loses_item, remarks}
-use Rattle.law_terminals_are_isolated.specs.slices.Slices.{message_ue}
-use Rattle.law_terminals_are_isolated.specs.run_slices.Units.{given_ue}
+use Rattle.proof_run_steps.specs.steps.IsOutcome.{IsOutcome, stays, ends, then_made, sets_up, starts, acts, holds_item, holds_pdu, offers, core_takes, core_reads, lands, loses_control_message, loses_item, remarks}
+use Rattle.law_terminals_are_isolated.specs.projections.Projections.{message_ue}
+use Rattle.law_terminals_are_isolated.specs.run_projections.Units.{given_ue}
 use Rattle.law_terminals_are_isolated.specs.own_events.Events.{RunState, RunOutcome}
 use Rattle.law_terminals_are_isolated.specs.named_events.Named.{event_ue}
 
@@ -23,7 +23,7 @@ use Rattle.law_terminals_are_isolated.specs.named_events.Named.{event_ue}
 pub data AfterSteps (reading : Reading) : RunState → Type 0 where
   none_yet : AfterSteps reading new_state
   one_more : (event : Event) (s t : RunState) (told : List (RunStep (Message Token))) → AfterSteps reading s
-      → Made (plain_world reading) event s (goes told t) → AfterSteps reading t
+      → IsOutcome (plain_world reading) event s (goes told t) → AfterSteps reading t
 
 -- ---- a step is no business of a terminal: it is another one's; or it is for none, no tick, and not made by the terminal
 
@@ -47,7 +47,7 @@ IsNotFor ue cause None = IsNoTick cause × IsNotMadeBy ue (node_of cause)
 
 -- So is each step of an event. One that is set up without messages, what the core puts and takes, and an item that is lost are
 -- another terminal's; a control message may be any one's when it is lost, and octets that don't decode are none's.
-abbrev pub NoneFor : (reading : Reading) (event : Event) (ue : UeId) (s : RunState) (e : RunOutcome) → Made (plain_world reading) event s e → Type 0
+abbrev pub NoneFor : (reading : Reading) (event : Event) (ue : UeId) (s : RunState) (e : RunOutcome) → IsOutcome (plain_world reading) event s e → Type 0
 NoneFor reading event ue s e (stays t) = Unit {0}
 NoneFor reading event ue s e (ends t why) = Unit {0}
 NoneFor reading event ue s e (then_made t d more p q) =
@@ -63,7 +63,7 @@ NoneFor reading event ue s e (offers t who bearer p path is found) = who ≢ ue
 NoneFor reading event ue s e (core_takes t number l outputs core found at is few) = message_ue l.from l.message ≢ ue
 NoneFor reading event ue s e (core_reads t from octets outputs core is) = Unit {0}
 NoneFor reading event ue s e (lands t number l to found at) = Unit {0}
-NoneFor reading event ue s e (loses_letter t number) = Unit {0}
+NoneFor reading event ue s e (loses_control_message t number) = Unit {0}
 NoneFor reading event ue s e (loses_item t end item rest found) = item.key.ue ≢ ue
 NoneFor reading event ue s e (remarks t lines plain) = Unit {0}
 

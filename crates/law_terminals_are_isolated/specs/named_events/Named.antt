@@ -11,28 +11,28 @@ use Rattle.message_types.specs.declared.rrc.Token.{Token}
 use Rattle.scenario_text.specs.declared.event.Event.{Event}
 use Rattle.scenario_text.specs.declared.event.Event.TheVariants as events
 use Rattle.unit_defs.specs.Ways.{Message}
-use Rattle.transport_defs.specs.declared.Letter.{Letter}
-use Rattle.transport_defs.specs.Links.{letter}
-use Rattle.run_defs.specs.Units.{Units, up_of, du_of}
-use Rattle.law_terminals_are_isolated.specs.slices.Slices.{message_ue}
-use Rattle.law_terminals_are_isolated.specs.up_slice.CuUps.{tunnel_ue as up_tunnel_ue}
-use Rattle.law_terminals_are_isolated.specs.du_slice.Dus.{tunnel_ue as du_tunnel_ue}
+use Rattle.transport_defs.specs.declared.ControlMessage.{ControlMessage}
+use Rattle.transport_defs.specs.Links.{control_message}
+use Rattle.run_defs.specs.Units.{Units, cu_up_of, du_of}
+use Rattle.law_terminals_are_isolated.specs.projections.Projections.{message_ue}
+use Rattle.law_terminals_are_isolated.specs.cu_up_projection.CuUps.{tunnel_ue as up_tunnel_ue}
+use Rattle.law_terminals_are_isolated.specs.du_projection.Dus.{tunnel_ue as du_tunnel_ue}
 use Rattle.law_terminals_are_isolated.specs.own_events.Events.{RunState}
 
 -- whose an open TEID is
 abbrev pub teid_ue : Units (Message Token) Token → NodeId → ℕ → Option UeId
-teid_ue units (CuUp gnb number) teid = up_tunnel_ue (find nat_cmp (up_of units gnb number).tunnels teid)
+teid_ue units (CuUp gnb number) teid = up_tunnel_ue (find nat_cmp (cu_up_of units gnb number).tunnels teid)
 teid_ue units (Du gnb number) teid = du_tunnel_ue (find nat_cmp (du_of units gnb number).tunnels teid)
 teid_ue units node teid = None
 
 -- a terminal takes what is for itself
-abbrev pub taker_ue : NodeId → Letter (Message Token) → UeId
+abbrev pub taker_ue : NodeId → ControlMessage (Message Token) → UeId
 taker_ue (Ue ue) l = record { 0 = ue }
 taker_ue node l = message_ue l.from l.message
 
-abbrev pub letter_ue : Option (Letter (Message Token)) → Option UeId
-letter_ue None = None
-letter_ue (Some l) = Some (taker_ue l.to l)
+abbrev pub control_message_ue : Option (ControlMessage (Message Token)) → Option UeId
+control_message_ue None = None
+control_message_ue (Some l) = Some (taker_ue l.to l)
 
 -- a handover is that of the plan that is kept
 abbrev pub planned_ue : UeId → Option Plan → UeId
@@ -46,7 +46,7 @@ event_ue s (events.Offer ue bearer dir packet) = Some ue
 event_ue s (events.Get node teid) = teid_ue s.units node teid
 event_ue s (events.Air ue bearer dir) = Some ue
 event_ue s (events.Ack ue bearer dir) = Some ue
-event_ue s (events.Give number) = letter_ue (letter s.bag number)
+event_ue s (events.Give number) = control_message_ue (control_message s.bag number)
 event_ue s (events.Poll ue bearer) = Some ue
 event_ue s (events.Fail ue) = Some ue
 event_ue s (events.Arrive ue) = Some ue

@@ -11,34 +11,34 @@ use Rattle.tables.specs.Tables.{find, put}
 use Rattle.message_types.specs.declared.rrc.Token.{Token}
 use Rattle.scenario_text.specs.declared.event.Event.{Event}
 use Rattle.unit_defs.specs.Ways.{Message, Load, Pdu, Put}
-use Rattle.unit_defs.specs.Static.{up_has_room, up_has_teids, du_has_teids}
+use Rattle.unit_defs.specs.Static.{cu_up_has_room, cu_up_has_teids, du_has_teids}
 use Rattle.transport_defs.specs.declared.Item.{Item}
 use Rattle.run_defs.specs.Lines.{RunLine}
-use Rattle.run_defs.specs.Units.{Units, up_of, du_of}
+use Rattle.run_defs.specs.Units.{Units, cu_up_of, du_of}
 use Rattle.run_defs.specs.Written.{Written}
 use Rattle.run_defs.specs.States.{new_state, goes, RunStep, was_attached}
 use Rattle.run_defs.specs.Steps.{carried_out}
 use Rattle.run_defs.specs.Conditions.{is_held_by_units, statically}
 use Rattle.run_defs.specs.Runs.{Reading, plain_world}
 use Rattle.proof_run_steps.specs.steps.Causes.{by_octets, by_octets_on, node_of, given_of, count_of, first_of}
-use Rattle.proof_run_steps.specs.steps.Made.{IsDone, Made}
-use Rattle.law_terminals_are_isolated.specs.run_slices.Units.{given_ue}
+use Rattle.proof_run_steps.specs.steps.IsOutcome.{IsDone, IsOutcome}
+use Rattle.law_terminals_are_isolated.specs.run_projections.Units.{given_ue}
 use Rattle.law_terminals_are_isolated.specs.own_steps.Own.{IsActed}
 use Rattle.law_terminals_are_isolated.specs.own_events.Events.{RunState, RunOutcome}
 use Rattle.law_terminals_are_isolated.specs.all_steps.Steps.{NoneFor}
-use Rattle.law_terminals_are_isolated.specs.alike_states.Cores.{IsOffered, IsTaken}
-use Rattle.law_terminals_are_isolated.specs.alike_states.States.{shared_but_room, IsTicked}
-use Rattle.law_terminals_are_isolated.specs.alike_steps.Places.{Shared, shared_at, RunCause, Place, in_place}
+use Rattle.law_terminals_are_isolated.specs.equal_projections.Cores.{IsOffered, IsTaken}
+use Rattle.law_terminals_are_isolated.specs.equal_projections.States.{shared_but_room, IsTicked}
+use Rattle.law_terminals_are_isolated.specs.step_consistency.Places.{Shared, shared_at, RunCause, Place, in_place}
 
 -- ---- octets from outside that come to the terminal's own node
 
-pub data Heard : Type 0 where
-  heard_from : (from : NodeId) (octets : List ℕ) → Heard
-  heard_on : (teid : ℕ) (octets : List ℕ) → Heard
+pub data Received : Type 0 where
+  received_from : (from : NodeId) (octets : List ℕ) → Received
+  received_on : (teid : ℕ) (octets : List ℕ) → Received
 
-abbrev pub heard_cause : UeId → Heard → RunCause
-heard_cause ue (heard_from from octets) = by_octets from (Ue ue.0) octets
-heard_cause ue (heard_on teid octets) = by_octets_on (record { node = Ue ue.0; teid = teid }) octets
+abbrev pub received_cause : UeId → Received → RunCause
+received_cause ue (received_from from octets) = by_octets from (Ue ue.0) octets
+received_cause ue (received_on teid octets) = by_octets_on (record { node = Ue ue.0; teid = teid }) octets
 
 -- ---- the acts of a terminal: a unit's step, what the core puts and takes, and an item that is lost; a tick of a unit, which is everyone's;
 -- that it is set up without messages; and octets that its own node drops
@@ -50,7 +50,7 @@ pub data TerminalAct : Type 0 where
   is_lost : (end : TunnelEnd) (item : Item (Written (Load Pdu))) → TerminalAct
   ticks_at : (node : NodeId) (shared : Shared) → TerminalAct
   is_placed : (plan : Plan) (up du : Shared) → TerminalAct
-  hears : (heard : Heard) → TerminalAct
+  receives : (received : Received) → TerminalAct
 
 -- of what is taken, nothing is said of its place
 abbrev pub nowhere : Place
@@ -85,27 +85,27 @@ pub record IsLost (ue : UeId) (end : TunnelEnd) (item : Item (Written (Load Pdu)
 pub record IsPlaced (ue : UeId) (plan : Plan) (s t : RunState) : Type 0 where
   pub its : plan.ue ≡ ue
   pub free : was_attached s plan.ue || is_held_by_units plan s.units ≡ false
-  pub room : up_has_room (up_of s.units plan.gnb plan.up) plan ≡ true
-  pub teids : up_has_teids (up_of s.units plan.gnb plan.up) plan && du_has_teids (du_of s.units plan.gnb plan.du) plan ≡ true
+  pub room : cu_up_has_room (cu_up_of s.units plan.gnb plan.up) plan ≡ true
+  pub teids : cu_up_has_teids (cu_up_of s.units plan.gnb plan.up) plan && du_has_teids (du_of s.units plan.gnb plan.du) plan ≡ true
   pub sets_up : t ≡ statically plan s
 
 -- the terminal's own node drops octets
-pub record IsHeard (reading : Reading) (ue : UeId) (heard : Heard) (s t : RunState) : Type 0 where
+pub record IsReceived (reading : Reading) (ue : UeId) (received : Received) (s t : RunState) : Type 0 where
   pub event : Event
   pub outputs : List (Put (Message Token) (Written (Load Pdu)) (Written Pdu))
   pub units : Units (Message Token) Token
   pub lines : List (RunLine (Message Token))
-  pub acted : IsActed (plain_world reading) event s (heard_cause ue heard) outputs units
+  pub acted : IsActed (plain_world reading) event s (received_cause ue received) outputs units
   pub done : IsDone outputs
-  pub goes_so : carried_out (plain_world reading) (node_of (heard_cause ue heard)) (count_of (heard_cause ue heard))
-      (first_of (plain_world reading) (heard_cause ue heard)) outputs units s ≡ goes lines t
+  pub goes_so : carried_out (plain_world reading) (node_of (received_cause ue received)) (count_of (received_cause ue received))
+      (first_of (plain_world reading) (received_cause ue received)) outputs units s ≡ goes lines t
 
 -- After steps of any events, one after another, from the first state, the terminal's acts were these, the newest first; of the steps
 -- between them none is the terminal's business.
 pub data HasActed (reading : Reading) (ue : UeId) : List TerminalAct → RunState → Type 0 where
   not_yet : (acts : List TerminalAct) (s : RunState) → acts ≡ [] → s ≡ new_state → HasActed reading ue acts s
   by_others : (acts : List TerminalAct) (event : Event) (s t : RunState) (e : RunOutcome) (told : List (RunStep (Message Token)))
-      → HasActed reading ue acts s → (made : Made (plain_world reading) event s e) → NoneFor reading event ue s e made → e ≡ goes told t
+      → HasActed reading ue acts s → (made : IsOutcome (plain_world reading) event s e) → NoneFor reading event ue s e made → e ≡ goes told t
       → HasActed reading ue acts t
   by_itself : (acts more : List TerminalAct) (cause : RunCause) (place : Place) (s t : RunState) → HasActed reading ue more s
       → ActsItself reading ue cause place s t → acts ≡ acts_by cause (shared_at s.units (node_of (in_place place cause))) ∷ more
@@ -121,5 +121,5 @@ pub data HasActed (reading : Reading) (ue : UeId) : List TerminalAct → RunStat
   by_static : (acts more : List TerminalAct) (plan : Plan) (s t : RunState) → HasActed reading ue more s → IsPlaced ue plan s t
       → acts ≡ is_placed plan (shared_but_room s.units (up_id plan.gnb plan.up)) (shared_but_room s.units (du_id plan.gnb plan.du)) ∷ more
       → HasActed reading ue acts t
-  by_hearing : (acts more : List TerminalAct) (heard : Heard) (s t : RunState) → HasActed reading ue more s → IsHeard reading ue heard s t
-      → acts ≡ hears heard ∷ more → HasActed reading ue acts t
+  by_hearing : (acts more : List TerminalAct) (received : Received) (s t : RunState) → HasActed reading ue more s → IsReceived reading ue received s t
+      → acts ≡ receives received ∷ more → HasActed reading ue acts t

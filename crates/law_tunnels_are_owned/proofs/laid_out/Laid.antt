@@ -105,9 +105,9 @@ module _ (reading : Reading) where
 
   line_laid : (actor : NodeId) (line : RunLine (Message Token)) → Tells PlainWorld PlainFacts actor line → IsLaidLine actor line
   line_laid actor (put_item link item) p = put_laid actor link item p
-  line_laid actor (put_message number letter) p = p.0
+  line_laid actor (put_message number control_message) p = p.0
   line_laid actor (got_item link item) p = tt
-  line_laid actor (got_message number letter) p = tt
+  line_laid actor (got_message number control_message) p = tt
   line_laid actor (delivers key count x) p = tt
   line_laid actor (lost_items link items) p = tt
   line_laid actor (lost_message number) p = tt

@@ -14,8 +14,8 @@ use Rattle.message_types.specs.declared.rrc.Token.{Token}
 use Rattle.unit_defs.specs.Ways.{Message, f1, e1, xn, Pdu, Input, control_input, packet_input, radio_input, confirm_input, offer_input, tick_input, order_input, Answer, ◌then◌, nothing, drops}
 use Rattle.unit_defs.specs.Messages.{channel, shares_interface}
 use Rattle.unit_defs.specs.Transactions.{Kind, request, reply, transfer, kind_of, ask, ask_at_once, advance, replied, replied_late}
-use Rattle.unit_defs.specs.CpRecords.{CuCpRecord, terminal_of, with_terminal, with_transactions, waiting_of, after_asked, noted, Say, asks, cancels, replies, replies_late, sends, fails, ignores, refuses, forgets, say_one, say_all, Row, row, row_spent, carry_out}
-use Rattle.unit_defs.specs.CuCp.{at_of, Answered, answers_none, answers_with, answer, put_next, closed_at, answered_by, reply_came, with_unit, set_up, asked, token_came, transferred, control_by, control_came, due_one, due_each, command_on, command_each, ues_of, tick, cu_cp_acts}
+use Rattle.unit_defs.specs.CuCpRecords.{CuCpRecord, terminal_of, with_terminal, with_transactions, waiting_of, after_asked, noted, Action, asks, cancels, replies, replies_late, sends, fails, ignores, refuses, forgets, act_one, act_all, Row, row, row_spent, carry_out}
+use Rattle.unit_defs.specs.CuCp.{at_of, Answered, answers_none, answers_with, answer, put_next, closed_at, answered_by, reply_received, with_unit, set_up, asked, token_received, transferred, control_by, control_received, due_one, due_each, command_on, command_each, ues_of, tick, cu_cp_acts}
 use Rattle.gnb_types.specs.declared.names.NodeId.TheVariants.{CuCp as cp_node}
 use Rattle.run_defs.specs.Runs.{plain_way}
 use Rattle.proof_run_steps.proofs.facts.Fits.{FitsAny, fits_if, any_then, ask_fits, at_once_fits, advance_fits, replied_fits, late_fits, fits_request, fits_reply}
@@ -36,8 +36,8 @@ module _ (node : NodeId) (taken : Option ℕ) where
 
   -- ---- whatever a row says
 
-  says_one : (ue : UeId) (r : Record) (s : Say Token) → Fits (say_one plain_way ue r s)
-  unfolding say_one
+  says_one : (ue : UeId) (r : Record) (s : Action Token) → Fits (act_one plain_way ue r s)
+  unfolding act_one
   says_one ue r (asks to m deadline awaited) =
       after (ask plain_way r.transactions (channel ue.0 to) (waiting_of plain_way m deadline awaited))
       (λ a. nothing (after_asked plain_way ue to (noted plain_way ue to awaited r) a))
@@ -57,10 +57,10 @@ module _ (node : NodeId) (taken : Option ℕ) where
   says_one ue r (refuses reason) = (tt, (tt, tt))
   says_one ue r forgets = (tt, tt)
 
-  says_all : (ue : UeId) (ss : List (Say Token)) (r : Record) → Fits (say_all plain_way ue ss r)
-  unfolding say_all
+  says_all : (ue : UeId) (ss : List (Action Token)) (r : Record) → Fits (act_all plain_way ue ss r)
+  unfolding act_all
   says_all ue [] r = (tt, tt)
-  says_all ue (s ∷ ss) r = after (say_one plain_way ue r s) (say_all plain_way ue ss) (says_one ue r s) (says_all ue ss)
+  says_all ue (s ∷ ss) r = after (act_one plain_way ue r s) (act_all plain_way ue ss) (says_one ue r s) (says_all ue ss)
 
   carried_out : (ue : UeId) (r : Record) (what : Row Token) → Fits (carry_out plain_way ue r what)
   unfolding carry_out
@@ -80,8 +80,8 @@ module _ (node : NodeId) (taken : Option ℕ) where
   answered_fits ue ch m r (answers_with (Some what)) =
       after (carry_out plain_way ue (closed_at plain_way ch r) what) (put_next plain_way ue ch) (carried_out ue (closed_at plain_way ch r) what) (next_fits ue ch)
 
-  reply_fits : (ue : UeId) (ch : Channel) (instance : ℕ) (m : Message Token) (r : Record) → Fits (reply_came plain_way ue ch instance m r)
-  unfolding reply_came
+  reply_fits : (ue : UeId) (ch : Channel) (instance : ℕ) (m : Message Token) (r : Record) → Fits (reply_received plain_way ue ch instance m r)
+  unfolding reply_received
   reply_fits ue ch instance m r = answered_fits ue ch m r (answer plain_way (at_of r ue) ch.peer instance m (terminal_of r ue))
 
   -- ---- requests and transfers
@@ -101,7 +101,7 @@ module _ (node : NodeId) (taken : Option ℕ) where
   asked_fits from m r = (tt, (tt, tt))
 
   transferred_fits : (from : NodeId) (m : Message Token) (r : Record) → Fits (transferred plain_way from m r)
-  unfolding token_came
+  unfolding token_received
   transferred_fits from (f1 (f1s.UlRrcMessageTransfer ue container)) r = carried_out ue r _
   transferred_fits from m r = (tt, (tt, tt))
 
@@ -111,11 +111,11 @@ module _ (node : NodeId) (taken : Option ℕ) where
       (λ t. asked_fits from m (with_transactions r t))
   control_by_fits from m r (reply ue i) =
       fits_reply link_items node taken (λ l. tt) (λ (x : Record). Unit {0}) r r.transactions (channel ue from) i
-      (reply_came plain_way (record { 0 = ue }) (channel ue from) i m r) tt (reply_fits (record { 0 = ue }) (channel ue from) i m r)
+      (reply_received plain_way (record { 0 = ue }) (channel ue from) i m r) tt (reply_fits (record { 0 = ue }) (channel ue from) i m r)
   control_by_fits from m r (transfer ue) = transferred_fits from m r
 
-  control_fits : (from : NodeId) (m : Message Token) (r : Record) → Fits (control_came plain_way from m r)
-  unfolding control_came
+  control_fits : (from : NodeId) (m : Message Token) (r : Record) → Fits (control_received plain_way from m r)
+  unfolding control_received
   control_fits from m r =
       either (shares_interface (cp_node r.gnb) from) (control_by plain_way from m r (kind_of m)) (drops Unexpected r) (control_by_fits from m r (kind_of m)) (tt, (tt, tt))
 

@@ -28,7 +28,7 @@ use Rattle.unit_defs.specs.Teids.{teids_are_left}
 use Rattle.unit_defs.specs.Transactions.{Kind, request, reply, transfer, kind_of, no_instance, ask, advance, replied}
 use Rattle.unit_defs.specs.Static.{uplinks_from, du_context, du_placed}
 use Rattle.unit_defs.specs.CuUp.{bearers_from}
-use Rattle.unit_defs.specs.Du.{DuBearer, DuContext, DuTunnel, Du, du_node, context_of, with_transactions, downlinks_of, downlink_list, bearers_made, bearers_anew, replies, closings, openings, old_downlinks, replaced, replaces, context_with, setup, context_anew, modify_on, modify, end_markers, released_on, release, relayed_down, relay_down, relayed_up, relay_up, token_ue, start, set_up, asked, transferred, of_cp, of_terminal, control_came, missing, is_missing, told, gap_after, carried, with_bearer, frame_came, taken_in, taken_of, taken_on, take, of_bearer, of_context, pass_up, confirmed, confirm, due_output, tick, du_acts}
+use Rattle.unit_defs.specs.Du.{DuBearer, DuContext, DuTunnel, Du, du_node, context_of, with_transactions, downlinks_of, downlink_list, bearers_made, bearers_anew, replies, closings, openings, old_downlinks, replaced, replaces, context_with, setup, context_anew, modify_on, modify, end_markers, released_on, release, relayed_down, relay_down, relayed_up, relay_up, token_ue, start, set_up, asked, transferred, of_cu_cp, of_terminal, control_received, missing, is_missing, told, gap_after, carried, with_bearer, frame_received, taken_in, taken_of, taken_on, take, of_bearer, of_context, pass_up, confirmed, confirm, due_output, tick, du_acts}
 use Rattle.run_defs.specs.States.{entity}
 use Rattle.run_defs.specs.Runs.{plain_way, taken_of as taken_load}
 use Rattle.proof_run_steps.specs.facts.Facts.{PutsFit}
@@ -183,7 +183,7 @@ module _ (node : NodeId) (at_du : IsDu node) (taken : Option ℕ) where
       (λ a. nothing (record r { is_set_up = true; transactions = a.transactions }))
       (advance_fits link_items node taken (λ l. tt) (record r.transactions { caller = close r.transactions.caller ch }) ch) (λ a. (p, tt))
 
-  of_cp_fits : (from : NodeId) (m : Message Token) (r : Record) (k : Kind) → DuNames r → Fits (of_cp plain_way from m r k)
+  of_cp_fits : (from : NodeId) (m : Message Token) (r : Record) (k : Kind) → DuNames r → Fits (of_cu_cp plain_way from m r k)
   of_cp_fits from m r (request ue i) p =
       fits_request link_items node taken (λ l. tt) DuNames r r.transactions (channel ue from) i (λ t. asked plain_way (channel ue from) m (with_transactions r t)) p
       (λ t. asked_fits (channel ue from) m (with_transactions r t) p)
@@ -191,10 +191,10 @@ module _ (node : NodeId) (at_du : IsDu node) (taken : Option ℕ) where
       fits_reply link_items node taken (λ l. tt) DuNames r r.transactions (channel ue from) i (set_up plain_way (channel ue from) r) p (is_set_up_fits (channel ue from) r p)
   of_cp_fits from m r (transfer ue) p = transferred_fits m r p
 
-  control_fits : (from : NodeId) (m : Message Token) (r : Record) → DuNames r → Fits (control_came plain_way from m r)
-  unfolding control_came
+  control_fits : (from : NodeId) (m : Message Token) (r : Record) → DuNames r → Fits (control_received plain_way from m r)
+  unfolding control_received
   control_fits (CuCp gnb) m r p =
-      either (is_same_gnb gnb r.gnb) (of_cp plain_way (CuCp gnb) m r (kind_of m)) (drops Unexpected r) (of_cp_fits (CuCp gnb) m r (kind_of m) p) (p, (tt, tt))
+      either (is_same_gnb gnb r.gnb) (of_cu_cp plain_way (CuCp gnb) m r (kind_of m)) (drops Unexpected r) (of_cp_fits (CuCp gnb) m r (kind_of m) p) (p, (tt, tt))
   control_fits (Ue ue) m r p = terminal_fits ue m r p
   control_fits from m r p = (p, (tt, tt))
 
@@ -215,7 +215,7 @@ module _ (node : NodeId) (at_du : IsDu node) (taken : Option ℕ) where
       (p, (du_on_air node (entity ue bearer Dl) (record { key = entity ue bearer Dl; count = taken; content = pdu }) at_du same refl, tt))
 
   frame_fits : (ue : UeId) (bearer : BearerId) (c : DuContext) (b : DuBearer) (item : Taken Pdu) (r : Record) → FrameAgrees taken item → DuNames r → IsNamed c → HasUp b
-      → Fits (frame_came plain_way ue bearer c b item r)
+      → Fits (frame_received plain_way ue bearer c b item r)
   frame_fits ue bearer c b (frame_item poll restart number pdu) r same p all is =
       let on : DuBearer = record b { awaited = number + 1; gap = gap_after plain_way b number restart pdu } in
       after (gives (told plain_way ue bearer b poll number) (with_bearer plain_way ue bearer c on r)) (carried plain_way ue bearer c (gap_after plain_way b number restart pdu) pdu) (

@@ -13,7 +13,7 @@ use Rattle.message_types.specs.declared.rrc.Token.{Token}
 use Rattle.tables.specs.Tables.{find}
 use Rattle.std.specs.List.{AllByRecursion}
 use Rattle.unit_defs.specs.Ways.{Message, Pdu, packet_pdu, report_pdu, Load, fresh, numbered, frame, uplink, status, end_marker, packet_content, Taken, numbered_item, uplink_item}
-use Rattle.unit_defs.specs.UpRecords.{Downlink, SourceHop, UpBearer, UpContext, CuUp}
+use Rattle.unit_defs.specs.CuUpRecords.{DownlinkTunnel, SourceHop, CuUpBearer, CuUpContext, CuUp}
 use Rattle.unit_defs.specs.Du.{DuBearer, DuContext, Du}
 use Rattle.unit_defs.specs.Core.{CorePath, CoreRecord}
 use Rattle.run_defs.specs.Runs.{taken_of}
@@ -114,7 +114,7 @@ on_air from key item p = absurd p
 
 -- ---- a CU-UP
 
-abbrev pub DownlinkNames : Option Downlink → Type 0
+abbrev pub DownlinkNames : Option DownlinkTunnel → Type 0
 DownlinkNames None = Unit {0}
 DownlinkNames (Some d) = IsDu d.du
 
@@ -122,14 +122,14 @@ abbrev pub HopNames : Option SourceHop → Type 0
 HopNames None = Unit {0}
 HopNames (Some hop) = IsCuUp hop.peer
 
-abbrev pub BearerNames : UpBearer → Type 0
+abbrev pub BearerNames : CuUpBearer → Type 0
 BearerNames b = DownlinkNames b.downlink × HopNames b.hop
 
-abbrev pub BearersName : List (BearerId × UpBearer) → Type 0
-BearersName bearers = AllByRecursion (λ (e : BearerId × UpBearer). BearerNames e.1) bearers
+abbrev pub BearersName : List (BearerId × CuUpBearer) → Type 0
+BearersName bearers = AllByRecursion (λ (e : BearerId × CuUpBearer). BearerNames e.1) bearers
 
-abbrev pub UpNames : CuUp (Message Token) Token → Type 0
-UpNames r = (ue : UeId) (c : UpContext) → find ue_cmp r.contexts ue ≡ Some c → BearersName c.bearers
+abbrev pub CuUpNames : CuUp (Message Token) Token → Type 0
+CuUpNames r = (ue : UeId) (c : CuUpContext) → find ue_cmp r.contexts ue ≡ Some c → BearersName c.bearers
 
 -- ---- a DU, and the core
 
@@ -144,12 +144,12 @@ CoreNames r = (ue : UeId) (path : CorePath) → find ue_cmp r.paths ue ≡ Some 
 
 abbrev pub link_items : UnitFacts
 link_items = record {
-  up = λ gnb number r. UpNames r;
+  up = λ gnb number r. CuUpNames r;
   du = λ gnb number r. DuNames r;
   cp = λ gnb r. Unit {0};
   ue = λ ue u. Unit {0};
   core = CoreNames;
-  letter = λ l. Unit {0};
+  control_message = λ l. Unit {0};
   puts_on = IsPutOnTunnel;
   puts_on_air = IsPutOnRadio;
   on_tunnel = IsOnTunnel;

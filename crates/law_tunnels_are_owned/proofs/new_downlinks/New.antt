@@ -22,9 +22,9 @@ use Rattle.unit_defs.specs.Ways.{Message, f1, e1, xn, core, rrc, Pdu, Taken, fra
 use Rattle.unit_defs.specs.Messages.{channel, is_same_gnb, bearers_of, are_first_bearers}
 use Rattle.unit_defs.specs.Transactions.{Kind, request, reply, transfer, kind_of, Transactions, replied, request_by, answered_again, on_request, on_reply}
 use Rattle.unit_defs.specs.Teids.{last_teid, teids_are_left}
-use Rattle.unit_defs.specs.Du.{Du, DuBearer, DuContext, DuTunnel, bearers_made, context_of, with_transactions, downlink_list, replies, openings, old_downlinks, replaced, replaces, context_with, setup, context_anew, modify_on, modify, set_up, asked, of_cp, control_came, du_acts}
+use Rattle.unit_defs.specs.Du.{Du, DuBearer, DuContext, DuTunnel, bearers_made, context_of, with_transactions, downlink_list, replies, openings, old_downlinks, replaced, replaces, context_with, setup, context_anew, modify_on, modify, set_up, asked, of_cu_cp, control_received, du_acts}
 use Rattle.proof_run_steps.specs.teids.Given.{below}
-use Rattle.proof_node_orders.specs.du_inputs.Changes.{DuPart, part_with, part_in, of_frame, of_tunnel, teid_anew, Change, stays, renews, sets_up, ends, takes, if_own, of_setup, of_modification, of_request, if_new, of_kind, of_letter, change_by}
+use Rattle.proof_node_orders.specs.du_inputs.Changes.{DuModel, model_with, model_in, of_frame, of_tunnel, teid_anew, Change, stays, renews, sets_up, ends, takes, if_own, of_setup, of_modification, of_request, if_new, of_kind, of_control_message, change_by}
 use Rattle.law_tunnels_are_owned.specs.new_downlinks.New.{IsNew}
 
 -- ---- TEIDs from the next one on
@@ -59,10 +59,10 @@ made_low bearer up next (t ∷ ts) b is = by (eq_by_cmp bearer_cmp bearer t.bear
     by false same more = let h = more same in omega (arith, h)
 
 part_low : (bearer : BearerId) (c : DuContext) (low : ℕ) → ((b : DuBearer) → find bearer_cmp c.bearers bearer ≡ Some b → low ≤ b.downlink)
-    → IsNew low (sets_up (part_in bearer (Some c)))
+    → IsNew low (sets_up (model_in bearer (Some c)))
 part_low bearer c low all = by (find bearer_cmp c.bearers bearer) all
   where
-    by : (o : Option DuBearer) → ((b : DuBearer) → o ≡ Some b → low ≤ b.downlink) → IsNew low (sets_up (part_with c o))
+    by : (o : Option DuBearer) → ((b : DuBearer) → o ≡ Some b → low ≤ b.downlink) → IsNew low (sets_up (model_with c o))
     by None h = tt
     by (Some b) h = h b refl
 
@@ -113,12 +113,12 @@ module _ (way : Way (Message Token) Token Pdu) (ue : UeId) (bearer : BearerId) w
       now : DuContext
       now = context_with way r epoch uplinks sn peer
 
-      by : (t : Bool) → Brings (if_own (eq_by_cmp ue_cmp ue other) (if not t then stays else sets_up (part_in bearer (Some now)))) r.next_teid
+      by : (t : Bool) → Brings (if_own (eq_by_cmp ue_cmp ue other) (if not t then stays else sets_up (model_in bearer (Some now)))) r.next_teid
           (if not t then drops Unexpected r else
           (replaces way other (context_of r other) now r then replies way ch (f1s.UeContextSetupResponse other instance (downlink_list now))))
       by true = replaced_new (eq_by_cmp ue_cmp ue other) other (context_of r other) now ch (f1s.UeContextSetupResponse other instance (downlink_list now)) r
-          (sets_up (part_in bearer (Some now)))
-          (λ is. subst (λ (low : ℕ). IsNew low (sets_up (part_in bearer (Some now)))) (sym is)
+          (sets_up (model_in bearer (Some now)))
+          (λ is. subst (λ (low : ℕ). IsNew low (sets_up (model_in bearer (Some now)))) (sym is)
           (part_low bearer now r.next_teid (λ b there. made_low bearer (CuUp peer.gnb peer.up) r.next_teid uplinks b there)))
       by false = own_any r.next_teid (eq_by_cmp ue_cmp ue other) stays (drops Unexpected r) tt
 
@@ -157,7 +157,7 @@ module _ (way : Way (Message Token) Token Pdu) (ue : UeId) (bearer : BearerId) w
   -- ---- a control message
 
   of_cp_new : (from : NodeId) (message : Message Token) (r : Record) (kind : Kind)
-      → Brings (of_kind way ue bearer from message r kind) r.next_teid (of_cp way from message r kind)
+      → Brings (of_kind way ue bearer from message r kind) r.next_teid (of_cu_cp way from message r kind)
   unfolding on_request
   of_cp_new from message r (request other instance) = by (verdict r.transactions.callee (channel other from) instance)
     where
@@ -169,19 +169,19 @@ module _ (way : Way (Message Token) Token Pdu) (ue : UeId) (bearer : BearerId) w
   of_cp_new from message r (reply other instance) = quiet r.next_teid _
   of_cp_new from message r (transfer other) = quiet r.next_teid _
 
-  letter_new : (from : NodeId) (message : Message Token) (r : Record)
-      → Brings (of_letter way ue bearer from message r) r.next_teid (control_came way from message r)
-  unfolding control_came
-  letter_new (CuCp gnb) message r = by (is_same_gnb gnb r.gnb)
+  control_message_new : (from : NodeId) (message : Message Token) (r : Record)
+      → Brings (of_control_message way ue bearer from message r) r.next_teid (control_received way from message r)
+  unfolding control_received
+  control_message_new (CuCp gnb) message r = by (is_same_gnb gnb r.gnb)
     where
       by : (t : Bool) → Brings (if t then of_kind way ue bearer (CuCp gnb) message r (kind_of message) else stays) r.next_teid
-          (if t then of_cp way (CuCp gnb) message r (kind_of message) else drops Unexpected r)
+          (if t then of_cu_cp way (CuCp gnb) message r (kind_of message) else drops Unexpected r)
       by true = of_cp_new (CuCp gnb) message r (kind_of message)
       by false = quiet r.next_teid (drops Unexpected r)
-  letter_new (Ue from) message r = quiet r.next_teid _
-  letter_new (CuUp gnb number) message r = quiet r.next_teid _
-  letter_new (du_id gnb number) message r = quiet r.next_teid _
-  letter_new Core message r = quiet r.next_teid _
+  control_message_new (Ue from) message r = quiet r.next_teid _
+  control_message_new (CuUp gnb number) message r = quiet r.next_teid _
+  control_message_new (du_id gnb number) message r = quiet r.next_teid _
+  control_message_new Core message r = quiet r.next_teid _
 
   -- ---- a frame
 
@@ -202,7 +202,7 @@ module _ (way : Way (Message Token) Token Pdu) (ue : UeId) (bearer : BearerId) w
 
   pub input_new : (r : Record) (input : Input Token Pdu) → Brings (change_by way ue bearer r input) r.next_teid (du_acts way r input)
   unfolding change_by du_acts
-  input_new r (control_input from message) = letter_new from message r
+  input_new r (control_input from message) = control_message_new from message r
   input_new r (packet_input teid item) = any r.next_teid _ _ (tunnel_new (below r.next_teid) item _)
   input_new r _ = quiet r.next_teid _
 

@@ -26,7 +26,7 @@ use Rattle.unit_defs.specs.Ways.{Message, f1, rrc, uplink, status, end_marker, T
 use Rattle.unit_defs.specs.Messages.{channel, is_same_gnb, bearers_of, are_first_bearers}
 use Rattle.unit_defs.specs.Teids.{teids_are_left, without_each}
 use Rattle.unit_defs.specs.Transactions.{Kind, request, reply, transfer, kind_of, no_instance, ask, advance, replied}
-use Rattle.unit_defs.specs.Du.{DuBearer, DuContext, DuTunnel, Du, du_node, context_of, with_transactions, downlinks_of, downlink_list, with_entries, replies, closings, openings, old_downlinks, replaced, replaces, context_with, setup, context_anew, modify_on, modify, end_markers, released_on, release, relayed_down, relay_down, relayed_up, relay_up, token_ue, start, set_up, asked, transferred, of_cp, of_terminal, control_came, missing, is_missing, told, gap_after, carried, with_bearer, frame_came, taken_in, taken_of, taken_on, take, of_bearer, of_context, pass_up, confirmed, confirm, due_output, tick, du_acts}
+use Rattle.unit_defs.specs.Du.{DuBearer, DuContext, DuTunnel, Du, du_node, context_of, with_transactions, downlinks_of, downlink_list, with_entries, replies, closings, openings, old_downlinks, replaced, replaces, context_with, setup, context_anew, modify_on, modify, end_markers, released_on, release, relayed_down, relay_down, relayed_up, relay_up, token_ue, start, set_up, asked, transferred, of_cu_cp, of_terminal, control_received, missing, is_missing, told, gap_after, carried, with_bearer, frame_received, taken_in, taken_of, taken_on, take, of_bearer, of_context, pass_up, confirmed, confirm, due_output, tick, du_acts}
 use Rattle.law_tunnels_are_owned.specs.open_tunnels.Open.{open_after, is_open_in}
 use Rattle.law_tunnels_are_owned.proofs.open_tunnels.Opened.{open_append, with_these, all_closed, all_opened, open_put, open_without_each}
 use Rattle.law_tunnels_are_owned.proofs.open_tunnels.Shows.{none_ask, none_advance, none_replied, none_due, Shows, shows_if, none_then, shows_then, shows_request, shows_reply}
@@ -152,7 +152,7 @@ module _ {M C P : Type 0} (way : Way M C P) where
       (λ a. record r { is_set_up = true; transactions = a.transactions })
       (none_advance way (record r.transactions { caller = close r.transactions.caller ch }) ch) (λ s q. refl)
 
-  of_cp_fits : (from : NodeId) (m : Message C) (r : Du M C) (k : Kind) → Fits r (of_cp way from m r k)
+  of_cp_fits : (from : NodeId) (m : Message C) (r : Du M C) (k : Kind) → Fits r (of_cu_cp way from m r k)
   of_cp_fits from m r (request ue i) =
       shows_request way tunnels_of r r.transactions (channel ue from) i (λ t. asked way (channel ue from) m (with_transactions r t))
       (λ t. asked_fits (channel ue from) m (with_transactions r t))
@@ -160,8 +160,8 @@ module _ {M C P : Type 0} (way : Way M C P) where
       (shows_reply way tunnels_of r r.transactions (channel ue from) i (set_up way (channel ue from) r) (set_up_fits (channel ue from) r))
   of_cp_fits from m r (transfer ue) = (transferred_fits m r)
 
-  control_fits : (from : NodeId) (m : Message C) (r : Du M C) → Fits r (control_came way from m r)
-  unfolding control_came
+  control_fits : (from : NodeId) (m : Message C) (r : Du M C) → Fits r (control_received way from m r)
+  unfolding control_received
   control_fits (CuCp gnb) m r =
       fits_if r (is_same_gnb gnb r.gnb) _ (drops Unexpected r) (of_cp_fits (CuCp gnb) m r (kind_of m)) (dropped_fits Unexpected r)
   control_fits (Ue ue) m r = (terminal_fits ue m r)
@@ -184,7 +184,7 @@ module _ {M C P : Type 0} (way : Way M C P) where
   carried_fits ue bearer c true (Some pdu) r = (λ q. refl)
   carried_fits ue bearer c false (Some pdu) r = (λ q. refl)
 
-  frame_fits : (ue : UeId) (bearer : BearerId) (c : DuContext) (b : DuBearer) (item : Taken P) (r : Du M C) → Fits r (frame_came way ue bearer c b item r)
+  frame_fits : (ue : UeId) (bearer : BearerId) (c : DuContext) (b : DuBearer) (item : Taken P) (r : Du M C) → Fits r (frame_received way ue bearer c b item r)
   frame_fits ue bearer c b (frame_item poll restart number pdu) r =
       shows_then way tunnels_of r.tunnels
       (gives (told way ue bearer b poll number) (with_bearer way ue bearer c (record b { awaited = number + 1; gap = gap_after way b number restart pdu }) r))

@@ -25,7 +25,7 @@ use Rattle.run_defs.specs.States.{State, World, Stop, goes, stops, told_before, 
 use Rattle.run_defs.specs.Steps.{first_outstanding, entities_of, checked_by, check_spans, noted, count_beside, item_of, on_tunnel, put_on_tunnel, put_on_connected, put_on_radio, put_control, opens, closes, radio_lost, lose_each, lose_radios_of, lose_radios, radios_of, same_epoch, epoch_now, connect_in, reconnect, reconnect_node, put_out, put_out_all, carried_out}
 use Rattle.run_defs.specs.Events.{leaves}
 use Rattle.scenario_text.specs.declared.event.Event.{Event}
-use Rattle.proof_run_steps.specs.steps.Causes.{Cause, by_order, by_tick, by_octets, by_octets_on, by_attach, by_release, by_offer, by_item, by_air, by_ack, by_letter, node_of, count_of, first_of, Stands}
+use Rattle.proof_run_steps.specs.steps.Causes.{Cause, by_order, by_tick, by_octets, by_octets_on, by_attach, by_release, by_offer, by_item, by_air, by_ack, by_control_message, node_of, count_of, first_of, Stands}
 use Rattle.law_tunnels_are_owned.specs.open_tunnels.Open.{open_after, stands}
 use Rattle.law_tunnels_are_owned.proofs.open_tunnels.Opened.{open_append}
 
@@ -290,7 +290,7 @@ module _ {M C L P : Type 0} (world : World M C L P) where
   first_kept event (by_item end item rest) s is units = there_again s.tunnels end rest (item ∷ rest) is
   first_kept event (by_air key home item) s is units = λ n q. refl
   first_kept event (by_ack key home item rest) s is units = λ n q. refl
-  first_kept event (by_letter number l to) s is units = λ n q. refl
+  first_kept event (by_control_message number l to) s is units = λ n q. refl
 
   pub act_told : (event : Event) (cause : Cause M L P) (outputs : List (Put M L P)) (units : Units M C) (s : State M C L P) → Stands event s cause
       → HasTunnels (λ n q. told (node_of cause) outputs n q (stands s n q))

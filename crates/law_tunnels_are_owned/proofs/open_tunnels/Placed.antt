@@ -18,15 +18,15 @@ use Rattle.gnb_types.specs.Orders.{node_cmp, tunnel_cmp}
 use Rattle.gnb_types.proofs.OrderLemmas.{node_total, node_exact}
 use Rattle.tables.specs.Tables.{find, at}
 use Rattle.tables.proofs.TableLaws.{at-put}
-use Rattle.unit_defs.specs.CpRecords.{CuCpRecord}
-use Rattle.unit_defs.specs.UpRecords.{CuUp}
-use Rattle.unit_defs.specs.UpBearers.{made}
+use Rattle.unit_defs.specs.CuCpRecords.{CuCpRecord}
+use Rattle.unit_defs.specs.CuUpRecords.{CuUp}
+use Rattle.unit_defs.specs.CuUpBearers.{made}
 use Rattle.unit_defs.specs.CuUp.{new_cu_up, bearers_from, bearers_made, entries_of}
 use Rattle.unit_defs.specs.Du.{Du, new_du, bearers_made as du_bearers}
-use Rattle.unit_defs.specs.Static.{with_downlinks, up_context, up_placed, cp_placed, uplinks_from, du_context, du_placed, up_set_up, du_set_up}
+use Rattle.unit_defs.specs.Static.{with_downlinks, cu_up_context, cu_up_placed, cu_cp_placed, uplinks_from, du_context, du_placed, cu_up_set_up, du_set_up}
 use Rattle.unit_defs.specs.Ue.{new_ue, placed}
 use Rattle.transport_defs.specs.declared.Item.{Item}
-use Rattle.run_defs.specs.Units.{Units, cp_of, up_of, with_up, du_of, with_du, with_ue, with_cp}
+use Rattle.run_defs.specs.Units.{Units, cu_cp_of, cu_up_of, with_cu_up, du_of, with_du, with_ue, with_cu_cp}
 use Rattle.run_defs.specs.States.{State}
 use Rattle.run_defs.specs.Steps.{with_tunnel}
 use Rattle.run_defs.specs.Conditions.{tunnels_from, units_placed, all_set_up, statically}
@@ -76,11 +76,11 @@ keys_counted ue context gnb du down next (b ∷ bs) =
     two n k = let a : k + 2 ≡ k + 1 + 1 = omega arith in λ i. k ∷ (k + 1) ∷ count_from (a i) n
 
 up_opens : {M C : Type 0} (r : CuUp M C) (plan : Plan) (downlink q : ℕ)
-    → is_open_in (up_placed r plan downlink).tunnels q ≡ with_these q (count_from r.next_teid (2 * plan.bearers)) (is_open_in r.tunnels q)
-unfolding up_placed
+    → is_open_in (cu_up_placed r plan downlink).tunnels q ≡ with_these q (count_from r.next_teid (2 * plan.bearers)) (is_open_in r.tunnels q)
+unfolding cu_up_placed
 up_opens r plan downlink q =
     let many : length (bearers_from 1 plan.bearers) * 2 ≡ 2 * plan.bearers = ap (λ (n : ℕ). n * 2) (how_many 1 plan.bearers) ∙ (omega arith) in
-    open_entries (flat_map (entries_of plan.ue r.next_teid) (up_context r plan downlink).bearers) r.tunnels q
+    open_entries (flat_map (entries_of plan.ue r.next_teid) (cu_up_context r plan downlink).bearers) r.tunnels q
     ∙ ap (λ (ks : List ℕ). with_these q ks (is_open_in r.tunnels q))
     (keys_counted plan.ue r.next_teid r.gnb plan.du downlink r.next_teid (bearers_from 1 plan.bearers) ∙ ap (count_from r.next_teid) many)
 
@@ -107,7 +107,7 @@ du_opens r plan uplink q =
 
 module _ {M C : Type 0} where
   abbrev pub open_up : Units M C → Gnb → ℕ → ℕ → Bool
-  open_up u gnb number teid = is_open_in (up_of u gnb number).tunnels teid
+  open_up u gnb number teid = is_open_in (cu_up_of u gnb number).tunnels teid
 
   abbrev pub open_du : Units M C → Gnb → ℕ → ℕ → Bool
   open_du u gnb number teid = is_open_in (du_of u gnb number).tunnels teid
@@ -115,13 +115,13 @@ module _ {M C : Type 0} where
   -- what a change of this name does, and no other
   pub up_becomes : (u : Units M C) (gnb : Gnb) (number : ℕ) (r : CuUp M C) (f : ℕ → Bool → Bool)
       → ((q : ℕ) → is_open_in r.tunnels q ≡ f q (open_up u gnb number q)) → (g : Gnb) (k q : ℕ)
-      → open_up (with_up u gnb number r) g k q ≡ (if eq_by_cmp node_cmp (up_id g k) (up_id gnb number) then f q (open_up u g k q) else open_up u g k q)
+      → open_up (with_cu_up u gnb number r) g k q ≡ (if eq_by_cmp node_cmp (up_id g k) (up_id gnb number) then f q (open_up u g k q) else open_up u g k q)
   up_becomes u gnb number r f is g k q =
       ap (λ (x : CuUp M C). is_open_in x.tunnels q) (at-put node_total (new_cu_up g k) u.ups (up_id gnb number) r (up_id g k))
       ∙ by (eq_by_cmp node_cmp (up_id g k) (up_id gnb number)) refl
     where
       by : (t : Bool) → eq_by_cmp node_cmp (up_id g k) (up_id gnb number) ≡ t
-          → is_open_in (cond t r (up_of u g k)).tunnels q ≡ (if t then f q (open_up u g k q) else open_up u g k q)
+          → is_open_in (cond t r (cu_up_of u g k)).tunnels q ≡ (if t then f q (open_up u g k q) else open_up u g k q)
       by true tie =
           let same : up_id g k ≡ up_id gnb number = node_exact (up_id g k) (up_id gnb number) ((Equal-is (node_cmp (up_id g k) (up_id gnb number))).0 tie) in
           let gnbs : gnb ≡ g = cc in
@@ -149,13 +149,13 @@ module _ {M C : Type 0} where
   set_up_same : (u : Units M C) (g : Gnb) (k q : ℕ) → (open_up (all_set_up u) g k q ≡ open_up u g k q) × (open_du (all_set_up u) g k q ≡ open_du u g k q)
   unfolding at
   set_up_same u g k q = (
-    ap (λ (o : Option (CuUp M C)). is_open_in (unwrap_or o (new_cu_up g k)).tunnels q) (find_mapped node_cmp up_set_up u.ups (up_id g k))
+    ap (λ (o : Option (CuUp M C)). is_open_in (unwrap_or o (new_cu_up g k)).tunnels q) (find_mapped node_cmp cu_up_set_up u.ups (up_id g k))
         ∙ up_by (find node_cmp u.ups (up_id g k)),
     ap (λ (o : Option (Du M C)). is_open_in (unwrap_or o (new_du g k)).tunnels q) (find_mapped node_cmp du_set_up u.dus (du_id g k))
         ∙ du_by (find node_cmp u.dus (du_id g k)),
   )
     where
-      up_by : (o : Option (CuUp M C)) → is_open_in (unwrap_or (option_map up_set_up o) (new_cu_up g k)).tunnels q ≡ is_open_in (unwrap_or o (new_cu_up g k)).tunnels q
+      up_by : (o : Option (CuUp M C)) → is_open_in (unwrap_or (option_map cu_up_set_up o) (new_cu_up g k)).tunnels q ≡ is_open_in (unwrap_or o (new_cu_up g k)).tunnels q
       up_by None = refl
       up_by (Some r) = refl
 
@@ -163,7 +163,7 @@ module _ {M C : Type 0} where
       du_by None = refl
       du_by (Some r) = refl
 
-  pub with_cp_same : (u : Units M C) (gnb : Gnb) (r : CuCpRecord M C) (g : Gnb) (k q : ℕ) → (open_up (with_cp u gnb r) g k q ≡ open_up u g k q) × (open_du (with_cp u gnb r) g k q ≡ open_du u g k q)
+  pub with_cp_same : (u : Units M C) (gnb : Gnb) (r : CuCpRecord M C) (g : Gnb) (k q : ℕ) → (open_up (with_cu_cp u gnb r) g k q ≡ open_up u g k q) × (open_du (with_cu_cp u gnb r) g k q ≡ open_du u g k q)
   with_cp_same u A r g k q = (refl, refl)
   with_cp_same u B r g k q = (refl, refl)
 
@@ -171,7 +171,7 @@ module _ {M C : Type 0} where
 
 module _ {M C L P : Type 0} (plan : Plan) (s : State M C L P) where
   up : CuUp M C
-  up = up_of s.units plan.gnb plan.up
+  up = cu_up_of s.units plan.gnb plan.up
 
   du : Du M C
   du = du_of s.units plan.gnb plan.du
@@ -180,7 +180,7 @@ module _ {M C L P : Type 0} (plan : Plan) (s : State M C L P) where
   with_terminal = with_ue s.units plan.ue (placed (new_ue plan))
 
   with_both : Units M C
-  with_both = with_du (with_up with_terminal plan.gnb plan.up (up_placed up plan du.next_teid)) plan.gnb plan.du (du_placed du plan (up.next_teid + 1))
+  with_both = with_du (with_cu_up with_terminal plan.gnb plan.up (cu_up_placed up plan du.next_teid)) plan.gnb plan.du (du_placed du plan (up.next_teid + 1))
 
   abbrev if_at : NodeId → NodeId → ℕ → ℕ → ℕ → Bool → Bool
   if_at n node first count q x = if eq_by_cmp node_cmp n node then with_these q (count_from first count) x else x
@@ -190,8 +190,8 @@ module _ {M C L P : Type 0} (plan : Plan) (s : State M C L P) where
   unfolding up du with_terminal with_both
   up_units g k q =
       (set_up_same (units_placed plan s.units) g k q).0
-      ∙ (with_cp_same with_both plan.gnb (cp_placed (cp_of s.units plan.gnb) plan) g k q).0
-      ∙ up_becomes with_terminal plan.gnb plan.up (up_placed up plan du.next_teid) (λ t x. with_these t (count_from up.next_teid (2 * plan.bearers)) x)
+      ∙ (with_cp_same with_both plan.gnb (cu_cp_placed (cu_cp_of s.units plan.gnb) plan) g k q).0
+      ∙ up_becomes with_terminal plan.gnb plan.up (cu_up_placed up plan du.next_teid) (λ t x. with_these t (count_from up.next_teid (2 * plan.bearers)) x)
       (up_opens up plan du.next_teid) g k q
 
   du_units : (g : Gnb) (k q : ℕ) → open_du (all_set_up (units_placed plan s.units)) g k q
@@ -199,8 +199,8 @@ module _ {M C L P : Type 0} (plan : Plan) (s : State M C L P) where
   unfolding up du with_terminal with_both
   du_units g k q =
       (set_up_same (units_placed plan s.units) g k q).1
-      ∙ (with_cp_same with_both plan.gnb (cp_placed (cp_of s.units plan.gnb) plan) g k q).1
-      ∙ du_becomes (with_up with_terminal plan.gnb plan.up (up_placed up plan du.next_teid)) plan.gnb plan.du (du_placed du plan (up.next_teid + 1))
+      ∙ (with_cp_same with_both plan.gnb (cu_cp_placed (cu_cp_of s.units plan.gnb) plan) g k q).1
+      ∙ du_becomes (with_cu_up with_terminal plan.gnb plan.up (cu_up_placed up plan du.next_teid)) plan.gnb plan.du (du_placed du plan (up.next_teid + 1))
       (λ t x. with_these t (count_from du.next_teid plan.bearers) x) (du_opens du plan (up.next_teid + 1)) g k q
 
   not_at : (n node : NodeId) (first count q : ℕ) (x : Bool) → (n ≡ node → ⊥) → if_at n node first count q x ≡ x
@@ -213,18 +213,18 @@ module _ {M C L P : Type 0} (plan : Plan) (s : State M C L P) where
       ups : (g : Gnb) (j q : ℕ) → stands (statically plan s) (up_id g j) q ≡ open_up (statically plan s).units g j q
       ups g j q =
           opened_from (du_id plan.gnb plan.du) (du_of s.units plan.gnb plan.du).next_teid plan.bearers
-          (tunnels_from (up_id plan.gnb plan.up) (up_of s.units plan.gnb plan.up).next_teid (2 * plan.bearers) s.tunnels) (up_id g j) q
+          (tunnels_from (up_id plan.gnb plan.up) (cu_up_of s.units plan.gnb plan.up).next_teid (2 * plan.bearers) s.tunnels) (up_id g j) q
           ∙ not_at (up_id g j) (du_id plan.gnb plan.du) (du_of s.units plan.gnb plan.du).next_teid plan.bearers q _ (λ e. absurd cc)
-          ∙ opened_from (up_id plan.gnb plan.up) (up_of s.units plan.gnb plan.up).next_teid (2 * plan.bearers) s.tunnels (up_id g j) q
-          ∙ ap (if_at (up_id g j) (up_id plan.gnb plan.up) (up_of s.units plan.gnb plan.up).next_teid (2 * plan.bearers) q) (k.0 g j q)
+          ∙ opened_from (up_id plan.gnb plan.up) (cu_up_of s.units plan.gnb plan.up).next_teid (2 * plan.bearers) s.tunnels (up_id g j) q
+          ∙ ap (if_at (up_id g j) (up_id plan.gnb plan.up) (cu_up_of s.units plan.gnb plan.up).next_teid (2 * plan.bearers) q) (k.0 g j q)
           ∙ sym (up_units g j q)
 
       dus : (g : Gnb) (j q : ℕ) → stands (statically plan s) (du_id g j) q ≡ open_du (statically plan s).units g j q
       dus g j q =
           opened_from (du_id plan.gnb plan.du) (du_of s.units plan.gnb plan.du).next_teid plan.bearers
-          (tunnels_from (up_id plan.gnb plan.up) (up_of s.units plan.gnb plan.up).next_teid (2 * plan.bearers) s.tunnels) (du_id g j) q
+          (tunnels_from (up_id plan.gnb plan.up) (cu_up_of s.units plan.gnb plan.up).next_teid (2 * plan.bearers) s.tunnels) (du_id g j) q
           ∙ ap (if_at (du_id g j) (du_id plan.gnb plan.du) (du_of s.units plan.gnb plan.du).next_teid plan.bearers q)
-          (opened_from (up_id plan.gnb plan.up) (up_of s.units plan.gnb plan.up).next_teid (2 * plan.bearers) s.tunnels (du_id g j) q
-          ∙ not_at (du_id g j) (up_id plan.gnb plan.up) (up_of s.units plan.gnb plan.up).next_teid (2 * plan.bearers) q _ (λ e. absurd cc)
+          (opened_from (up_id plan.gnb plan.up) (cu_up_of s.units plan.gnb plan.up).next_teid (2 * plan.bearers) s.tunnels (du_id g j) q
+          ∙ not_at (du_id g j) (up_id plan.gnb plan.up) (cu_up_of s.units plan.gnb plan.up).next_teid (2 * plan.bearers) q _ (λ e. absurd cc)
           ∙ k.1 g j q)
           ∙ sym (du_units g j q)

@@ -13,19 +13,19 @@ use Rattle.message_types.specs.declared.rrc.Token.{Token}
 use Rattle.scenario_text.specs.declared.event.Event.{Event}
 use Rattle.unit_defs.specs.Ways.{Message, Pdu, Load, Put, control, packet, radio, deliver, dropped, held, opened, closed, failed, no, Input, gives, spent}
 use Rattle.unit_defs.specs.Ue.{UeNode, ue_acts}
-use Rattle.unit_defs.specs.UpRecords.{CuUp}
+use Rattle.unit_defs.specs.CuUpRecords.{CuUp}
 use Rattle.unit_defs.specs.CuUp.{new_cu_up, cu_up_acts}
 use Rattle.unit_defs.specs.Du.{Du, new_du, du_acts}
-use Rattle.unit_defs.specs.CpRecords.{CuCpRecord}
+use Rattle.unit_defs.specs.CuCpRecords.{CuCpRecord}
 use Rattle.unit_defs.specs.CuCp.{cu_cp_acts}
-use Rattle.run_defs.specs.Units.{Units, new_units, cp_of, with_cp, up_of, with_up, du_of, with_du, ue_of, with_ue}
+use Rattle.run_defs.specs.Units.{Units, new_units, cu_cp_of, with_cu_cp, cu_up_of, with_cu_up, du_of, with_du, ue_of, with_ue}
 use Rattle.run_defs.specs.Written.{Written, written_put, PlainStepped, WrittenStepped, written_step}
 use Rattle.run_defs.specs.States.{State, new_state, Lengths, Given, stepped, step_spent, World, sn_of, goes, stops, told_before, ◌next◌, Ending, Within, Outcome, RunStep, as_step}
 use Rattle.run_defs.specs.Steps.{check_spans, put_out_all}
 use Rattle.run_defs.specs.Events.{landed_as}
 use Rattle.run_defs.specs.Runs.{Reading, PlainGiven, Plain, plain_way, input_of, fault_of, stepped_with, ue_stepped, acts_on, plain_by, plain_world, happens}
-use Rattle.proof_run_steps.specs.steps.Causes.{Cause, by_order, by_tick, by_octets, by_octets_on, by_attach, by_release, by_offer, by_item, by_air, by_ack, by_letter, node_of, given_of}
-use Rattle.proof_run_steps.specs.steps.Made.{Made, stays, ends, then_made, sets_up, starts, acts, holds_item, holds_pdu, offers, core_takes, core_reads, lands, loses_letter, loses_item, remarks}
+use Rattle.proof_run_steps.specs.steps.Causes.{Cause, by_order, by_tick, by_octets, by_octets_on, by_attach, by_release, by_offer, by_item, by_air, by_ack, by_control_message, node_of, given_of}
+use Rattle.proof_run_steps.specs.steps.IsOutcome.{IsOutcome, stays, ends, then_made, sets_up, starts, acts, holds_item, holds_pdu, offers, core_takes, core_reads, lands, loses_control_message, loses_item, remarks}
 use Rattle.proof_run_steps.specs.steps.Reached.{reached_by, reached}
 use Rattle.proof_run_steps.proofs.steps.Runs.{made_of_steps}
 use Rattle.proof_run_steps.proofs.steps.Frames.{HasUnits, then_units, keep_checked, keep_put_on_tunnel, keep_put_all, units_by, act_units}
@@ -95,7 +95,7 @@ module _ {M C L P : Type 0} (world : World M C L P)
   ups_stay (by_item end item rest) u g k q = (refl, refl)
   ups_stay (by_air key home item) u g k q = (refl, refl)
   ups_stay (by_ack key home item rest) u g k q = (refl, refl)
-  ups_stay (by_letter number l to) u g k q = (refl, refl)
+  ups_stay (by_control_message number l to) u g k q = (refl, refl)
 
   core_holds : (s : State M C L P) (outputs : List (Put M L P)) (e : Within M C L P) → StandWhereOpen s → HasUnits world s.units e
       → HasTunnels world (stands s) e → Holds (as_step (Some Core) (e next put_out_all world Core None outputs next check_spans))
@@ -121,7 +121,7 @@ module _ {M C L P : Type 0} (world : World M C L P)
       by (stops further why) r = tt
   then_holds (stops told why) more p h = tt
 
-  made_holds : (event : Event) (s : State M C L P) (e : Outcome M C L P) → Made world event s e → StandWhereOpen s → Holds e
+  made_holds : (event : Event) (s : State M C L P) (e : Outcome M C L P) → IsOutcome world event s e → StandWhereOpen s → Holds e
   made_holds event s e (stays t) k = k
   made_holds event s e (ends t why) k = tt
   made_holds event s e (then_made t d more p h) k =
@@ -153,7 +153,7 @@ module _ {M C L P : Type 0} (world : World M C L P)
       (λ g j q. not_told Core outputs (up_id g j) q (stands t (up_id g j) q) (λ e. absurd cc) ∙ k.0 g j q)
       (λ g j q. not_told Core outputs (du_id g j) q (stands t (du_id g j) q) (λ e. absurd cc) ∙ k.1 g j q))
   made_holds event s e (lands t number l to found at) k = k
-  made_holds event s e (loses_letter t number) k = k
+  made_holds event s e (loses_control_message t number) k = k
   made_holds event s e (loses_item t end item rest found) k = (
     λ g j q. there_again t.tunnels end rest (item ∷ rest) found (up_id g j) q ∙ k.0 g j q,
     λ g j q. there_again t.tunnels end rest (item ∷ rest) found (du_id g j) q ∙ k.1 g j q,
@@ -200,15 +200,15 @@ module _ (reading : Reading) where
   ShownWritten u node (stepped outputs v) = Show node outputs u v
   ShownWritten u node (step_spent counter) = Unit {0}
 
-  by_cp : (u : PlainUnits) (gnb : Gnb) (a : Plain (CuCpRecord (Message Token) Token)) → Shown u (CuCp gnb) (stepped_with reading (with_cp u gnb) a)
+  by_cp : (u : PlainUnits) (gnb : Gnb) (a : Plain (CuCpRecord (Message Token) Token)) → Shown u (CuCp gnb) (stepped_with reading (with_cu_cp u gnb) a)
   by_cp u gnb (gives outputs r) = (
     λ g k q. (with_cp_same u gnb r g k q).0 ∙ sym (not_told (CuCp gnb) outputs (up_id g k) q (open_up u g k q) (λ e. absurd cc)),
     λ g k q. (with_cp_same u gnb r g k q).1 ∙ sym (not_told (CuCp gnb) outputs (du_id g k) q (open_du u g k q) (λ e. absurd cc)),
   )
   by_cp u gnb (spent counter) = tt
 
-  by_up : (u : PlainUnits) (gnb : Gnb) (number : ℕ) (a : Plain (CuUp (Message Token) Token)) → UpFits plain_way (up_of u gnb number) a
-      → Shown u (up_id gnb number) (stepped_with reading (with_up u gnb number) a)
+  by_up : (u : PlainUnits) (gnb : Gnb) (number : ℕ) (a : Plain (CuUp (Message Token) Token)) → UpFits plain_way (cu_up_of u gnb number) a
+      → Shown u (up_id gnb number) (stepped_with reading (with_cu_up u gnb number) a)
   by_up u gnb number (gives outputs r) fits = (
     up_becomes u gnb number r (λ q x. open_after q outputs x) fits,
     λ g k q. sym (not_told (up_id gnb number) outputs (du_id g k) q (open_du u g k q) (λ e. absurd cc)),
@@ -231,9 +231,9 @@ module _ (reading : Reading) where
   by_ue u ue (spent counter) = tt
 
   acted : (u : PlainUnits) (node : NodeId) (input : Input Token Pdu) → Shown u node (acts_on reading u node input)
-  acted u (CuCp gnb) input = by_cp u gnb (cu_cp_acts plain_way (cp_of u gnb) input)
+  acted u (CuCp gnb) input = by_cp u gnb (cu_cp_acts plain_way (cu_cp_of u gnb) input)
   acted u (up_id gnb number) input =
-      by_up u gnb number (cu_up_acts plain_way (up_of u gnb number) input) (cu_up_fits plain_way (up_of u gnb number) input)
+      by_up u gnb number (cu_up_acts plain_way (cu_up_of u gnb number) input) (cu_up_fits plain_way (cu_up_of u gnb number) input)
   acted u (du_id gnb number) input =
       by_du u gnb number (du_acts plain_way (du_of u gnb number) input) (du_fits plain_way (du_of u gnb number) input)
   acted u (Ue ue) input = there (ue_of u (record { 0 = ue }))
@@ -266,7 +266,7 @@ module _ (reading : Reading) where
 
   -- so it goes on within an event
   pub made_stands : (event : Event) (s t : State (Message Token) Token (Written (Load Pdu)) (Written Pdu)) (told : List (RunStep (Message Token)))
-      → Made (plain_world reading) event s (goes told t) → StandWhereOpen s → StandWhereOpen t
+      → IsOutcome (plain_world reading) event s (goes told t) → StandWhereOpen s → StandWhereOpen t
   made_stands event s t told p k = made_holds (plain_world reading) shown event s (goes told t) p k
 
   pub stand_where_open : (events : List Event) (s t : State (Message Token) Token (Written (Load Pdu)) (Written Pdu)) → StandWhereOpen s

@@ -10,15 +10,15 @@ use Rattle.gnb_types.specs.Orders.{node_cmp}
 use Rattle.scenario_text.specs.declared.event.Event.{Event}
 use Rattle.unit_defs.specs.Ways.{Put, Load, control, packet, radio, deliver, dropped, held, opened, closed, failed, no, gives, spent}
 use Rattle.unit_defs.specs.Ue.{UeNode}
-use Rattle.unit_defs.specs.UpRecords.{CuUp}
+use Rattle.unit_defs.specs.CuUpRecords.{CuUp}
 use Rattle.unit_defs.specs.CuUp.{cu_up_acts}
 use Rattle.unit_defs.specs.Du.{Du, du_acts}
-use Rattle.unit_defs.specs.CpRecords.{CuCpRecord}
+use Rattle.unit_defs.specs.CuCpRecords.{CuCpRecord}
 use Rattle.unit_defs.specs.octet_defs.Codec.{Codec, octet_way}
 use Rattle.unit_defs.specs.octet_defs.Writing.{outputs_of}
 use Rattle.unit_defs.specs.octet_defs.Reading.{ReadInput, read_at_cu_up, read_at_du}
 use Rattle.unit_defs.specs.octet_defs.Units.{OctetAnswer, acts_on, cu_cp_steps, cu_up_steps, du_steps, ue_steps}
-use Rattle.run_defs.specs.Units.{cp_of, with_cp, up_of, with_up, du_of, with_du, ue_of, with_ue}
+use Rattle.run_defs.specs.Units.{cu_cp_of, with_cu_cp, cu_up_of, with_cu_up, du_of, with_du, ue_of, with_ue}
 use Rattle.run_defs.specs.States.{State, stepped, step_spent}
 use Rattle.run_defs.specs.UnitRuns.{Records, UnitAnswer, unit_gives, unit_spent, OctetPut, OctetStepped, put_of, stepped_by, unit_world, answered_with, ue_answers, input_of, tables}
 use Rattle.proof_run_steps.specs.steps.Reached.{reached}
@@ -67,16 +67,16 @@ module _ (codec : Codec) where
   Stepped u node (stepped outputs v) = Show node outputs u v
   Stepped u node (step_spent counter) = Unit {0}
 
-  by_cp : (u : Records) (gnb : Gnb) (a : OctetAnswer (CuCpRecord (List ℕ) (List ℕ))) → Shown u (CuCp gnb) (answered_with codec (with_cp u gnb) a)
-  by_cp u gnb (gives outputs r) = as_octets (CuCp gnb) outputs u (with_cp u gnb r) (
+  by_cp : (u : Records) (gnb : Gnb) (a : OctetAnswer (CuCpRecord (List ℕ) (List ℕ))) → Shown u (CuCp gnb) (answered_with codec (with_cu_cp u gnb) a)
+  by_cp u gnb (gives outputs r) = as_octets (CuCp gnb) outputs u (with_cu_cp u gnb r) (
     λ g k q. (with_cp_same u gnb r g k q).0 ∙ sym (not_told (CuCp gnb) outputs (up_id g k) q (open_up u g k q) (λ e. absurd cc)),
     λ g k q. (with_cp_same u gnb r g k q).1 ∙ sym (not_told (CuCp gnb) outputs (du_id g k) q (open_du u g k q) (λ e. absurd cc)),
   )
   by_cp u gnb (spent counter) = tt
 
-  by_up : (u : Records) (gnb : Gnb) (number : ℕ) (a : OctetAnswer (CuUp (List ℕ) (List ℕ))) → UpFits (octet_way codec) (up_of u gnb number) a
-      → Shown u (up_id gnb number) (answered_with codec (with_up u gnb number) a)
-  by_up u gnb number (gives outputs r) fits = as_octets (up_id gnb number) outputs u (with_up u gnb number r) (
+  by_up : (u : Records) (gnb : Gnb) (number : ℕ) (a : OctetAnswer (CuUp (List ℕ) (List ℕ))) → UpFits (octet_way codec) (cu_up_of u gnb number) a
+      → Shown u (up_id gnb number) (answered_with codec (with_cu_up u gnb number) a)
+  by_up u gnb number (gives outputs r) fits = as_octets (up_id gnb number) outputs u (with_cu_up u gnb number r) (
     up_becomes u gnb number r (λ q x. open_after q outputs x) fits,
     λ g k q. sym (not_told (up_id gnb number) outputs (du_id g k) q (open_du u g k q) (λ e. absurd cc)),
   )
@@ -99,10 +99,10 @@ module _ (codec : Codec) where
 
   -- what isn't read is dropped
   up_read : (u : Records) (gnb : Gnb) (number : ℕ) (input : ReadInput) → Shown u (up_id gnb number)
-      (answered_with codec (with_up u gnb number) (acts_on (cu_up_acts (octet_way codec) (up_of u gnb number)) (up_of u gnb number) input))
+      (answered_with codec (with_cu_up u gnb number) (acts_on (cu_up_acts (octet_way codec) (cu_up_of u gnb number)) (cu_up_of u gnb number) input))
   up_read u gnb number (Ok input) =
-      by_up u gnb number (cu_up_acts (octet_way codec) (up_of u gnb number) input) (cu_up_fits (octet_way codec) (up_of u gnb number) input)
-  up_read u gnb number (Err reason) = by_up u gnb number (gives (dropped reason ∷ []) (up_of u gnb number)) (λ q. refl)
+      by_up u gnb number (cu_up_acts (octet_way codec) (cu_up_of u gnb number) input) (cu_up_fits (octet_way codec) (cu_up_of u gnb number) input)
+  up_read u gnb number (Err reason) = by_up u gnb number (gives (dropped reason ∷ []) (cu_up_of u gnb number)) (λ q. refl)
 
   du_read : (u : Records) (gnb : Gnb) (number : ℕ) (input : ReadInput) → Shown u (du_id gnb number)
       (answered_with codec (with_du u gnb number) (acts_on (du_acts (octet_way codec) (du_of u gnb number)) (du_of u gnb number) input))
@@ -112,8 +112,8 @@ module _ (codec : Codec) where
 
   acted : (u : Records) (node : NodeId) (input : OctetInput) → Shown u node (tables codec u node input)
   unfolding tables cu_up_steps du_steps
-  acted u (CuCp gnb) input = by_cp u gnb (cu_cp_steps codec (cp_of u gnb) input)
-  acted u (up_id gnb number) input = up_read u gnb number (read_at_cu_up codec (up_of u gnb number) input)
+  acted u (CuCp gnb) input = by_cp u gnb (cu_cp_steps codec (cu_cp_of u gnb) input)
+  acted u (up_id gnb number) input = up_read u gnb number (read_at_cu_up codec (cu_up_of u gnb number) input)
   acted u (du_id gnb number) input = du_read u gnb number (read_at_du codec (du_of u gnb number) input)
   acted u (Ue ue) input = there (ue_of u (record { 0 = ue }))
     where

@@ -5,7 +5,7 @@ use Rattle.std.specs.Cmp.{nat_cmp_total}
 use Rattle.tables.specs.Tables.{find, put, without}
 use Rattle.tables.proofs.TableLaws.{find-put-same, find-put-other, find-without}
 use Rattle.unit_defs.specs.Teids.{without_each}
-use Rattle.unit_defs.specs.UpBearers.{is_one_of}
+use Rattle.unit_defs.specs.CuUpBearers.{is_one_of}
 use Rattle.proof_run_steps.specs.teids.Given.{below, GrowsTo}
 use Rattle.proof_run_steps.proofs.teids.Grows.{put_or}
 use Rattle.law_tunnels_are_owned.proofs.open_tunnels.Opened.{key_test}

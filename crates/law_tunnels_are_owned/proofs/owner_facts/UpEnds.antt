@@ -10,8 +10,8 @@ use Rattle.gnb_types.specs.declared.names.UeId.{UeId}
 use Rattle.gnb_types.specs.declared.names.BearerId.{BearerId}
 use Rattle.gnb_types.specs.Orders.{bearer_cmp}
 use Rattle.tables.specs.Tables.{find, IsSorted}
-use Rattle.unit_defs.specs.UpRecords.{UpBearer, TunnelKind, n3, f1u_uplink, forwarding_down, forwarding_up, UpTunnel}
-use Rattle.unit_defs.specs.UpBearers.{made, teids_of_bearer, teid_in, is_one_of, open_teids}
+use Rattle.unit_defs.specs.CuUpRecords.{CuUpBearer, TunnelKind, n3, f1u_uplink, forwarding_down, forwarding_up, CuUpTunnel}
+use Rattle.unit_defs.specs.CuUpBearers.{made, teids_of_bearer, teid_in, is_one_of, open_teids}
 use Rattle.unit_defs.specs.CuUp.{entries, entries_of, bearers_from, bearers_made}
 use Rattle.proof_run_steps.proofs.teids.Bearers.{Ends, ends}
 use Rattle.law_tunnels_are_owned.specs.owner_facts.Owned.{ends_of, has_end}
@@ -19,10 +19,10 @@ use Rattle.law_tunnels_are_owned.proofs.owner_facts.Found.{has_later, has_first,
 use Rattle.law_tunnels_are_owned.proofs.owner_facts.Owners.{one_or, IsIn, in_left, in_right, in_either, AreFrom}
 
 abbrev pub Bearers : Type 0
-Bearers = List (BearerId × UpBearer)
+Bearers = List (BearerId × CuUpBearer)
 
 -- a bearer's tunnels are read off its ends
-pub ends_same : (kind : TunnelKind) (b c : UpBearer) → ends c ≡ ends b → ends_of kind c ≡ ends_of kind b
+pub ends_same : (kind : TunnelKind) (b c : CuUpBearer) → ends c ≡ ends b → ends_of kind c ≡ ends_of kind b
 ends_same n3 b c p = ap (λ (e : Ends). teid_in e.n3) p
 ends_same f1u_uplink b c p = ap (λ (e : Ends). e.uplinks) p
 ends_same forwarding_down b c p = ap (λ (e : Ends). teid_in e.forward_down) p
@@ -61,7 +61,7 @@ same_order es fs p sorted = subst (λ (ks : List BearerId). IsStrictlySortedBy b
 
 -- ---- the bearer that is found
 
-abbrev pub has_it : TunnelKind → ℕ → UpBearer → Bool
+abbrev pub has_it : TunnelKind → ℕ → CuUpBearer → Bool
 has_it kind q b = is_one_of (ends_of kind b) q
 
 -- ---- all tunnels of a context
@@ -81,7 +81,7 @@ pub or_right : (a b : Bool) → b ≡ true → a || b ≡ true
 or_right true b h = refl
 or_right false b h = h
 
-open_four : (b : UpBearer) (q : ℕ) → is_one_of (open_teids b) q
+open_four : (b : CuUpBearer) (q : ℕ) → is_one_of (open_teids b) q
     ≡ ((is_one_of (teid_in b.n3) q || is_one_of (teid_in b.forward_down) q) || is_one_of b.uplinks q) || is_one_of (teid_in b.forward_up) q
 open_four b q =
     append_one (teid_in b.n3 ++ teid_in b.forward_down ++ b.uplinks) (teid_in b.forward_up) q
@@ -89,7 +89,7 @@ open_four b q =
     (append_one (teid_in b.n3 ++ teid_in b.forward_down) b.uplinks q
     ∙ ap (λ (t : Bool). t || is_one_of b.uplinks q) (append_one (teid_in b.n3) (teid_in b.forward_down) q))
 
-end_is_open : (kind : TunnelKind) (b : UpBearer) (q : ℕ) → is_one_of (ends_of kind b) q ≡ true → is_one_of (open_teids b) q ≡ true
+end_is_open : (kind : TunnelKind) (b : CuUpBearer) (q : ℕ) → is_one_of (ends_of kind b) q ≡ true → is_one_of (open_teids b) q ≡ true
 end_is_open kind b q h = open_four b q ∙ by kind h
   where
     by : (k : TunnelKind) → is_one_of (ends_of k b) q ≡ true
@@ -99,7 +99,7 @@ end_is_open kind b q h = open_four b q ∙ by kind h
     by f1u_uplink e = or_left _ _ (or_right (is_one_of (teid_in b.n3) q || is_one_of (teid_in b.forward_down) q) _ e)
     by forwarding_up e = or_right ((is_one_of (teid_in b.n3) q || is_one_of (teid_in b.forward_down) q) || is_one_of b.uplinks q) _ e
 
-open_is_end : (b : UpBearer) (q : ℕ) → is_one_of (open_teids b) q ≡ true → (kind : TunnelKind) × (is_one_of (ends_of kind b) q ≡ true)
+open_is_end : (b : CuUpBearer) (q : ℕ) → is_one_of (open_teids b) q ≡ true → (kind : TunnelKind) × (is_one_of (ends_of kind b) q ≡ true)
 open_is_end b q h = last (one_or _ (is_one_of (teid_in b.forward_up) q) (sym (open_four b q) ∙ h))
   where
     first : (is_one_of (teid_in b.n3) q ≡ true) ⊎ (is_one_of (teid_in b.forward_down) q ≡ true) → (kind : TunnelKind) × (is_one_of (ends_of kind b) q ≡ true)
@@ -148,7 +148,7 @@ open_is_held (e ∷ es) q sorted h = by (open_is_held es q (sorted_tail bearer_c
 -- ---- the entries of a context's bearers
 
 module _ (ue : UeId) (context : ℕ) where
-  abbrev pub owner_of : BearerId → TunnelKind → UpTunnel
+  abbrev pub owner_of : BearerId → TunnelKind → CuUpTunnel
   owner_of x kind = record { ue = ue; bearer = x; kind = kind; context = context }
 
   in_option : (x : BearerId) (kind : TunnelKind) (o : Option ℕ) (q : ℕ) → is_one_of (teid_in o) q ≡ true → IsIn q (owner_of x kind) (entries ue x context kind o)
@@ -169,7 +169,7 @@ module _ (ue : UeId) (context : ℕ) where
       by later (inl e) = inl (eqb-true t q e, refl)
       by later (inr e) = inr (later e)
 
-  in_bearer : (x : BearerId) (b : UpBearer) (kind : TunnelKind) (q : ℕ) → is_one_of (ends_of kind b) q ≡ true → IsIn q (owner_of x kind) (entries_of ue context (x, b))
+  in_bearer : (x : BearerId) (b : CuUpBearer) (kind : TunnelKind) (q : ℕ) → is_one_of (ends_of kind b) q ≡ true → IsIn q (owner_of x kind) (entries_of ue context (x, b))
   in_bearer x b n3 q h =
       in_left q (owner_of x n3) _ (entries ue x context forwarding_up b.forward_up)
       (in_left q (owner_of x n3) _ (entries ue x context forwarding_down b.forward_down)
@@ -203,23 +203,23 @@ module _ (ue : UeId) (context : ℕ) where
       by later (inr k) = in_right q (owner_of x kind) (entries_of ue context e) (flat_map (entries_of ue context) es) (later k)
 
   -- an entry is its bearer's
-  abbrev IsOf : BearerId → UpBearer → ℕ → UpTunnel → Type 0
+  abbrev IsOf : BearerId → CuUpBearer → ℕ → CuUpTunnel → Type 0
   IsOf x b q o = (kind : TunnelKind) × ((owner_of x kind ≡ o) × (is_one_of (ends_of kind b) q ≡ true))
 
-  of_option : (x : BearerId) (kind : TunnelKind) (t : Option ℕ) (q : ℕ) (o : UpTunnel) → IsIn q o (entries ue x context kind t)
+  of_option : (x : BearerId) (kind : TunnelKind) (t : Option ℕ) (q : ℕ) (o : CuUpTunnel) → IsIn q o (entries ue x context kind t)
       → (owner_of x kind ≡ o) × (is_one_of (teid_in t) q ≡ true)
   of_option x kind None q o h = absurd h
   of_option x kind (Some t) q o (inl h) = (h.1, or_left (t == q) false (eq-eqb t q h.0))
   of_option x kind (Some t) q o (inr h) = absurd h
 
-  of_uplinks : (x : BearerId) (ts : List ℕ) (q : ℕ) (o : UpTunnel) → IsIn q o (flat_map (λ teid. entries ue x context f1u_uplink (Some teid)) ts)
+  of_uplinks : (x : BearerId) (ts : List ℕ) (q : ℕ) (o : CuUpTunnel) → IsIn q o (flat_map (λ teid. entries ue x context f1u_uplink (Some teid)) ts)
       → (owner_of x f1u_uplink ≡ o) × (is_one_of ts q ≡ true)
   of_uplinks x [] q o h = absurd h
   of_uplinks x (t ∷ ts) q o (inl h) = (h.1, or_left (t == q) (is_one_of ts q) (eq-eqb t q h.0))
   of_uplinks x (t ∷ ts) q o (inr h) =
       let later : (owner_of x f1u_uplink ≡ o) × (is_one_of ts q ≡ true) = of_uplinks x ts q o h in (later.0, or_right (t == q) (is_one_of ts q) later.1)
 
-  of_bearer : (x : BearerId) (b : UpBearer) (q : ℕ) (o : UpTunnel) → IsIn q o (entries_of ue context (x, b)) → IsOf x b q o
+  of_bearer : (x : BearerId) (b : CuUpBearer) (q : ℕ) (o : CuUpTunnel) → IsIn q o (entries_of ue context (x, b)) → IsOf x b q o
   of_bearer x b q o h = last (in_either q o _ (entries ue x context forwarding_up b.forward_up) h)
     where
       first : IsIn q o (entries ue x context n3 b.n3) ⊎ IsIn q o (flat_map (λ teid. entries ue x context f1u_uplink (Some teid)) b.uplinks) → IsOf x b q o
@@ -237,10 +237,10 @@ module _ (ue : UeId) (context : ℕ) where
       last (inr k) = (forwarding_up, of_option x forwarding_up b.forward_up q o k)
 
   -- an entry of bearers in ascending order is found
-  abbrev pub IsFound : Bearers → ℕ → UpTunnel → Type 0
+  abbrev pub IsFound : Bearers → ℕ → CuUpTunnel → Type 0
   IsFound es q o = (o.ue ≡ ue) × (o.context ≡ context) × (has_end o.kind q (find bearer_cmp es o.bearer) ≡ true)
 
-  pub in_is_found : (es : Bearers) (q : ℕ) (o : UpTunnel) → IsSorted bearer_cmp es → IsIn q o (flat_map (entries_of ue context) es) → IsFound es q o
+  pub in_is_found : (es : Bearers) (q : ℕ) (o : CuUpTunnel) → IsSorted bearer_cmp es → IsIn q o (flat_map (entries_of ue context) es) → IsFound es q o
   in_is_found [] q o sorted h = absurd h
   in_is_found (e ∷ es) q o sorted h = by (in_is_found es q o (sorted_tail bearer_cmp e.0 (keys_of es) sorted)) (in_either q o (entries_of ue context e) (flat_map (entries_of ue context) es) h)
     where

@@ -8,14 +8,14 @@ use Rattle.gnb_types.specs.Orders.{bearer_cmp, ue_cmp}
 use Rattle.std.specs.List.Sorted.{IsStrictlySortedBy}
 use Rattle.std.specs.Map.{keys_of}
 use Rattle.std.proofs.lemmas.Map.Keys.{sorted_tail}
-use Rattle.unit_defs.specs.UpRecords.{TunnelKind, n3, f1u_uplink, forwarding_down, forwarding_up, UpBearer, UpContext, UpTunnel}
-use Rattle.unit_defs.specs.UpBearers.{teid_in, is_one_of}
+use Rattle.unit_defs.specs.CuUpRecords.{TunnelKind, n3, f1u_uplink, forwarding_down, forwarding_up, CuUpBearer, CuUpContext, CuUpTunnel}
+use Rattle.unit_defs.specs.CuUpBearers.{teid_in, is_one_of}
 use Rattle.tables.specs.Tables.{find, put, IsSorted}
 use Rattle.unit_defs.specs.Ways.{Way}
 use Rattle.unit_defs.specs.CuUp.{entries_of, with_entries, teids_from, uplink_entries}
 use Rattle.proof_run_steps.proofs.teids.Bearers.{Ends, ends}
 use Rattle.proof_run_steps.proofs.teids.CuUps.{Entry}
-use Rattle.law_tunnels_are_owned.specs.owner_facts.Owned.{ends_of, has_end, up_context_names, up_names, AreNamed}
+use Rattle.law_tunnels_are_owned.specs.owner_facts.Owned.{ends_of, has_end, up_context_names, cu_up_names, AreNamed}
 use Rattle.law_tunnels_are_owned.proofs.owner_facts.Owners.{both_of, first_of, second_of, one_or, put_each, AreFrom, IsIn, named_given}
 use Rattle.law_tunnels_are_owned.proofs.owner_facts.UpEnds.{Bearers, or_left, or_right, owner_of, found_is_in, IsFound, in_is_found, has_it, append_one}
 use Rattle.law_tunnels_are_owned.proofs.owner_facts.Found.{has_first, has_later, has_either}
@@ -28,15 +28,15 @@ entries_each (e ∷ es) table = entries_each es (put nat_cmp table e.0 e.1)
 -- ---- TEIDs are given to a terminal's context
 
 module _ (ts : List Entry) (contexts : Contexts) (k : Named ts contexts) (ue : UeId) (next : ℕ)
-    (low : (q : ℕ) (o : UpTunnel) → find nat_cmp ts q ≡ Some o → q + 1 ≤ next) where
-  grown : (d : UpContext) (es : List Entry) → IsSorted bearer_cmp d.bearers → AreFrom next es
-      → ((o : UpTunnel) (q : ℕ) → o.ue ≡ ue → up_context_names o q (Some d) ≡ true → IsIn q o es ⊎ (up_names contexts o q ≡ true))
-      → ((o : UpTunnel) (q : ℕ) → IsIn q o es → (o.ue ≡ ue) × (up_context_names o q (Some d) ≡ true))
-      → ((o : UpTunnel) (q : ℕ) → o.ue ≡ ue → up_names contexts o q ≡ true → up_context_names o q (Some d) ≡ true)
+    (low : (q : ℕ) (o : CuUpTunnel) → find nat_cmp ts q ≡ Some o → q + 1 ≤ next) where
+  grown : (d : CuUpContext) (es : List Entry) → IsSorted bearer_cmp d.bearers → AreFrom next es
+      → ((o : CuUpTunnel) (q : ℕ) → o.ue ≡ ue → up_context_names o q (Some d) ≡ true → IsIn q o es ⊎ (cu_up_names contexts o q ≡ true))
+      → ((o : CuUpTunnel) (q : ℕ) → IsIn q o es → (o.ue ≡ ue) × (up_context_names o q (Some d) ≡ true))
+      → ((o : CuUpTunnel) (q : ℕ) → o.ue ≡ ue → cu_up_names contexts o q ≡ true → up_context_names o q (Some d) ≡ true)
       → Named (with_entries ts es) (put ue_cmp contexts ue d)
   grown d es sorted from either added old = (
-    subst (λ (table : List Entry). AreNamed table (up_names (put ue_cmp contexts ue d))) (sym (entries_each es ts))
-        (named_given ts es (up_names contexts) (up_names (put ue_cmp contexts ue d)) next k.0 low from
+    subst (λ (table : List Entry). AreNamed table (cu_up_names (put ue_cmp contexts ue d))) (sym (entries_each es ts))
+        (named_given ts es (cu_up_names contexts) (cu_up_names (put ue_cmp contexts ue d)) next k.0 low from
         (λ o q h. split o q (eq_by_cmp ue_cmp o.ue ue) refl (sym (names_put contexts ue d o q) ∙ h))
         (λ o q h. names_put contexts ue d o q
         ∙ ap (λ (t : Bool). up_context_names o q (cond t (Some d) (find ue_cmp contexts o.ue))) (ue_tie o.ue ue (added o q h).0) ∙ (added o q h).1)
@@ -44,40 +44,40 @@ module _ (ts : List Entry) (contexts : Contexts) (k : Named ts contexts) (ue : U
     order_put contexts ue d k.1 sorted,
   )
     where
-      split : (o : UpTunnel) (q : ℕ) (t : Bool) → eq_by_cmp ue_cmp o.ue ue ≡ t → up_context_names o q (cond t (Some d) (find ue_cmp contexts o.ue)) ≡ true
-          → IsIn q o es ⊎ (up_names contexts o q ≡ true)
+      split : (o : CuUpTunnel) (q : ℕ) (t : Bool) → eq_by_cmp ue_cmp o.ue ue ≡ t → up_context_names o q (cond t (Some d) (find ue_cmp contexts o.ue)) ≡ true
+          → IsIn q o es ⊎ (cu_up_names contexts o q ≡ true)
       split o q true tie h = either o q (same_ue o.ue ue tie) h
       split o q false apart h = inr h
 
-      stays : (o : UpTunnel) (q : ℕ) → up_names contexts o q ≡ true → (t : Bool) → eq_by_cmp ue_cmp o.ue ue ≡ t
+      stays : (o : CuUpTunnel) (q : ℕ) → cu_up_names contexts o q ≡ true → (t : Bool) → eq_by_cmp ue_cmp o.ue ue ≡ t
           → up_context_names o q (cond t (Some d) (find ue_cmp contexts o.ue)) ≡ true
       stays o q h true tie = old o q (same_ue o.ue ue tie) h
       stays o q h false apart = h
 
   -- an owner of this terminal and context
-  owns : (context : ℕ) (o : UpTunnel) → o.ue ≡ ue → context ≡ o.context → owner_of ue context o.bearer o.kind ≡ o
+  owns : (context : ℕ) (o : CuUpTunnel) → o.ue ≡ ue → context ≡ o.context → owner_of ue context o.bearer o.kind ≡ o
   owns context o same is = λ i. record { ue = sym same i; bearer = o.bearer; kind = o.kind; context = is i }
 
   -- a new context
-  pub new_named : (d : UpContext) → find ue_cmp contexts ue ≡ None → IsSorted bearer_cmp d.bearers → AreFrom next (flat_map (entries_of ue d.instance) d.bearers)
+  pub new_named : (d : CuUpContext) → find ue_cmp contexts ue ≡ None → IsSorted bearer_cmp d.bearers → AreFrom next (flat_map (entries_of ue d.instance) d.bearers)
       → Named (with_entries ts (flat_map (entries_of ue d.instance) d.bearers)) (put ue_cmp contexts ue d)
   new_named d none sorted from = grown d (flat_map (entries_of ue d.instance) d.bearers) sorted from either added old
     where
-      either : (o : UpTunnel) (q : ℕ) → o.ue ≡ ue → up_context_names o q (Some d) ≡ true
-          → IsIn q o (flat_map (entries_of ue d.instance) d.bearers) ⊎ (up_names contexts o q ≡ true)
+      either : (o : CuUpTunnel) (q : ℕ) → o.ue ≡ ue → up_context_names o q (Some d) ≡ true
+          → IsIn q o (flat_map (entries_of ue d.instance) d.bearers) ⊎ (cu_up_names contexts o q ≡ true)
       either o q same h =
           let is : d.instance ≡ o.context = eqb-true d.instance o.context (first_of _ (has_end o.kind q (find bearer_cmp d.bearers o.bearer)) h) in
-          inl (subst (λ (p : UpTunnel). IsIn q p (flat_map (entries_of ue d.instance) d.bearers)) (owns d.instance o same is)
+          inl (subst (λ (p : CuUpTunnel). IsIn q p (flat_map (entries_of ue d.instance) d.bearers)) (owns d.instance o same is)
           (found_is_in ue d.instance d.bearers o.bearer o.kind q (second_of (d.instance == o.context) _ h)))
 
-      added : (o : UpTunnel) (q : ℕ) → IsIn q o (flat_map (entries_of ue d.instance) d.bearers) → (o.ue ≡ ue) × (up_context_names o q (Some d) ≡ true)
+      added : (o : CuUpTunnel) (q : ℕ) → IsIn q o (flat_map (entries_of ue d.instance) d.bearers) → (o.ue ≡ ue) × (up_context_names o q (Some d) ≡ true)
       added o q h =
           let found : IsFound ue d.instance d.bearers q o = in_is_found ue d.instance d.bearers q o sorted h in
           (found.0, both_of (d.instance == o.context) _ (eq-eqb d.instance o.context (sym found.1)) found.2)
 
-      old : (o : UpTunnel) (q : ℕ) → o.ue ≡ ue → up_names contexts o q ≡ true → up_context_names o q (Some d) ≡ true
+      old : (o : CuUpTunnel) (q : ℕ) → o.ue ≡ ue → cu_up_names contexts o q ≡ true → up_context_names o q (Some d) ≡ true
       old o q same h =
-          let nothing : up_names contexts o q ≡ false =
+          let nothing : cu_up_names contexts o q ≡ false =
           ap (λ (x : UeId). up_context_names o q (find ue_cmp contexts x)) same ∙ ap (up_context_names o q) none in
           absurd cc
 
@@ -100,7 +100,7 @@ more_keys next (e ∷ es) [] p = absurd p
 more_keys next (e ∷ es) (f ∷ fs) p = λ i. p.0 i ∷ more_keys (next + 1) es fs p.2 i
 
 -- a tunnel of the bearer then was its tunnel, or is the new one
-more_ends : (next : ℕ) (b c : UpBearer) → ends c ≡ with_end next (ends b) → (kind : TunnelKind) (q : ℕ) → is_one_of (ends_of kind c) q ≡ true
+more_ends : (next : ℕ) (b c : CuUpBearer) → ends c ≡ with_end next (ends b) → (kind : TunnelKind) (q : ℕ) → is_one_of (ends_of kind c) q ≡ true
     → (is_one_of (ends_of kind b) q ≡ true) ⊎ ((next ≡ q) × (kind ≡ f1u_uplink))
 more_ends next b c p n3 q h = inl (sym (ap (λ (e : Ends). is_one_of (teid_in e.n3) q) p) ∙ h)
 more_ends next b c p forwarding_down q h = inl (sym (ap (λ (e : Ends). is_one_of (teid_in e.forward_down) q) p) ∙ h)
@@ -112,7 +112,7 @@ more_ends next b c p f1u_uplink q h =
     by (inl e) = inl e
     by (inr e) = inr (one_is next q e, refl)
 
-more_kept : (next : ℕ) (b c : UpBearer) → ends c ≡ with_end next (ends b) → (kind : TunnelKind) (q : ℕ) → is_one_of (ends_of kind b) q ≡ true
+more_kept : (next : ℕ) (b c : CuUpBearer) → ends c ≡ with_end next (ends b) → (kind : TunnelKind) (q : ℕ) → is_one_of (ends_of kind b) q ≡ true
     → is_one_of (ends_of kind c) q ≡ true
 more_kept next b c p n3 q h = ap (λ (e : Ends). is_one_of (teid_in e.n3) q) p ∙ h
 more_kept next b c p forwarding_down q h = ap (λ (e : Ends). is_one_of (teid_in e.forward_down) q) p ∙ h
@@ -120,7 +120,7 @@ more_kept next b c p forwarding_up q h = ap (λ (e : Ends). is_one_of (teid_in e
 more_kept next b c p f1u_uplink q h =
     ap (λ (e : Ends). is_one_of e.uplinks q) p ∙ append_one b.uplinks (next ∷ []) q ∙ or_left (is_one_of b.uplinks q) _ h
 
-more_added : (next : ℕ) (b c : UpBearer) → ends c ≡ with_end next (ends b) → (q : ℕ) → next ≡ q → is_one_of (ends_of f1u_uplink c) q ≡ true
+more_added : (next : ℕ) (b c : CuUpBearer) → ends c ≡ with_end next (ends b) → (q : ℕ) → next ≡ q → is_one_of (ends_of f1u_uplink c) q ≡ true
 more_added next b c p q same =
     ap (λ (e : Ends). is_one_of e.uplinks q) p ∙ append_one b.uplinks (next ∷ []) q
     ∙ or_right (is_one_of b.uplinks q) _ (or_left (next == q) false (eq-eqb next q same))
@@ -158,7 +158,7 @@ module _ {M C P : Type 0} (way : Way M C P) where
       by more (inl k) = first k.0 (more_ends next e.1 f.1 p.1 kind q k.1)
       by more (inr k) = later (more k)
 
-  more_new : (ue : UeId) (context next : ℕ) (es fs : Bearers) → HaveMore next es fs → IsSorted bearer_cmp fs → (q : ℕ) (o : UpTunnel)
+  more_new : (ue : UeId) (context next : ℕ) (es fs : Bearers) → HaveMore next es fs → IsSorted bearer_cmp fs → (q : ℕ) (o : CuUpTunnel)
       → IsIn q o (more_of ue context next es) → IsFound ue context fs q o
   more_new ue context next [] fs p sorted q o h = absurd h
   more_new ue context next (e ∷ es) [] p sorted q o h = absurd p
@@ -184,8 +184,8 @@ module _ {M C P : Type 0} (way : Way M C P) where
       by more (inr k) = has_later (has_it kind q) f fs x sorted (more k)
 
   module _ (ts : List Entry) (contexts : Contexts) (k : Named ts contexts) (ue : UeId) (next : ℕ)
-      (low : (q : ℕ) (o : UpTunnel) → find nat_cmp ts q ≡ Some o → q + 1 ≤ next) where
-    pub more_named : (c : UpContext) (bs : Bearers) → find ue_cmp contexts ue ≡ Some c → HaveMore next c.bearers bs
+      (low : (q : ℕ) (o : CuUpTunnel) → find nat_cmp ts q ≡ Some o → q + 1 ≤ next) where
+    pub more_named : (c : CuUpContext) (bs : Bearers) → find ue_cmp contexts ue ≡ Some c → HaveMore next c.bearers bs
         → Named (with_entries ts (more_of ue c.instance next c.bearers)) (put ue_cmp contexts ue (record c { bearers = bs }))
     more_named c bs is p =
         grown ts contexts k ue next low (record c { bearers = bs }) (more_of ue c.instance next c.bearers) order (more_from ue c.instance next c.bearers) either added old
@@ -193,26 +193,26 @@ module _ {M C P : Type 0} (way : Way M C P) where
         order : IsSorted bearer_cmp bs
         order = subst (λ (ks : List BearerId). IsStrictlySortedBy bearer_cmp ks) (more_keys next c.bearers bs p) (k.1 ue c is)
 
-        held : (o : UpTunnel) (q : ℕ) → o.ue ≡ ue → c.instance ≡ o.context
+        held : (o : CuUpTunnel) (q : ℕ) → o.ue ≡ ue → c.instance ≡ o.context
             → IsIn q (owner_of ue c.instance o.bearer o.kind) (more_of ue c.instance next c.bearers) ⊎ (has_end o.kind q (find bearer_cmp c.bearers o.bearer) ≡ true)
-            → IsIn q o (more_of ue c.instance next c.bearers) ⊎ (up_names contexts o q ≡ true)
+            → IsIn q o (more_of ue c.instance next c.bearers) ⊎ (cu_up_names contexts o q ≡ true)
         held o q same at (inl h) =
-            inl (subst (λ (x : UpTunnel). IsIn q x (more_of ue c.instance next c.bearers)) (λ i. record { ue = sym same i; bearer = o.bearer; kind = o.kind; context = at i }) h)
+            inl (subst (λ (x : CuUpTunnel). IsIn q x (more_of ue c.instance next c.bearers)) (λ i. record { ue = sym same i; bearer = o.bearer; kind = o.kind; context = at i }) h)
         held o q same at (inr h) =
             inr (own_names ts contexts k ue c is o q same ∙ both_of (c.instance == o.context) _ (eq-eqb c.instance o.context at) h)
 
-        either : (o : UpTunnel) (q : ℕ) → o.ue ≡ ue → up_context_names o q (Some (record c { bearers = bs })) ≡ true
-            → IsIn q o (more_of ue c.instance next c.bearers) ⊎ (up_names contexts o q ≡ true)
+        either : (o : CuUpTunnel) (q : ℕ) → o.ue ≡ ue → up_context_names o q (Some (record c { bearers = bs })) ≡ true
+            → IsIn q o (more_of ue c.instance next c.bearers) ⊎ (cu_up_names contexts o q ≡ true)
         either o q same h =
             held o q same (eqb-true c.instance o.context (first_of _ (has_end o.kind q (find bearer_cmp bs o.bearer)) h))
             (more_either ue c.instance next c.bearers bs p (k.1 ue c is) o.bearer o.kind q (second_of (c.instance == o.context) _ h))
 
-        added : (o : UpTunnel) (q : ℕ) → IsIn q o (more_of ue c.instance next c.bearers) → (o.ue ≡ ue) × (up_context_names o q (Some (record c { bearers = bs })) ≡ true)
+        added : (o : CuUpTunnel) (q : ℕ) → IsIn q o (more_of ue c.instance next c.bearers) → (o.ue ≡ ue) × (up_context_names o q (Some (record c { bearers = bs })) ≡ true)
         added o q h =
             let found : IsFound ue c.instance bs q o = more_new ue c.instance next c.bearers bs p order q o h in
             (found.0, both_of (c.instance == o.context) _ (eq-eqb c.instance o.context (sym found.1)) found.2)
 
-        old : (o : UpTunnel) (q : ℕ) → o.ue ≡ ue → up_names contexts o q ≡ true → up_context_names o q (Some (record c { bearers = bs })) ≡ true
+        old : (o : CuUpTunnel) (q : ℕ) → o.ue ≡ ue → cu_up_names contexts o q ≡ true → up_context_names o q (Some (record c { bearers = bs })) ≡ true
         old o q same h =
             let own : up_context_names o q (Some c) ≡ true = sym (own_names ts contexts k ue c is o q same) ∙ h in
             both_of (c.instance == o.context) _ (first_of (c.instance == o.context) _ own)

@@ -12,18 +12,18 @@ use Rattle.gnb_types.proofs.OrderLemmas.{ue_total}
 use Rattle.message_types.specs.declared.rrc.Token.{Token}
 use Rattle.tables.proofs.TableLaws.{find-put-same}
 use Rattle.unit_defs.specs.Ways.{Message, Pdu, Load, Put, control, packet, radio, deliver, dropped, held, opened, closed, failed, no, Input, order_input, gives, spent}
-use Rattle.unit_defs.specs.UpRecords.{CuUp}
+use Rattle.unit_defs.specs.CuUpRecords.{CuUp}
 use Rattle.unit_defs.specs.CuUp.{cu_up_acts}
 use Rattle.unit_defs.specs.Du.{Du, du_acts}
 use Rattle.unit_defs.specs.Ue.{UeNode, new_ue, placed, ue_acts}
-use Rattle.unit_defs.specs.CpRecords.{CuCpRecord}
+use Rattle.unit_defs.specs.CuCpRecords.{CuCpRecord}
 use Rattle.unit_defs.specs.CuCp.{cu_cp_acts}
 use Rattle.unit_defs.specs.Core.{CoreRecord, core_acts}
 use Rattle.unit_defs.specs.octet_defs.Writing.{pdu_octets, load_octets, written_load}
 use Rattle.transport_defs.specs.declared.Item.{Item}
-use Rattle.run_defs.specs.Units.{Units, cp_of, with_cp, up_of, with_up, du_of, with_du, ue_of, with_ue}
+use Rattle.run_defs.specs.Units.{Units, cu_cp_of, with_cu_cp, cu_up_of, with_cu_up, du_of, with_du, ue_of, with_ue}
 use Rattle.run_defs.specs.Written.{Written, written_put, PlainStepped, WrittenStepped, WrittenCoreStepped, written_step}
-use Rattle.run_defs.specs.States.{letter_for, item_for, carried_for, confirmed_for, offer_for, tick_for, order_for, octets_from, octets_on, stepped, step_spent, core_stepped}
+use Rattle.run_defs.specs.States.{control_message_for, item_for, carried_for, confirmed_for, offer_for, tick_for, order_for, octets_from, octets_on, stepped, step_spent, core_stepped}
 use Rattle.run_defs.specs.Conditions.{units_placed, all_set_up}
 use Rattle.run_defs.specs.Runs.{Reading, PlainGiven, Plain, plain_way, input_of, stepped_with, ue_stepped, acts_on, plain_by, core_done, plain_core, plain_world}
 use Rattle.proof_run_steps.specs.plans.Plans.{Plans, PlansStay}
@@ -34,10 +34,10 @@ use Rattle.proof_run_steps.specs.plan_facts.Along.{lengths_by, with_plan, Allowe
 use Rattle.law_tunnels_are_owned.proofs.link_items.Names.{link_items}
 use Rattle.law_tunnels_are_owned.proofs.link_items.CuCps.{cu_cp_fits}
 use Rattle.proof_unit_steps.specs.tunnel_names.Names.{Names, HasLength, LoadNames, InputNames, OutputNames, OutputsName, AnswerNames}
-use Rattle.proof_unit_steps.specs.tunnel_names.CuCps.{CpNames, CoreNames}
+use Rattle.proof_unit_steps.specs.tunnel_names.CuCps.{CuCpNames, CoreNames}
 use Rattle.proof_unit_steps.proofs.tunnel_names.CuCps.{cu_cp_names}
 use Rattle.proof_unit_steps.proofs.tunnel_names.Cores.{core_names}
-use Rattle.proof_unit_steps.specs.tunnels.Units.{UpHolds, DuHolds, UpNames, DuNames, IsLong, AnswerIf}
+use Rattle.proof_unit_steps.specs.tunnels.Units.{CuUpHolds, DuHolds, CuUpNames, DuNames, IsLong, AnswerIf}
 use Rattle.proof_unit_steps.proofs.tunnels.CuUps.{cu_up_names}
 use Rattle.proof_unit_steps.proofs.tunnels.Dus.{du_names}
 use Rattle.proof_unit_steps.proofs.tunnels.Terminals.{terminal_keeps}
@@ -70,7 +70,7 @@ module _ (Extra : UeId → SnBits → Type 0) where
   lengths plans = record {
     units = OfUnits (Parts Extra plans);
     core = CoreNames (Its Extra plans);
-    letter = λ l. Names (Owns Extra plans) l.from l.message;
+    control_message = λ l. Names (Owns Extra plans) l.from l.message;
     puts_on = λ node end item. OnTunnel plans end.teid item;
     puts_on_air = λ node key item. OnAir plans item;
     on_tunnel = λ end item. OnTunnel plans end.teid item;
@@ -84,7 +84,7 @@ module _ (Extra : UeId → SnBits → Type 0) where
   lengths_grow before after stay = record {
     units = parts_later Extra before after stay;
     core = core_later Extra before after stay;
-    letter = λ l p. names_later Extra before after stay l.from l.message p;
+    control_message = λ l p. names_later Extra before after stay l.from l.message p;
     on_tunnel = λ end item p. (
       load_later Extra before after stay item.key.ue item.content.says p.0,
       p.1 ∙ octets_later Extra before after stay end.teid item.key.ue item.content.says p.0,
@@ -135,14 +135,14 @@ module _ (Extra : UeId → SnBits → Type 0) where
       written node taken (stepped outputs v) p = (p.0, fit_all node taken outputs p.1)
       written node taken (step_spent counter) p = tt
 
-      by_cp : (u : Records) (g : Gnb) (a : Plain (CuCpRecord (Message Token) Token)) → OfParts u → AnswerNames (Its Extra plans) (CpNames (Its Extra plans) g) (CuCp g) a
-          → Answered (CuCp g) (stepped_with reading (with_cp u g) a)
+      by_cp : (u : Records) (g : Gnb) (a : Plain (CuCpRecord (Message Token) Token)) → OfParts u → AnswerNames (Its Extra plans) (CuCpNames (Its Extra plans) g) (CuCp g) a
+          → Answered (CuCp g) (stepped_with reading (with_cu_cp u g) a)
       by_cp u g (gives outputs r) h p = (with_cp_holds (Parts Extra plans) u g r h p.0, p.1)
       by_cp u g (spent counter) h p = tt
 
       by_up : (u : Records) (g : Gnb) (n : ℕ) (a : Plain (CuUp (Message Token) Token)) → OfParts u
-          → AnswerIf (Its Extra plans) (UpHolds (Owns Extra plans) g n) (UpNames (Its Extra plans) g n) (up_id g n) a
-          → Answered (up_id g n) (stepped_with reading (with_up u g n) a)
+          → AnswerIf (Its Extra plans) (CuUpHolds (Owns Extra plans) g n) (CuUpNames (Its Extra plans) g n) (up_id g n) a
+          → Answered (up_id g n) (stepped_with reading (with_cu_up u g n) a)
       by_up u g n (gives outputs r) h p = let q = p (up_holds Extra plans g n r) in (with_up_holds (Parts Extra plans) u g n r h q.0, q.1)
       by_up u g n (spent counter) h p = tt
 
@@ -158,9 +158,9 @@ module _ (Extra : UeId → SnBits → Type 0) where
       by_ue u ue (spent counter) h p = tt
 
       acted : (u : Records) (node : NodeId) (input : Input Token Pdu) → OfParts u → InputNames (Its Extra plans) input → Answered node (acts_on reading u node input)
-      acted u (CuCp g) input h names = by_cp u g (cu_cp_acts plain_way (cp_of u g) input) h (cu_cp_names (Its Extra plans) g (cp_of u g) input names (h.2 g))
+      acted u (CuCp g) input h names = by_cp u g (cu_cp_acts plain_way (cu_cp_of u g) input) h (cu_cp_names (Its Extra plans) g (cu_cp_of u g) input names (h.2 g))
       acted u (up_id g n) input h names =
-          by_up u g n (cu_up_acts plain_way (up_of u g n) input) h (cu_up_names (Its Extra plans) (none_free Extra plans) g n (up_of u g n) input names (h.0 g n))
+          by_up u g n (cu_up_acts plain_way (cu_up_of u g n) input) h (cu_up_names (Its Extra plans) (none_free Extra plans) g n (cu_up_of u g n) input names (h.0 g n))
       acted u (du_id g n) input h names = by_du u g n (du_acts plain_way (du_of u g n) input) h (du_names (Its Extra plans) g n (du_of u g n) input names (h.1 g n))
       acted u (Ue ue) input h names = there (ue_of u (record { 0 = ue })) refl
         where
@@ -178,7 +178,7 @@ module _ (Extra : UeId → SnBits → Type 0) where
       answered u node given (Some input) h names = acted u node input h names
 
       given_names : (node : NodeId) (taken : Option ℕ) (given : PlainGiven) → Brings (allows Extra Offered) given → GivenFits (lengths plans) node taken given → NamesIf (input_of reading given)
-      given_names node taken (letter_for from message) none p = p.1
+      given_names node taken (control_message_for from message) none p = p.1
       given_names node taken (item_for teid item) none p = tt
       given_names node taken (carried_for item) none p = tt
       given_names node taken (confirmed_for item) none p = tt
@@ -201,7 +201,7 @@ module _ (Extra : UeId → SnBits → Type 0) where
 
       core_answered : (r : CoreRecord (Message Token) Token) (given : PlainGiven) → CoreNames (Its Extra plans) r → GivenFits (lengths plans) Core None given
           → CoreAnswered (plain_core reading (lengths_by plans) r given)
-      core_answered r (letter_for from message) p fits = core_by r (core_acts plain_way r from message) p (core_names (Its Extra plans) r from message fits.1 p)
+      core_answered r (control_message_for from message) p fits = core_by r (core_acts plain_way r from message) p (core_names (Its Extra plans) r from message fits.1 p)
       core_answered r (item_for teid item) p fits = (p, (tt, tt))
       core_answered r (carried_for item) p fits = (p, (tt, tt))
       core_answered r (confirmed_for item) p fits = (p, (tt, tt))
@@ -243,17 +243,17 @@ module _ (Extra : UeId → SnBits → Type 0) where
       Attached (step_spent counter) = Unit {0}
 
       by_attach_to : (u : Records) (a : Plain (CuCpRecord (Message Token) Token)) → OfParts Then u
-          → AnswerNames (Its Extra Then) (CpNames (Its Extra Then) plan.gnb) (CuCp plan.gnb) a → AnswerFits link_items (λ r. Unit {0}) (CuCp plan.gnb) None a
-          → Attached (written_step (lengths_by plans) (stepped_with reading (with_cp u plan.gnb) a))
+          → AnswerNames (Its Extra Then) (CuCpNames (Its Extra Then) plan.gnb) (CuCp plan.gnb) a → AnswerFits link_items (λ r. Unit {0}) (CuCp plan.gnb) None a
+          → Attached (written_step (lengths_by plans) (stepped_with reading (with_cu_cp u plan.gnb) a))
       by_attach_to u (gives outputs r) h p q = (with_cp_holds (Parts Extra Then) u plan.gnb r h p.0, cp_all plan.gnb outputs p.1 q.1)
       by_attach_to u (spent counter) h p q = tt
 
       attached : (u : Records) → OfParts Then u
           → Attached (written_step (lengths_by plans) (acts_on reading u (CuCp plan.gnb) (order_input (orders.Attach plan))))
       attached u h =
-          by_attach_to u (cu_cp_acts plain_way (cp_of u plan.gnb) (order_input (orders.Attach plan))) h
-          (cu_cp_names (Its Extra Then) plan.gnb (cp_of u plan.gnb) (order_input (orders.Attach plan)) long (h.2 plan.gnb))
-          (cu_cp_fits (CuCp plan.gnb) None (cp_of u plan.gnb) (order_input (orders.Attach plan)))
+          by_attach_to u (cu_cp_acts plain_way (cu_cp_of u plan.gnb) (order_input (orders.Attach plan))) h
+          (cu_cp_names (Its Extra Then) plan.gnb (cu_cp_of u plan.gnb) (order_input (orders.Attach plan)) long (h.2 plan.gnb))
+          (cu_cp_fits (CuCp plan.gnb) None (cu_cp_of u plan.gnb) (order_input (orders.Attach plan)))
 
       came : (u : Records) → OfParts Then u → OfParts Then (with_ue u plan.ue (new_ue plan))
       unfolding new_ue

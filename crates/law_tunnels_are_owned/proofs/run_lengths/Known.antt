@@ -15,9 +15,9 @@ use Rattle.message_types.specs.declared.xn.XnMessage.TheVariants as xns
 use Rattle.tables.specs.Tables.{find}
 use Rattle.unit_defs.specs.Ways.{Message, f1, e1, xn, Pdu, Load, fresh, numbered, frame, uplink, status, end_marker}
 use Rattle.unit_defs.specs.Transactions.{kind_of, Transactions}
-use Rattle.unit_defs.specs.UpRecords.{UpBearer, CuUp}
+use Rattle.unit_defs.specs.CuUpRecords.{CuUpBearer, CuUp}
 use Rattle.unit_defs.specs.Du.{DuBearer, Du}
-use Rattle.unit_defs.specs.CpRecords.{Attempt, CpContext, CuCpRecord}
+use Rattle.unit_defs.specs.CuCpRecords.{Attempt, CuCpContext, CuCpRecord}
 use Rattle.unit_defs.specs.Core.{CoreRecord}
 use Rattle.unit_defs.specs.octet_defs.Writing.{load_octets, written_load}
 use Rattle.run_defs.specs.States.{sn_in}
@@ -28,8 +28,8 @@ use Rattle.proof_run_steps.proofs.facts.Alone.{alone}
 use Rattle.proof_run_steps.specs.plan_facts.Along.{lengths_by}
 use Rattle.law_tunnels_are_owned.proofs.link_items.Octets.{map_all}
 use Rattle.proof_unit_steps.specs.tunnel_names.Names.{Owners, IfAny, ue_of, NamesFor, Names, LoadNames, Property, KeptNames}
-use Rattle.proof_unit_steps.specs.tunnel_names.CuCps.{ContextNames, TerminalNames, CpNames, CoreNames}
-use Rattle.proof_unit_steps.specs.tunnels.Units.{Each, BearerHolds, UpHolds, DownlinkHolds, DuHolds, NoneIsFree, UpNames, DuNames, IsLong}
+use Rattle.proof_unit_steps.specs.tunnel_names.CuCps.{ContextNames, TerminalNames, CuCpNames, CoreNames}
+use Rattle.proof_unit_steps.specs.tunnels.Units.{Each, BearerHolds, CuUpHolds, DownlinkHolds, DuHolds, NoneIsFree, CuUpNames, DuNames, IsLong}
 
 -- its plan says so
 abbrev pub SaysLength : Plans → UeId → SnBits → Type 0
@@ -62,12 +62,12 @@ module _ (Extra : UeId → SnBits → Type 0) where
 
   abbrev pub Parts : Plans → UnitFacts
   Parts plans =
-      alone (λ g n r. UpNames (Its plans) g n r) (λ g n r. DuNames (Its plans) g n r) (λ g r. CpNames (Its plans) g r) (λ ue x. IsLong (Its plans) x)
+      alone (λ g n r. CuUpNames (Its plans) g n r) (λ g n r. DuNames (Its plans) g n r) (λ g r. CuCpNames (Its plans) g r) (λ ue x. IsLong (Its plans) x)
       (λ r. Unit {0})
 
   -- ---- own tunnels
 
-  pub bearer_holds : (plans : Plans) (g : Gnb) (n : ℕ) (ue : UeId) (bearer : BearerId) (b : UpBearer) → BearerHolds (Owns plans) g n ue bearer b
+  pub bearer_holds : (plans : Plans) (g : Gnb) (n : ℕ) (ue : UeId) (bearer : BearerId) (b : CuUpBearer) → BearerHolds (Owns plans) g n ue bearer b
   bearer_holds plans g n ue bearer b = record {
     paths = any_all _ _ (λ teid. tt);
     uplinks = any_all _ _ (λ teid. tt);
@@ -75,13 +75,13 @@ module _ (Extra : UeId → SnBits → Type 0) where
     up = any_all _ _ (λ teid. tt);
   }
 
-  pub ups_hold : (plans : Plans) (g : Gnb) (n : ℕ) (ue : UeId) (es : List (BearerId × UpBearer)) → Each (BearerHolds (Owns plans) g n ue) es
-  ups_hold plans g n ue es = any_all (λ (e : BearerId × UpBearer). BearerHolds (Owns plans) g n ue e.0 e.1) es (λ e. bearer_holds plans g n ue e.0 e.1)
+  pub ups_hold : (plans : Plans) (g : Gnb) (n : ℕ) (ue : UeId) (es : List (BearerId × CuUpBearer)) → Each (BearerHolds (Owns plans) g n ue) es
+  ups_hold plans g n ue es = any_all (λ (e : BearerId × CuUpBearer). BearerHolds (Owns plans) g n ue e.0 e.1) es (λ e. bearer_holds plans g n ue e.0 e.1)
 
   pub dus_hold : (plans : Plans) (g : Gnb) (n : ℕ) (ue : UeId) (es : List (BearerId × DuBearer)) → Each (DownlinkHolds (Owns plans) g n ue) es
   dus_hold plans g n ue es = any_all (λ (e : BearerId × DuBearer). DownlinkHolds (Owns plans) g n ue e.0 e.1) es (λ e. tt)
 
-  pub up_holds : (plans : Plans) (g : Gnb) (n : ℕ) (r : CuUp (Message Token) Token) → UpHolds (Owns plans) g n r
+  pub up_holds : (plans : Plans) (g : Gnb) (n : ℕ) (r : CuUp (Message Token) Token) → CuUpHolds (Owns plans) g n r
   up_holds plans g n r ue c there = ups_hold plans g n ue c.bearers
 
   pub du_holds : (plans : Plans) (g : Gnb) (n : ℕ) (r : Du (Message Token) Token) → DuHolds (Owns plans) g n r
@@ -116,7 +116,7 @@ module _ (Extra : UeId → SnBits → Type 0) where
       replies = map_all _ _ t.callee (λ e h. if_later node e.1.reply h) p.replies;
     }
 
-    context_later : (gnb : Gnb) (ue : UeId) (c : CpContext) (a : Option Attempt) → ContextNames (Its before) gnb ue c a → ContextNames (Its after) gnb ue c a
+    context_later : (gnb : Gnb) (ue : UeId) (c : CuCpContext) (a : Option Attempt) → ContextNames (Its before) gnb ue c a → ContextNames (Its after) gnb ue c a
     context_later gnb ue c None p = length_later ue c.sn p
     context_later gnb ue c (Some a) p = record {
       paths = p.paths;
@@ -128,18 +128,18 @@ module _ (Extra : UeId → SnBits → Type 0) where
       sn = length_later ue c.sn p.sn;
     }
 
-    terminal_later : (gnb : Gnb) (ue : UeId) (c : Option CpContext) → TerminalNames (Its before) gnb ue c → TerminalNames (Its after) gnb ue c
+    terminal_later : (gnb : Gnb) (ue : UeId) (c : Option CuCpContext) → TerminalNames (Its before) gnb ue c → TerminalNames (Its after) gnb ue c
     terminal_later gnb ue None p = tt
     terminal_later gnb ue (Some c) p = context_later gnb ue c c.attempt p
 
-    cp_later : (gnb : Gnb) (r : CuCpRecord (Message Token) Token) → CpNames (Its before) gnb r → CpNames (Its after) gnb r
+    cp_later : (gnb : Gnb) (r : CuCpRecord (Message Token) Token) → CuCpNames (Its before) gnb r → CuCpNames (Its after) gnb r
     cp_later gnb r p = record {
       own = p.own;
       terminals = λ ue t there. terminal_later gnb ue t.context (p.terminals ue t there);
       kept = kept_later _ r.transactions p.kept;
     }
 
-    up_later : (g : Gnb) (n : ℕ) (r : CuUp (Message Token) Token) → UpNames (Its before) g n r → UpNames (Its after) g n r
+    up_later : (g : Gnb) (n : ℕ) (r : CuUp (Message Token) Token) → CuUpNames (Its before) g n r → CuUpNames (Its after) g n r
     up_later g n r p = record {
       own = p.own;
       contexts = p.contexts;

@@ -9,12 +9,12 @@ use Rattle.message_types.specs.declared.rrc.Token.{Token}
 use Rattle.scenario_text.specs.declared.event.Event.{Event}
 use Rattle.tables.specs.Tables.{find, at}
 use Rattle.unit_defs.specs.Ways.{Message, Pdu, Load, fresh, numbered, frame, uplink, status, end_marker}
-use Rattle.unit_defs.specs.UpRecords.{UpContext}
+use Rattle.unit_defs.specs.CuUpRecords.{CuUpContext}
 use Rattle.unit_defs.specs.CuUp.{new_cu_up}
 use Rattle.unit_defs.specs.Du.{DuContext, new_du}
-use Rattle.unit_defs.specs.CpRecords.{Attempt, CpContext, new_cu_cp}
+use Rattle.unit_defs.specs.CuCpRecords.{Attempt, CuCpContext, new_cu_cp}
 use Rattle.transport_defs.specs.declared.Item.{Item}
-use Rattle.run_defs.specs.Units.{up_of, du_of}
+use Rattle.run_defs.specs.Units.{cu_up_of, du_of}
 use Rattle.run_defs.specs.Written.{Written}
 use Rattle.run_defs.specs.States.{State, new_state, sn_of, radio_of}
 use Rattle.run_defs.specs.Runs.{Reading, plain_world}
@@ -24,9 +24,9 @@ use Rattle.proof_run_steps.proofs.facts.Units.{first_hold}
 use Rattle.proof_run_steps.proofs.plan_facts.Along.{holds_along}
 use Rattle.law_tunnels_are_owned.proofs.link_items.Octets.{map_all}
 use Rattle.proof_unit_steps.specs.tunnel_names.Names.{LoadNames}
-use Rattle.proof_unit_steps.specs.tunnel_names.CuCps.{ContextNames, TerminalNames, CpNames}
+use Rattle.proof_unit_steps.specs.tunnel_names.CuCps.{ContextNames, TerminalNames, CuCpNames}
 use Rattle.proof_unit_steps.proofs.packets.Keyed.{keyed_found}
-use Rattle.proof_unit_steps.specs.tunnels.Units.{UpNames, DuNames}
+use Rattle.proof_unit_steps.specs.tunnels.Units.{CuUpNames, DuNames}
 use Rattle.law_tunnels_are_owned.specs.run_lengths.Lengths.{IsNumberedBy, IsWrittenBy, IsWrittenOnAirBy, NumbersAreOfPlans}
 use Rattle.law_tunnels_are_owned.proofs.run_lengths.Known.{Owns, Its, Parts, length_is}
 use Rattle.law_tunnels_are_owned.proofs.run_lengths.Answers.{allows, OnTunnel, OnAir, lengths, lengths_kept}
@@ -35,13 +35,13 @@ abbrev pub Here : Type 0
 Here = State (Message Token) Token (Written (Load Pdu)) (Written Pdu)
 
 module _ (Extra : UeId → SnBits → Type 0) where
-  first_up : (g : Gnb) (k : ℕ) → UpNames (Its Extra []) g k (new_cu_up g k)
+  first_up : (g : Gnb) (k : ℕ) → CuUpNames (Its Extra []) g k (new_cu_up g k)
   first_up g k = record { own = refl; contexts = tt; lengths = tt; kept = record { opened = tt; waiting = tt; replies = tt } }
 
   first_du : (g : Gnb) (k : ℕ) → DuNames (Its Extra []) g k (new_du g k)
   first_du g k = record { own = refl; uplinks = tt; lengths = tt; kept = record { opened = tt; waiting = tt; replies = tt } }
 
-  first_cp : (g : Gnb) → CpNames (Its Extra []) g (new_cu_cp g)
+  first_cp : (g : Gnb) → CuCpNames (Its Extra []) g (new_cu_cp g)
   unfolding find
   first_cp g = record { own = refl; terminals = λ ue t e. absurd cc; kept = record { opened = tt; waiting = tt; replies = tt } }
 
@@ -50,7 +50,7 @@ module _ (Extra : UeId → SnBits → Type 0) where
   first_lengths = record {
     units = first_hold (Parts Extra []) first_up first_du first_cp;
     core = record { paths = λ ue path e. absurd cc; kept = record { opened = tt; waiting = tt; replies = tt } };
-    letters = tt;
+    control_messages = tt;
     tunnels = λ end items found. absurd cc;
     radios = λ key. tt;
     few = λ counted. absurd counted;
@@ -73,14 +73,14 @@ module _ (s : Here) (h : Hold (lengths Any s.plans) s) where
   numbered_by ue (status lost delivered) k = tt
   numbered_by ue end_marker k = tt
 
-  context_long : (g : Gnb) (ue : UeId) (c : CpContext) (a : Option Attempt) → ContextNames (Its Any s.plans) g ue c a → sn_of s ue ≡ c.sn
+  context_long : (g : Gnb) (ue : UeId) (c : CuCpContext) (a : Option Attempt) → ContextNames (Its Any s.plans) g ue c a → sn_of s ue ≡ c.sn
   context_long g ue c None k = known ue c.sn k
   context_long g ue c (Some a) k = known ue c.sn k.sn
 
-  terminal_long : (g : Gnb) (ue : UeId) (o : Option CpContext) (c : CpContext) → o ≡ Some c → TerminalNames (Its Any s.plans) g ue o → sn_of s ue ≡ c.sn
+  terminal_long : (g : Gnb) (ue : UeId) (o : Option CuCpContext) (c : CuCpContext) → o ≡ Some c → TerminalNames (Its Any s.plans) g ue o → sn_of s ue ≡ c.sn
   terminal_long g ue None c is k = absurd cc
   terminal_long g ue (Some d) c is k =
-      let those : d ≡ c = cc in subst (λ (x : CpContext). sn_of s ue ≡ x.sn) those (context_long g ue d d.attempt k)
+      let those : d ≡ c = cc in subst (λ (x : CuCpContext). sn_of s ue ≡ x.sn) those (context_long g ue d d.attempt k)
 
   pub planned : NumbersAreOfPlans s
   planned = record {
@@ -92,7 +92,7 @@ module _ (s : Here) (h : Hold (lengths Any s.plans) s) where
     cps = λ g ue t c there is. terminal_long g ue t.context c is ((h.units.2 g).terminals ue t there);
     ups = λ g n ue c there.
         known ue c.sn
-        (keyed_found ue_cmp ue_exact (λ (who : UeId) (d : UpContext). (Owns Any s.plans).length who d.sn) (up_of s.units g n).contexts ue c (h.units.0 g n).lengths there);
+        (keyed_found ue_cmp ue_exact (λ (who : UeId) (d : CuUpContext). (Owns Any s.plans).length who d.sn) (cu_up_of s.units g n).contexts ue c (h.units.0 g n).lengths there);
     dus = λ g n ue c there.
         known ue c.sn
         (keyed_found ue_cmp ue_exact (λ (who : UeId) (d : DuContext). (Owns Any s.plans).length who d.sn) (du_of s.units g n).contexts ue c (h.units.1 g n).lengths there);

@@ -14,8 +14,8 @@ use Rattle.gnb_types.specs.declared.keys.EntityKey.{EntityKey}
 use Rattle.message_types.specs.declared.rrc.Token.{Token}
 use Rattle.tables.specs.Tables.{find}
 use Rattle.unit_defs.specs.Ways.{Message, Pdu, Load}
-use Rattle.unit_defs.specs.UpRecords.{TunnelKind, n3, f1u_uplink, forwarding_down, forwarding_up}
-use Rattle.run_defs.specs.Units.{Units, up_of, du_of}
+use Rattle.unit_defs.specs.CuUpRecords.{TunnelKind, n3, f1u_uplink, forwarding_down, forwarding_up}
+use Rattle.run_defs.specs.Units.{Units, cu_up_of, du_of}
 use Rattle.run_defs.specs.Runs.{plain_way}
 use Rattle.proof_run_steps.specs.teids.Given.{below}
 use Rattle.proof_unit_steps.specs.tunnel_names.Names.{Book, by_book, Names, Property, PutOn}
@@ -49,7 +49,7 @@ module _ {M C : Type 0} (units : Units M C) where
       → (book_of units).up gnb number kind key.ue key.bearer teid ≡ true → IsOfKind kind key.dir load → IsOwnAt units (up_id gnb number) teid key load
   up_own gnb number kind teid key load may is owner there =
       let so : is_up_owner kind key.ue key.bearer owner ≡ true =
-      owner_of (is_up_owner kind key.ue key.bearer) (up_of units gnb number).next_teid (up_of units gnb number).tunnels teid owner may there in
+      owner_of (is_up_owner kind key.ue key.bearer) (cu_up_of units gnb number).next_teid (cu_up_of units gnb number).tunnels teid owner may there in
       let all = and_parts (owner.ue.0 == key.ue.0 && owner.bearer.0 == key.bearer.0) (is_kind owner.kind kind) so in
       let both = and_parts (owner.ue.0 == key.ue.0) (owner.bearer.0 == key.bearer.0) all.0 in (
         sym (ap (λ (n : ℕ). record { 0 = n }) (eqb-true owner.ue.0 key.ue.0 both.0)),

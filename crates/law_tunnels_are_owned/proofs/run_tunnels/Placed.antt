@@ -17,25 +17,25 @@ use Rattle.message_types.specs.declared.rrc.Token.{Token}
 use Rattle.tables.specs.Tables.{find, put, at}
 use Rattle.tables.proofs.TableLaws.{find-put, find-put-same}
 use Rattle.unit_defs.specs.Ways.{Message, Pdu}
-use Rattle.unit_defs.specs.UpRecords.{n3, f1u_uplink, CuUp, UpContext}
-use Rattle.unit_defs.specs.UpBearers.{made}
+use Rattle.unit_defs.specs.CuUpRecords.{n3, f1u_uplink, CuUp, CuUpContext}
+use Rattle.unit_defs.specs.CuUpBearers.{made}
 use Rattle.unit_defs.specs.CuUp.{new_cu_up, bearers_from, bearers_made as up_bearers}
 use Rattle.unit_defs.specs.Du.{Du, DuContext, new_du, bearers_made as du_bearers}
-use Rattle.unit_defs.specs.CpRecords.{CpTerminal, CuCpRecord}
+use Rattle.unit_defs.specs.CuCpRecords.{CuCpTerminal, CuCpRecord}
 use Rattle.unit_defs.specs.Core.{CorePath, CoreRecord}
-use Rattle.unit_defs.specs.Static.{up_has_teids, du_has_teids, with_downlinks, up_context, up_placed, uplinks_from, du_context, du_placed, cp_context, cp_placed, up_set_up, du_set_up}
+use Rattle.unit_defs.specs.Static.{cu_up_has_teids, du_has_teids, with_downlinks, cu_up_context, cu_up_placed, uplinks_from, du_context, du_placed, cu_cp_context, cu_cp_placed, cu_up_set_up, du_set_up}
 use Rattle.unit_defs.specs.Ue.{new_ue, placed}
-use Rattle.run_defs.specs.Units.{cp_of, with_cp, up_of, with_up, du_of, with_du, with_ue}
+use Rattle.run_defs.specs.Units.{cu_cp_of, with_cu_cp, cu_up_of, with_cu_up, du_of, with_du, with_ue}
 use Rattle.run_defs.specs.Conditions.{units_placed, all_set_up, n3_from, is_held_by_units}
 use Rattle.run_defs.specs.Runs.{plain_way}
 use Rattle.proof_run_steps.proofs.teids.Placed.{find_mapped}
-use Rattle.law_tunnels_are_owned.specs.owner_facts.Owned.{UpOwns, DuOwns, AreOwned}
+use Rattle.law_tunnels_are_owned.specs.owner_facts.Owned.{CuUpOwns, DuOwns, AreOwned}
 use Rattle.law_tunnels_are_owned.proofs.tunnel_owners.Placed.{placed_owned}
 use Rattle.proof_run_steps.specs.facts.UnitFacts.{OfUnits}
 use Rattle.proof_run_steps.proofs.facts.Units.{units_set_up}
-use Rattle.proof_unit_steps.specs.tunnel_names.Names.{Owners, UpList, Property}
-use Rattle.proof_unit_steps.specs.tunnel_names.CuCps.{TerminalNames, CpNames, PathNames, CoreNames}
-use Rattle.proof_unit_steps.specs.tunnels.Units.{Each, UplinkNames, DownlinkHolds, DuHolds, BearerNames, BearerHolds, UpHolds, UpNames, DuNames}
+use Rattle.proof_unit_steps.specs.tunnel_names.Names.{Owners, CuUpList, Property}
+use Rattle.proof_unit_steps.specs.tunnel_names.CuCps.{TerminalNames, CuCpNames, PathNames, CoreNames}
+use Rattle.proof_unit_steps.specs.tunnels.Units.{Each, UplinkNames, DownlinkHolds, DuHolds, BearerNames, BearerHolds, CuUpHolds, CuUpNames, DuNames}
 use Rattle.proof_unit_steps.proofs.packets.Keyed.{keyed_put}
 use Rattle.law_tunnels_are_owned.proofs.run_tunnels.Held.{Records, Is, Later, Parts, ups_held, dus_held}
 
@@ -43,7 +43,7 @@ use Rattle.law_tunnels_are_owned.proofs.run_tunnels.Held.{Records, Is, Later, Pa
 
 module _ (owners : Owners) (ue : UeId) where
   paths_of : (gnb : Gnb) (up : ℕ) (g : Gnb) (k d n first count : ℕ) → Each (BearerHolds owners gnb up ue) (with_downlinks g k d (up_bearers false n (bearers_from first count)))
-      → UpList owners gnb up n3 ue (n3_from first n count)
+      → CuUpList owners gnb up n3 ue (n3_from first n count)
   unfolding made
   paths_of gnb up g k d n first zero all = tt
   paths_of gnb up g k d n first (suc count) all = (all.0.paths.0, paths_of gnb up g k (d + 1) (n + 2) (first + 1) count all.1)
@@ -80,41 +80,41 @@ module _ {X : Type 0} (Q : UeId → X → Type 0) where
 
 -- ---- the units then
 
-ups_stay : (u : Records) (g : Gnb) (r : CuCpRecord (Message Token) Token) → (with_cp u g r).ups ≡ u.ups
+ups_stay : (u : Records) (g : Gnb) (r : CuCpRecord (Message Token) Token) → (with_cu_cp u g r).ups ≡ u.ups
 ups_stay u A r = refl
 ups_stay u B r = refl
 
-dus_stay : (u : Records) (g : Gnb) (r : CuCpRecord (Message Token) Token) → (with_cp u g r).dus ≡ u.dus
+dus_stay : (u : Records) (g : Gnb) (r : CuCpRecord (Message Token) Token) → (with_cu_cp u g r).dus ≡ u.dus
 dus_stay u A r = refl
 dus_stay u B r = refl
 
 module _ (u : Records) (plan : Plan) where
   abbrev its_up : CuUp (Message Token) Token
-  its_up = up_of u plan.gnb plan.up
+  its_up = cu_up_of u plan.gnb plan.up
 
   abbrev its_du : Du (Message Token) Token
   its_du = du_of u plan.gnb plan.du
 
   abbrev new_up : CuUp (Message Token) Token
-  new_up = up_placed its_up plan its_du.next_teid
+  new_up = cu_up_placed its_up plan its_du.next_teid
 
   abbrev new_node : Du (Message Token) Token
   new_node = du_placed its_du plan (its_up.next_teid + 1)
 
   abbrev with_units : Records
-  with_units = with_du (with_up (with_ue u plan.ue (placed (new_ue plan))) plan.gnb plan.up new_up) plan.gnb plan.du new_node
+  with_units = with_du (with_cu_up (with_ue u plan.ue (placed (new_ue plan))) plan.gnb plan.up new_up) plan.gnb plan.du new_node
 
   abbrev units_then : Records
   units_then = all_set_up (units_placed plan u)
 
-  up_then : up_of units_then plan.gnb plan.up ≡ up_set_up new_up
+  up_then : cu_up_of units_then plan.gnb plan.up ≡ cu_up_set_up new_up
   unfolding at
   up_then =
       let id : NodeId = up_id plan.gnb plan.up in
       ap (λ (o : Option (CuUp (Message Token) Token)). unwrap_or o (new_cu_up plan.gnb plan.up))
-      (find_mapped node_cmp up_set_up (units_placed plan u).ups id
-      ∙ ap (λ (o : Option (CuUp (Message Token) Token)). option_map up_set_up o)
-      (ap (λ (es : List (NodeId × CuUp (Message Token) Token)). find node_cmp es id) (ups_stay with_units plan.gnb (cp_placed (cp_of u plan.gnb) plan))
+      (find_mapped node_cmp cu_up_set_up (units_placed plan u).ups id
+      ∙ ap (λ (o : Option (CuUp (Message Token) Token)). option_map cu_up_set_up o)
+      (ap (λ (es : List (NodeId × CuUp (Message Token) Token)). find node_cmp es id) (ups_stay with_units plan.gnb (cu_cp_placed (cu_cp_of u plan.gnb) plan))
       ∙ find-put-same node_total u.ups id new_up))
 
   du_then : du_of units_then plan.gnb plan.du ≡ du_set_up new_node
@@ -124,11 +124,11 @@ module _ (u : Records) (plan : Plan) where
       ap (λ (o : Option (Du (Message Token) Token)). unwrap_or o (new_du plan.gnb plan.du))
       (find_mapped node_cmp du_set_up (units_placed plan u).dus id
       ∙ ap (λ (o : Option (Du (Message Token) Token)). option_map du_set_up o)
-      (ap (λ (es : List (NodeId × Du (Message Token) Token)). find node_cmp es id) (dus_stay with_units plan.gnb (cp_placed (cp_of u plan.gnb) plan))
+      (ap (λ (es : List (NodeId × Du (Message Token) Token)). find node_cmp es id) (dus_stay with_units plan.gnb (cu_cp_placed (cu_cp_of u plan.gnb) plan))
       ∙ find-put-same node_total u.dus id new_node))
 
-  abbrev pub at_up : UpContext
-  at_up = up_context its_up plan its_du.next_teid
+  abbrev pub at_up : CuUpContext
+  at_up = cu_up_context its_up plan its_du.next_teid
 
   abbrev pub at_du : DuContext
   at_du = du_context its_du plan (its_up.next_teid + 1)
@@ -139,16 +139,16 @@ module _ (u : Records) (plan : Plan) where
   -- where a book has the new contexts' own tunnels, and how long the terminal's numbers are
   module _ (is : Property {M = Message Token} {C = Token} {P = Pdu} plain_way) (known : is.owners.length plan.ue plan.sn)
       (ups : Each (BearerHolds is.owners plan.gnb plan.up plan.ue) at_up.bearers) (dus : Each (DownlinkHolds is.owners plan.gnb plan.du plan.ue) at_du.bearers) where
-    pub up_named : UpNames is plan.gnb plan.up its_up → UpNames is plan.gnb plan.up new_up
-    unfolding up_placed
+    pub up_named : CuUpNames is plan.gnb plan.up its_up → CuUpNames is plan.gnb plan.up new_up
+    unfolding cu_up_placed
     up_named old = record {
       own = old.own;
       contexts =
-          keyed_put ue_cmp ue_exact (λ (ue : UeId) (c : UpContext). Each (BearerNames is.owners ue) c.bearers) its_up.contexts plan.ue at_up old.contexts
+          keyed_put ue_cmp ue_exact (λ (ue : UeId) (c : CuUpContext). Each (BearerNames is.owners ue) c.bearers) its_up.contexts plan.ue at_up old.contexts
           (subst (λ (g : Gnb). Each (BearerNames is.owners plan.ue)
           (with_downlinks g plan.du its_du.next_teid (up_bearers false its_up.next_teid (bearers_from 1 plan.bearers)))) (sym old.own)
           (downlinks_of is.owners plan.ue plan.gnb plan.du (up_id its_du.gnb plan.up) its_du.next_teid its_up.next_teid (its_up.next_teid + 1) 1 plan.bearers dus));
-      lengths = keyed_put ue_cmp ue_exact (λ (ue : UeId) (c : UpContext). is.owners.length ue c.sn) its_up.contexts plan.ue at_up old.lengths known;
+      lengths = keyed_put ue_cmp ue_exact (λ (ue : UeId) (c : CuUpContext). is.owners.length ue c.sn) its_up.contexts plan.ue at_up old.lengths known;
       kept = old.kept;
     }
 
@@ -165,13 +165,13 @@ module _ (u : Records) (plan : Plan) where
       kept = old.kept;
     }
 
-    pub cp_named : CpNames is plan.gnb (cp_of u plan.gnb) → CpNames is plan.gnb (cp_placed (cp_of u plan.gnb) plan)
-    unfolding cp_placed
+    pub cp_named : CuCpNames is plan.gnb (cu_cp_of u plan.gnb) → CuCpNames is plan.gnb (cu_cp_placed (cu_cp_of u plan.gnb) plan)
+    unfolding cu_cp_placed
     cp_named old = record {
       own = old.own;
       terminals =
-          found_put (λ (ue : UeId) (t : CpTerminal). TerminalNames is plan.gnb ue t.context) (cp_of u plan.gnb).terminals plan.ue
-          (record { context = Some (cp_context plan); taken = None }) old.terminals known;
+          found_put (λ (ue : UeId) (t : CuCpTerminal). TerminalNames is plan.gnb ue t.context) (cu_cp_of u plan.gnb).terminals plan.ue
+          (record { context = Some (cu_cp_context plan); taken = None }) old.terminals known;
       kept = old.kept;
     }
 
@@ -184,7 +184,7 @@ module _ (u : Records) (plan : Plan) where
     }
 
   module _ (w : Records) (free : is_held_by_units plan u ≡ false)
-      (teids : up_has_teids (up_of u plan.gnb plan.up) plan && du_has_teids (du_of u plan.gnb plan.du) plan ≡ true)
+      (teids : cu_up_has_teids (cu_up_of u plan.gnb plan.up) plan && du_has_teids (du_of u plan.gnb plan.du) plan ≡ true)
       (l : Later w units_then) (p : OfUnits (Parts w) u) where
     abbrev Its : Owners
     Its = (Is w).owners
@@ -194,9 +194,9 @@ module _ (u : Records) (plan : Plan) where
 
     -- the new contexts' own tunnels are in the book
     ups_are : Each (BearerHolds Its plan.gnb plan.up plan.ue) at_up.bearers
-    unfolding up_placed
+    unfolding cu_up_placed
     ups_are =
-        (subst (λ (r : CuUp (Message Token) Token). UpHolds Its plan.gnb plan.up r) up_then
+        (subst (λ (r : CuUp (Message Token) Token). CuUpHolds Its plan.gnb plan.up r) up_then
         (ups_held w units_then plan.gnb plan.up (owned.0 plan.gnb plan.up) l)) plan.ue at_up (find-put-same ue_total its_up.contexts plan.ue at_up)
 
     dus_are : Each (DownlinkHolds Its plan.gnb plan.du plan.ue) at_du.bearers
@@ -209,7 +209,7 @@ module _ (u : Records) (plan : Plan) where
     placed_named =
         units_set_up (Parts w) (λ g n r h. (record { own = h.0.own; contexts = h.0.contexts; lengths = h.0.lengths; kept = h.0.kept }, h.1))
         (λ g n r h. (record { own = h.0.own; uplinks = h.0.uplinks; lengths = h.0.lengths; kept = h.0.kept }, h.1)) (λ g r h. record { own = h.own; terminals = h.terminals; kept = h.kept })
-        u plan p tt (up_named (Is w) refl ups_are dus_are (p.0 plan.gnb plan.up).0, subst (λ (r : CuUp (Message Token) Token). UpOwns r) up_then (owned.0 plan.gnb plan.up))
+        u plan p tt (up_named (Is w) refl ups_are dus_are (p.0 plan.gnb plan.up).0, subst (λ (r : CuUp (Message Token) Token). CuUpOwns r) up_then (owned.0 plan.gnb plan.up))
         (du_named (Is w) refl ups_are dus_are (p.1 plan.gnb plan.du).0, subst (λ (r : Du (Message Token) Token). DuOwns r) du_then (owned.1 plan.gnb plan.du))
         (cp_named (Is w) refl ups_are dus_are (p.2 plan.gnb))
 

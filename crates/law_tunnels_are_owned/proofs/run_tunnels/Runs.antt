@@ -16,22 +16,22 @@ use Rattle.scenario_text.specs.declared.event.Event.{Event}
 use Rattle.tables.specs.Tables.{find, at}
 use Rattle.unit_defs.specs.Ways.{Message, Pdu, Load, Put, control, packet, radio, deliver, dropped, held, opened, closed, failed, no, Input, gives, spent}
 use Rattle.unit_defs.specs.Messages.{teid_of}
-use Rattle.unit_defs.specs.UpRecords.{CuUp, n3}
+use Rattle.unit_defs.specs.CuUpRecords.{CuUp, n3}
 use Rattle.unit_defs.specs.CuUp.{new_cu_up, cu_up_acts}
 use Rattle.unit_defs.specs.Du.{Du, new_du, du_acts}
 use Rattle.unit_defs.specs.Ue.{UeNode, new_ue, ue_acts}
-use Rattle.unit_defs.specs.CpRecords.{CuCpRecord, new_cu_cp}
+use Rattle.unit_defs.specs.CuCpRecords.{CuCpRecord, new_cu_cp}
 use Rattle.unit_defs.specs.CuCp.{cu_cp_acts}
 use Rattle.unit_defs.specs.Core.{CoreRecord, core_acts}
 use Rattle.transport_defs.specs.declared.Item.{Item}
-use Rattle.run_defs.specs.Units.{cp_of, with_cp, up_of, with_up, du_of, with_du, ue_of, with_ue}
+use Rattle.run_defs.specs.Units.{cu_cp_of, with_cu_cp, cu_up_of, with_cu_up, du_of, with_du, ue_of, with_ue}
 use Rattle.run_defs.specs.Written.{Written, written_put, PlainStepped, WrittenStepped, WrittenCoreStepped, written_step}
-use Rattle.run_defs.specs.States.{State, new_state, Lengths, letter_for, item_for, carried_for, confirmed_for, offer_for, tick_for, order_for, octets_from, octets_on, stepped, step_spent, core_stepped}
+use Rattle.run_defs.specs.States.{State, new_state, Lengths, control_message_for, item_for, carried_for, confirmed_for, offer_for, tick_for, order_for, octets_from, octets_on, stepped, step_spent, core_stepped}
 use Rattle.run_defs.specs.Conditions.{units_placed, all_set_up}
 use Rattle.run_defs.specs.Runs.{Reading, PlainGiven, Plain, plain_way, input_of, stepped_with, ue_stepped, acts_on, plain_by, core_done, plain_core, plain_world}
 use Rattle.proof_run_steps.specs.steps.Reached.{reached}
 use Rattle.proof_run_steps.proofs.teids.Runs.{give_same, give_then, placed_gives, answer_gives}
-use Rattle.law_tunnels_are_owned.specs.owner_facts.Owned.{UpOwns, DuOwns}
+use Rattle.law_tunnels_are_owned.specs.owner_facts.Owned.{CuUpOwns, DuOwns}
 use Rattle.proof_unit_steps.specs.answers.After.{HoldsAfter}
 use Rattle.law_tunnels_are_owned.proofs.tunnel_owners.CuUps.{cu_up_owns}
 use Rattle.law_tunnels_are_owned.proofs.tunnel_owners.Dus.{du_owns}
@@ -47,10 +47,10 @@ use Rattle.law_tunnels_are_owned.proofs.link_items.Octets.{map_all}
 use Rattle.law_tunnels_are_owned.proofs.link_items.Names.{link_items}
 use Rattle.law_tunnels_are_owned.proofs.link_items.Links.{items_keep}
 use Rattle.proof_unit_steps.specs.tunnel_names.Names.{by_book, Names, Property, OwnUpList, PutOn, InputNames, OutputNames, OutputsName, AnswerNames}
-use Rattle.proof_unit_steps.specs.tunnel_names.CuCps.{CpNames, CoreNames}
+use Rattle.proof_unit_steps.specs.tunnel_names.CuCps.{CuCpNames, CoreNames}
 use Rattle.proof_unit_steps.proofs.tunnel_names.CuCps.{cu_cp_names}
 use Rattle.proof_unit_steps.proofs.tunnel_names.Cores.{core_names}
-use Rattle.proof_unit_steps.specs.tunnels.Units.{UpHolds, DuHolds, NoneIsFree, UpNames, DuNames, IsLong, AnswerIf}
+use Rattle.proof_unit_steps.specs.tunnels.Units.{CuUpHolds, DuHolds, NoneIsFree, CuUpNames, DuNames, IsLong, AnswerIf}
 use Rattle.proof_unit_steps.proofs.tunnels.CuUps.{cu_up_names, named_teid}
 use Rattle.proof_unit_steps.proofs.tunnels.Dus.{du_names}
 use Rattle.proof_unit_steps.proofs.tunnels.Terminals.{terminal_keeps}
@@ -80,7 +80,7 @@ module _ (w : Records) (none : NoneIsFree (by_book (book_of w))) where
   named = record {
     units = OfParts;
     core = CoreNames Its;
-    letter = λ l. Names Its.owners l.from l.message;
+    control_message = λ l. Names Its.owners l.from l.message;
     puts_on = λ node end item. PutOn Its node end.node end.teid item.key.ue item.key.bearer item.key.dir;
     puts_on_air = λ node key item. item.key ≡ key;
     on_tunnel = λ end item. Unit {0};
@@ -135,19 +135,19 @@ module _ (w : Records) (none : NoneIsFree (by_book (book_of w))) where
     written lengths u node taken (stepped outputs v) p = λ h l. let r = p h l in (r.0, fit_all lengths node taken outputs r.1)
     written lengths u node taken (step_spent counter) p = tt
 
-    by_cp : (u : Records) (g : Gnb) (a : Plain (CuCpRecord (Message Token) Token)) → (CpNames Its g (cp_of u g) → AnswerNames Its (CpNames Its g) (CuCp g) a)
-        → Answered u (CuCp g) (stepped_with reading (with_cp u g) a)
+    by_cp : (u : Records) (g : Gnb) (a : Plain (CuCpRecord (Message Token) Token)) → (CuCpNames Its g (cu_cp_of u g) → AnswerNames Its (CuCpNames Its g) (CuCp g) a)
+        → Answered u (CuCp g) (stepped_with reading (with_cu_cp u g) a)
     by_cp u g (gives outputs r) f = λ h l. let p = f (h.2 g) in (with_cp_holds (Parts w) u g r h p.0, p.1)
     by_cp u g (spent counter) f = tt
 
     acted : (u : Records) (node : NodeId) (input : Input Token Pdu) → InputNames Its input → Answered u node (acts_on reading u node input)
-    acted u (CuCp g) input names = by_cp u g (cu_cp_acts plain_way (cp_of u g) input) (cu_cp_names Its g (cp_of u g) input names)
-    acted u (up_id g n) input names = up_acted (cu_up_acts plain_way (up_of u g n) input) (cu_up_owns plain_way (up_of u g n) input)
-        (cu_up_names Its none g n (up_of u g n) input names)
+    acted u (CuCp g) input names = by_cp u g (cu_cp_acts plain_way (cu_cp_of u g) input) (cu_cp_names Its g (cu_cp_of u g) input names)
+    acted u (up_id g n) input names = up_acted (cu_up_acts plain_way (cu_up_of u g n) input) (cu_up_owns plain_way (cu_up_of u g n) input)
+        (cu_up_names Its none g n (cu_up_of u g n) input names)
       where
-        up_acted : (a : Plain (CuUp (Message Token) Token)) → (UpOwns (up_of u g n) → HoldsAfter UpOwns a)
-            → (UpNames Its g n (up_of u g n) → AnswerIf Its (UpHolds Its.owners g n) (UpNames Its g n) (up_id g n) a)
-            → Answered u (up_id g n) (stepped_with reading (with_up u g n) a)
+        up_acted : (a : Plain (CuUp (Message Token) Token)) → (CuUpOwns (cu_up_of u g n) → HoldsAfter CuUpOwns a)
+            → (CuUpNames Its g n (cu_up_of u g n) → AnswerIf Its (CuUpHolds Its.owners g n) (CuUpNames Its g n) (up_id g n) a)
+            → Answered u (up_id g n) (stepped_with reading (with_cu_up u g n) a)
         up_acted (gives outputs r) owns f =
             λ h l. let o = owns (h.0 g n).1 in let p = f (h.0 g n).0 (up_held w u g n r o l) in (with_up_holds (Parts w) u g n r h (p.0, o), p.1)
         up_acted (spent counter) owns f = tt
@@ -180,7 +180,7 @@ module _ (w : Records) (none : NoneIsFree (by_book (book_of w))) where
     answered u node given (Some input) names = acted u node input names
 
     given_names : (node : NodeId) (taken : Option ℕ) (given : PlainGiven) → GivenFits named node taken given → NamesIf (input_of reading given)
-    given_names node taken (letter_for from message) p = p.1
+    given_names node taken (control_message_for from message) p = p.1
     given_names node taken (item_for teid item) p = tt
     given_names node taken (carried_for item) p = tt
     given_names node taken (confirmed_for item) p = tt
@@ -203,7 +203,7 @@ module _ (w : Records) (none : NoneIsFree (by_book (book_of w))) where
 
     core_answered : (lengths : Lengths) (r : CoreRecord (Message Token) Token) (given : PlainGiven) → CoreNames Its r → GivenFits named Core None given
         → CoreAnswered (plain_core reading lengths r given)
-    core_answered lengths r (letter_for from message) p fits = core_by lengths r (core_acts plain_way r from message) p (core_names Its r from message fits.1 p)
+    core_answered lengths r (control_message_for from message) p fits = core_by lengths r (core_acts plain_way r from message) p (core_names Its r from message fits.1 p)
     core_answered lengths r (item_for teid item) p fits = (p, (tt, tt))
     core_answered lengths r (carried_for item) p fits = (p, (tt, tt))
     core_answered lengths r (confirmed_for item) p fits = (p, (tt, tt))
@@ -245,13 +245,13 @@ module _ (w : Records) (none : NoneIsFree (by_book (book_of w))) where
 
   -- ---- the first state
 
-  new_up : (g : Gnb) (k : ℕ) → UpNames Its g k (new_cu_up g k)
+  new_up : (g : Gnb) (k : ℕ) → CuUpNames Its g k (new_cu_up g k)
   new_up g k = record { own = refl; contexts = tt; lengths = tt; kept = record { opened = tt; waiting = tt; replies = tt } }
 
   new_node : (g : Gnb) (k : ℕ) → DuNames Its g k (new_du g k)
   new_node g k = record { own = refl; uplinks = tt; lengths = tt; kept = record { opened = tt; waiting = tt; replies = tt } }
 
-  new_cp : (g : Gnb) → CpNames Its g (new_cu_cp g)
+  new_cp : (g : Gnb) → CuCpNames Its g (new_cu_cp g)
   unfolding find
   new_cp g = record { own = refl; terminals = λ ue t e. absurd cc; kept = record { opened = tt; waiting = tt; replies = tt } }
 
@@ -265,7 +265,7 @@ module _ (w : Records) (none : NoneIsFree (by_book (book_of w))) where
               (λ g n. (new_node g n, nothing_du (new_du {M = Message Token} {C = Token} g n) refl refl)) new_cp,
         );
         core = (laid.core, record { paths = λ ue path e. absurd cc; kept = record { opened = tt; waiting = tt; replies = tt } });
-        letters = tt;
+        control_messages = tt;
         tunnels = λ end items found. absurd cc;
         radios = λ key. tt;
         few = λ counted. absurd counted;

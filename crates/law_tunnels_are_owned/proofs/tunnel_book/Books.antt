@@ -16,23 +16,23 @@ use Rattle.message_types.specs.declared.rrc.Token.{Token}
 use Rattle.scenario_text.specs.declared.event.Event.{Event}
 use Rattle.tables.specs.Tables.{find, IsSorted, at}
 use Rattle.unit_defs.specs.Ways.{Message, Pdu, Load}
-use Rattle.unit_defs.specs.UpRecords.{TunnelKind, n3, f1u_uplink, forwarding_down, forwarding_up, UpBearer, UpTunnel, CuUp}
-use Rattle.unit_defs.specs.UpBearers.{is_one_of}
+use Rattle.unit_defs.specs.CuUpRecords.{TunnelKind, n3, f1u_uplink, forwarding_down, forwarding_up, CuUpBearer, CuUpTunnel, CuUp}
+use Rattle.unit_defs.specs.CuUpBearers.{is_one_of}
 use Rattle.unit_defs.specs.CuUp.{new_cu_up}
 use Rattle.unit_defs.specs.Du.{DuTunnel, Du, new_du}
-use Rattle.run_defs.specs.Units.{Units, new_units, up_of, du_of}
+use Rattle.run_defs.specs.Units.{Units, new_units, cu_up_of, du_of}
 use Rattle.run_defs.specs.States.{State, new_state}
 use Rattle.run_defs.specs.Runs.{Reading, plain_world}
 use Rattle.run_defs.specs.Written.{Written}
 use Rattle.proof_run_steps.specs.steps.Reached.{reached}
 use Rattle.proof_run_steps.specs.teids.Given.{below, GrowsTo, GiveOnce}
 use Rattle.proof_run_steps.proofs.teids.Runs.{given_once}
-use Rattle.law_tunnels_are_owned.specs.owner_facts.Owned.{ends_of, has_such, has_end, up_context_names, up_names, is_downlink, du_context_names, du_names, UpOwns, DuOwns, AreOwned}
+use Rattle.law_tunnels_are_owned.specs.owner_facts.Owned.{ends_of, has_such, has_end, up_context_names, cu_up_names, is_downlink, du_context_names, du_names, CuUpOwns, DuOwns, AreOwned}
 use Rattle.law_tunnels_are_owned.proofs.owner_facts.Found.{has_later, has_first}
 use Rattle.law_tunnels_are_owned.proofs.tunnel_owners.Placed.{first_owned}
 use Rattle.law_tunnels_are_owned.proofs.tunnel_owners.Runs.{owned_later}
 use Rattle.proof_unit_steps.specs.tunnel_names.Names.{by_book}
-use Rattle.proof_unit_steps.specs.tunnels.Units.{Each, BearerHolds, UpHolds, DuHolds, NoneIsFree}
+use Rattle.proof_unit_steps.specs.tunnels.Units.{Each, BearerHolds, CuUpHolds, DuHolds, NoneIsFree}
 use Rattle.law_tunnels_are_owned.specs.tunnel_book.Book.{is_kind, is_up_owner, is_du_owner, all_such, may_be, book_of, Keeps, HasItsOwn}
 
 both_true : (a b : Bool) → a ≡ true → b ≡ true → a && b ≡ true
@@ -73,7 +73,7 @@ module _ {M C : Type 0} where
   pub books_keep : (u v : Units M C) → GiveOnce u v → Keeps (book_of u) (book_of v)
   books_keep u v once = record {
     up = λ g n kind ue bearer teid h.
-        later_may (is_up_owner kind ue bearer) (up_of u g n).next_teid (up_of u g n).tunnels (up_of v g n).next_teid (up_of v g n).tunnels teid (once.0 g n) h;
+        later_may (is_up_owner kind ue bearer) (cu_up_of u g n).next_teid (cu_up_of u g n).tunnels (cu_up_of v g n).next_teid (cu_up_of v g n).tunnels teid (once.0 g n) h;
     du = λ g n ue bearer teid h.
         later_may (is_du_owner ue bearer) (du_of u g n).next_teid (du_of u g n).tunnels (du_of v g n).next_teid (du_of v g n).tunnels teid (once.1 g n) h;
   }
@@ -117,7 +117,7 @@ each_both Q R [] p q = tt
 each_both Q R (e ∷ es) p q = ((p.0, q.0), each_both Q R es p.1 q.1)
 
 module _ {M C : Type 0} (units : Units M C) (gnb : Gnb) (number : ℕ) where
-  pub up_holds : UpOwns (up_of units gnb number) → UpHolds (by_book (book_of units)) gnb number (up_of units gnb number)
+  pub up_holds : CuUpOwns (cu_up_of units gnb number) → CuUpHolds (by_book (book_of units)) gnb number (cu_up_of units gnb number)
   up_holds p ue c there =
       each_mapped (λ k b. (Ends n3 k b × Ends f1u_uplink k b) × (Ends forwarding_down k b × Ends forwarding_up k b))
       (BearerHolds (by_book (book_of units)) gnb number ue) c.bearers
@@ -134,16 +134,16 @@ module _ {M C : Type 0} (units : Units M C) (gnb : Gnb) (number : ℕ) where
       May : TunnelKind → BearerId → ℕ → Type 0
       May kind k q = (book_of units).up gnb number kind ue k q ≡ true
 
-      Ends : TunnelKind → BearerId → UpBearer → Type 0
+      Ends : TunnelKind → BearerId → CuUpBearer → Type 0
       Ends kind k b = (q : ℕ) → is_one_of (ends_of kind b) q ≡ true → May kind k q
 
       may : (kind : TunnelKind) (k : BearerId) (q : ℕ) → has_end kind q (find bearer_cmp c.bearers k) ≡ true → May kind k q
       may kind k q h =
-          let owner : UpTunnel = record { ue = ue; bearer = k; kind = kind; context = c.instance } in
-          let named : up_names (up_of units gnb number).contexts owner q ≡ true =
+          let owner : CuUpTunnel = record { ue = ue; bearer = k; kind = kind; context = c.instance } in
+          let named : cu_up_names (cu_up_of units gnb number).contexts owner q ≡ true =
           ap (up_context_names owner q) there ∙ both_true (c.instance == c.instance) _ (eq-eqb c.instance c.instance refl) h in
-          let open_there : find nat_cmp (up_of units gnb number).tunnels q ≡ Some owner = p.0.stands q owner named in
-          open_may (is_up_owner kind ue k) (up_of units gnb number).next_teid (up_of units gnb number).tunnels q owner open_there (p.2 q owner open_there)
+          let open_there : find nat_cmp (cu_up_of units gnb number).tunnels q ≡ Some owner = p.0.stands q owner named in
+          open_may (is_up_owner kind ue k) (cu_up_of units gnb number).next_teid (cu_up_of units gnb number).tunnels q owner open_there (p.2 q owner open_there)
           (both_true (ue.0 == ue.0 && k.0 == k.0) _ (both_true (ue.0 == ue.0) _ (eq-eqb ue.0 ue.0 refl) (eq-eqb k.0 k.0 refl)) (same_kind kind))
 
       of_kind : (kind : TunnelKind) → Each (Ends kind) c.bearers
@@ -175,12 +175,12 @@ module _ (M C : Type 0) where
   Node = Du M C
 
   abbrev UpFree : Up → Type 0
-  UpFree r = (test : UpTunnel → Bool) → may_be test r.next_teid r.tunnels 0 ≡ true
+  UpFree r = (test : CuUpTunnel → Bool) → may_be test r.next_teid r.tunnels 0 ≡ true
 
   abbrev DuFree : Node → Type 0
   DuFree r = (test : DuTunnel → Bool) → may_be test r.next_teid r.tunnels 0 ≡ true
 
-  up_free : (g : Gnb) (k : ℕ) → UpFree (up_of (new_units {M = M} {C = C}) g k)
+  up_free : (g : Gnb) (k : ℕ) → UpFree (cu_up_of (new_units {M = M} {C = C}) g k)
   unfolding at find
   up_free g k =
       by (is_at (node_cmp (up_id g k)) (up_id A 1)) (is_at (node_cmp (up_id g k)) (up_id A 2)) (is_at (node_cmp (up_id g k)) (up_id B 1))

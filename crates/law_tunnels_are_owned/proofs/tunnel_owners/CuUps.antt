@@ -19,8 +19,8 @@ use Rattle.gnb_types.specs.declared.reasons.DropReason.TheVariants.{Unexpected}
 use Rattle.gnb_types.specs.declared.reasons.RefuseReason.TheVariants.{Empty, NoRadio}
 use Rattle.gnb_types.specs.Names.{node_text}
 use Rattle.gnb_types.specs.Orders.{bearer_cmp, ue_cmp}
-use Rattle.unit_defs.specs.UpRecords.{TunnelKind, n3, f1u_uplink, forwarding_down, forwarding_up, UpBearer, UpContext, CuUp, UpTunnel, up_at}
-use Rattle.unit_defs.specs.UpBearers.{teid_in, is_one_of, released, teids_of_bearer, with_uplink, switched, frozen_to, with_status, resumed, is_over, has_downlink, framed}
+use Rattle.unit_defs.specs.CuUpRecords.{TunnelKind, n3, f1u_uplink, forwarding_down, forwarding_up, CuUpBearer, CuUpContext, CuUp, CuUpTunnel, cu_up_scope}
+use Rattle.unit_defs.specs.CuUpBearers.{teid_in, is_one_of, released, teids_of_bearer, with_uplink, switched, frozen_to, with_status, resumed, is_over, has_downlink, framed}
 use Rattle.unit_defs.specs.Teids.{without_each, teids_are_left}
 use Rattle.tables.specs.Tables.{find, put}
 use Rattle.transaction_defs.specs.Callers.{close}
@@ -29,12 +29,12 @@ use Rattle.message_types.specs.declared.e1.E1Message.TheVariants as e1s
 use Rattle.unit_defs.specs.Ways.{Message, e1, Taken, no, Input, control_input, packet_input, tick_input, order_input, Output, Way, Answer, gives, spent, ◌then◌, nothing, puts, drops, teids_spent}
 use Rattle.unit_defs.specs.Messages.{cause_busy, cause_quota, mode_uplinks, mode_switch, mode_freeze, mode_status, mode_resume, channel, are_bearers, bearers_of, statuses_of, teid_of}
 use Rattle.unit_defs.specs.Transactions.{Kind, request, reply, transfer, kind_of, no_instance, ask, advance, replied}
-use Rattle.unit_defs.specs.UpItems.{held_reason, took}
-use Rattle.unit_defs.specs.CuUp.{bearers_from, with_context, context_of, with_transactions, up_node, UpStep, steps, stops, step_with, each_bearer, answer_with, ended, ended_if_over, end_where_over, replies, new_context, with_new, makes, fits, set_up_for, setup_response, setup_on, setup, modified, uplinks_from, teids_from, uplinks_given, add_uplinks, as_switched, switch, as_frozen, peer_node, statuses, freeze, as_known, status_each, take_status, as_resumed, resume, names, switch_if, freeze_if, status_if, resume_if, modify_on, as_released, released_on, release, asked, start, set_up, control_by, ue_in, is_own_cp, control_came, with_bearer, taken_by, taken_in, taken_of, taken_on, take, poll_bearer, poll_on, poll, tick, cu_up_acts}
+use Rattle.unit_defs.specs.CuUpItems.{held_reason, took}
+use Rattle.unit_defs.specs.CuUp.{bearers_from, with_context, context_of, with_transactions, up_node, UpStep, steps, stops, step_with, each_bearer, answer_with, ended, ended_if_over, end_where_over, replies, new_context, with_new, makes, fits, set_up_for, setup_response, setup_on, setup, modified, uplinks_from, teids_from, uplinks_given, add_uplinks, as_switched, switch, as_frozen, peer_node, statuses, freeze, as_known, status_each, take_status, as_resumed, resume, names, switch_if, freeze_if, status_if, resume_if, modify_on, as_released, released_on, release, asked, start, set_up, control_by, ue_in, is_own_cu_cp, control_received, with_bearer, taken_by, taken_in, taken_of, taken_on, take, poll_bearer, poll_on, poll, tick, cu_up_acts}
 use Rattle.proof_run_steps.proofs.teids.Grows.{below_left}
 use Rattle.proof_run_steps.proofs.teids.Bearers.{Ends, Stays, Took, ends, closed_by, without_n3, without_uplink, poll_stays, switched_stays, frozen_stays, status_stays, resumed_stays, item_took}
 use Rattle.proof_run_steps.proofs.teids.CuUps.{Gives, cu_up_gives}
-use Rattle.law_tunnels_are_owned.specs.owner_facts.Owned.{ends_of, has_end, WereGiven, UpOwns}
+use Rattle.law_tunnels_are_owned.specs.owner_facts.Owned.{ends_of, has_end, WereGiven, CuUpOwns}
 use Rattle.proof_unit_steps.specs.answers.After.{HoldsAfter}
 use Rattle.law_tunnels_are_owned.proofs.owner_facts.Owners.{given_then, second_of}
 use Rattle.proof_unit_steps.proofs.answers.Answers.{holds_if, holds_then, any_then, holds_request, holds_reply}
@@ -62,13 +62,13 @@ module _ {M C P : Type 0} (way : Way M C P) where
   StepKeeps es (steps os bearers) = SameEnds es bearers
   StepKeeps es (stops k) = Unit {0}
 
-  step_keeps : (bearer : BearerId) (b : UpBearer) (es : Bearers) (a : Answer M P UpBearer) (s : UpStep way) → Stays way (ends b) a → StepKeeps es s
+  step_keeps : (bearer : BearerId) (b : CuUpBearer) (es : Bearers) (a : Answer M P CuUpBearer) (s : UpStep way) → Stays way (ends b) a → StepKeeps es s
       → StepKeeps ((bearer, b) ∷ es) (step_with way bearer a s)
   step_keeps bearer b es (gives os c) (steps more bs) p q = (refl, p.2, q)
   step_keeps bearer b es (gives os c) (stops k) p q = tt
   step_keeps bearer b es (spent k) s p q = tt
 
-  each_keeps : (order : BearerId → UpBearer → Answer M P UpBearer) → ((bearer : BearerId) (b : UpBearer) → Stays way (ends b) (order bearer b))
+  each_keeps : (order : BearerId → CuUpBearer → Answer M P CuUpBearer) → ((bearer : BearerId) (b : CuUpBearer) → Stays way (ends b) (order bearer b))
       → (es : Bearers) → StepKeeps es (each_bearer way order es)
   each_keeps order each [] = tt
   each_keeps order each (e ∷ es) = step_keeps e.0 e.1 es (order e.0 e.1) (each_bearer way order es) (each e.0 e.1) (each_keeps order each es)
@@ -77,13 +77,13 @@ module _ {M C P : Type 0} (way : Way M C P) where
   all_same [] = tt
   all_same (e ∷ es) = (refl, refl, all_same es)
 
-  statuses_keep : (ue : UeId) (c : UpContext) (ss : List SnStatus) (es : Bearers) → StepKeeps es (status_each way ue c ss es)
+  statuses_keep : (ue : UeId) (c : CuUpContext) (ss : List SnStatus) (es : Bearers) → StepKeeps es (status_each way ue c ss es)
   statuses_keep ue c [] es = all_same es
   statuses_keep ue c (s ∷ ss) [] = tt
   statuses_keep ue c (s ∷ ss) (e ∷ es) =
-      step_keeps e.0 e.1 es (with_status way (up_at ue c e.0) s e.1) (status_each way ue c ss es) (status_stays way (up_at ue c e.0) s e.1) (statuses_keep ue c ss es)
+      step_keeps e.0 e.1 es (with_status way (cu_up_scope ue c e.0) s e.1) (status_each way ue c ss es) (status_stays way (cu_up_scope ue c e.0) s e.1) (statuses_keep ue c ss es)
 
-  steps_keep : (r : CuUp M C) (ch : Channel) (ue : UeId) (c d : UpContext) (s : UpStep way) (m : E1Message) → Names r → find ue_cmp r.contexts ue ≡ Some c
+  steps_keep : (r : CuUp M C) (ch : Channel) (ue : UeId) (c d : CuUpContext) (s : UpStep way) (m : E1Message) → Names r → find ue_cmp r.contexts ue ≡ Some c
       → d.instance ≡ c.instance → StepKeeps c.bearers s → Keeps (answer_with way r ue d s then replies way ch m)
   steps_keep r ch ue c d s m p is same keeps = holds_then Names Names (answer_with way r ue d s) (replies way ch m) (by s keeps) (replies_keep ch m)
     where
@@ -95,7 +95,7 @@ module _ {M C P : Type 0} (way : Way M C P) where
 
   -- ---- a context ends
 
-  ended_keeps : (r : CuUp M C) (ue : UeId) (c : UpContext) → Names r → find ue_cmp r.contexts ue ≡ Some c → Keeps (ended way r ue c)
+  ended_keeps : (r : CuUp M C) (ue : UeId) (c : CuUpContext) → Names r → find ue_cmp r.contexts ue ≡ Some c → Keeps (ended way r ue c)
   unfolding ended
   ended_keeps r ue c p is = all_close r.tunnels r.contexts p ue c is
 
@@ -103,7 +103,7 @@ module _ {M C P : Type 0} (way : Way M C P) where
   unfolding end_where_over
   over_keeps ue r p = by (context_of r ue) refl
     where
-      by : (c : Option UpContext) → find ue_cmp r.contexts ue ≡ c → Keeps (ended_if_over way ue r c)
+      by : (c : Option CuUpContext) → find ue_cmp r.contexts ue ≡ c → Keeps (ended_if_over way ue r c)
       by None is = p
       by (Some c) is =
           keeps_if (c.flags.released && list_all (λ e. is_over c.flags e.1) c.bearers) (ended way r ue c) (nothing r) (ended_keeps r ue c p is) p
@@ -112,7 +112,7 @@ module _ {M C P : Type 0} (way : Way M C P) where
   released_same [] = tt
   released_same (e ∷ es) = (refl, refl, released_same es)
 
-  released_keeps : (ue : UeId) (is_final : Bool) (r : CuUp M C) → Names r → (c : Option UpContext) → find ue_cmp r.contexts ue ≡ c
+  released_keeps : (ue : UeId) (is_final : Bool) (r : CuUp M C) → Names r → (c : Option CuUpContext) → find ue_cmp r.contexts ue ≡ c
       → Keeps (released_on way ue is_final r c)
   released_keeps ue is_final r p None is = p
   released_keeps ue true r p (Some c) is = ended_keeps r ue c p is
@@ -139,17 +139,17 @@ module _ {M C P : Type 0} (way : Way M C P) where
           → Keeps (if t then with_new way ue r (count * teids_of_bearer target) (new_context way r sn quota target count) else spent teids_spent)
       by true left =
           new_named r.tunnels r.contexts p ue r.next_teid
-          (subst (λ (n : ℕ). (q : ℕ) (o : UpTunnel) → find nat_cmp r.tunnels q ≡ Some o → q + 1 ≤ n) (below_left r.next_teid (count * teids_of_bearer target) left) given)
+          (subst (λ (n : ℕ). (q : ℕ) (o : CuUpTunnel) → find nat_cmp r.tunnels q ≡ Some o → q + 1 ≤ n) (below_left r.next_teid (count * teids_of_bearer target) left) given)
           (new_context way r sn quota target count) none (made_in_order target 1 count r.next_teid) (made_from ue r.next_teid target (bearers_from 1 count) r.next_teid)
       by false left = tt
 
-  set_up_keeps : (ch : Channel) (ue : UeId) (instance : ℕ) (forward : Bool) (r : CuUp M C) (c : Option UpContext) → Names r
+  set_up_keeps : (ch : Channel) (ue : UeId) (instance : ℕ) (forward : Bool) (r : CuUp M C) (c : Option CuUpContext) → Names r
       → Keeps (set_up_for way ch ue instance forward r c)
   set_up_keeps ch ue instance forward r None p = p
   set_up_keeps ch ue instance forward r (Some c) p = replies_keep ch (setup_response way ue instance forward c.bearers) r p
 
   setup_keeps : (ch : Channel) (ue : UeId) (instance count : ℕ) (sn : SnBits) (quota : ℕ) (forward : Bool) (r : CuUp M C) → Names r
-      → WereGiven r.next_teid r.tunnels → (c : Option UpContext) → find ue_cmp r.contexts ue ≡ c → Keeps (setup_on way ch ue instance count sn quota forward r c)
+      → WereGiven r.next_teid r.tunnels → (c : Option CuUpContext) → find ue_cmp r.contexts ue ≡ c → Keeps (setup_on way ch ue instance count sn quota forward r c)
   setup_keeps ch ue instance count sn quota forward r p given (Some c) is = replies_keep ch (e1s.BearerContextSetupFailure ue instance cause_busy) r p
   setup_keeps ch ue instance count sn quota forward r p given None is =
       keeps_if (not (fits way count quota r)) _ _ (replies_keep ch (e1s.BearerContextSetupFailure ue instance cause_quota) r p)
@@ -172,7 +172,7 @@ module _ {M C P : Type 0} (way : Way M C P) where
       by (stops k) p = tt
 
   module _ (ch : Channel) (ue : UeId) (instance : ℕ) (r : CuUp M C) (p : Names r) where
-    uplinks_keep : (c : UpContext) → find ue_cmp r.contexts ue ≡ Some c → WereGiven r.next_teid r.tunnels → Keeps (add_uplinks way ch ue instance c r)
+    uplinks_keep : (c : CuUpContext) → find ue_cmp r.contexts ue ≡ Some c → WereGiven r.next_teid r.tunnels → Keeps (add_uplinks way ch ue instance c r)
     unfolding add_uplinks
     uplinks_keep c is given = by (teids_are_left r.next_teid (length c.bearers)) refl
       where
@@ -180,7 +180,7 @@ module _ {M C P : Type 0} (way : Way M C P) where
             → Keeps (answer_with way (uplinks_given way ue r c (teids_from way r.next_teid c.bearers)) ue c s)
         added (steps os bearers) left h =
             more_named way r.tunnels r.contexts p ue r.next_teid
-            (subst (λ (n : ℕ). (q : ℕ) (o : UpTunnel) → find nat_cmp r.tunnels q ≡ Some o → q + 1 ≤ n) (below_left r.next_teid (length c.bearers) left) given)
+            (subst (λ (n : ℕ). (q : ℕ) (o : CuUpTunnel) → find nat_cmp r.tunnels q ≡ Some o → q + 1 ≤ n) (below_left r.next_teid (length c.bearers) left) given)
             c bearers is h
         added (stops k) left h = tt
 
@@ -196,18 +196,18 @@ module _ {M C P : Type 0} (way : Way M C P) where
             (replies_keep ch (modified way ue instance (Some (teids_from way r.next_teid c.bearers)) None))
         by false left = tt
 
-    switch_keeps : (d : Option ℕ) (list : Option (List Tunnel)) (c : UpContext) → find ue_cmp r.contexts ue ≡ Some c → Keeps (switch_if way ch ue instance d list c r)
+    switch_keeps : (d : Option ℕ) (list : Option (List Tunnel)) (c : CuUpContext) → find ue_cmp r.contexts ue ≡ Some c → Keeps (switch_if way ch ue instance d list c r)
     unfolding switch
     switch_keeps (Some d) (Some list) c is =
         keeps_if (c.flags.released || not (are_bearers (names way c) (bearers_of list))) (drops Unexpected r) _ p
         (steps_keep r ch ue c (as_switched way c)
-        (each_bearer way (λ b. switched way (up_at ue (as_switched way c) b) (du_id r.gnb d) (teid_of list b)) c.bearers) (modified way ue instance None None) p is refl
-        (each_keeps (λ b. switched way (up_at ue (as_switched way c) b) (du_id r.gnb d) (teid_of list b))
-        (λ b x. switched_stays way (up_at ue (as_switched way c) b) (du_id r.gnb d) (teid_of list b) x) c.bearers))
+        (each_bearer way (λ b. switched way (cu_up_scope ue (as_switched way c) b) (du_id r.gnb d) (teid_of list b)) c.bearers) (modified way ue instance None None) p is refl
+        (each_keeps (λ b. switched way (cu_up_scope ue (as_switched way c) b) (du_id r.gnb d) (teid_of list b))
+        (λ b x. switched_stays way (cu_up_scope ue (as_switched way c) b) (du_id r.gnb d) (teid_of list b) x) c.bearers))
     switch_keeps (Some d) None c is = p
     switch_keeps None list c is = p
 
-    freeze_keeps : (peer : Option Peer) (a b : Option (List Tunnel)) (c : UpContext) → find ue_cmp r.contexts ue ≡ Some c
+    freeze_keeps : (peer : Option Peer) (a b : Option (List Tunnel)) (c : CuUpContext) → find ue_cmp r.contexts ue ≡ Some c
         → Keeps (freeze_if way ch ue instance peer a b c r)
     unfolding freeze
     freeze_keeps (Some peer) (Some a) (Some b) c is =
@@ -215,15 +215,15 @@ module _ {M C P : Type 0} (way : Way M C P) where
         (drops Unexpected r) _ p
         (keeps_if (not c.flags.may_serve) _ _ (replies_keep ch (e1s.BearerContextModificationFailure ue instance cause_busy) r p)
         (steps_keep r ch ue c (as_frozen way c)
-        (each_bearer way (λ x. frozen_to way (up_at ue (as_frozen way c) x) (peer_node way peer) (teid_of a x) (teid_of b x)) c.bearers)
+        (each_bearer way (λ x. frozen_to way (cu_up_scope ue (as_frozen way c) x) (peer_node way peer) (teid_of a x) (teid_of b x)) c.bearers)
         (modified way ue instance None (Some (statuses way c))) p is refl
-        (each_keeps (λ x. frozen_to way (up_at ue (as_frozen way c) x) (peer_node way peer) (teid_of a x) (teid_of b x))
-        (λ x y. frozen_stays way (up_at ue (as_frozen way c) x) (peer_node way peer) (teid_of a x) (teid_of b x) y) c.bearers)))
+        (each_keeps (λ x. frozen_to way (cu_up_scope ue (as_frozen way c) x) (peer_node way peer) (teid_of a x) (teid_of b x))
+        (λ x y. frozen_stays way (cu_up_scope ue (as_frozen way c) x) (peer_node way peer) (teid_of a x) (teid_of b x) y) c.bearers)))
     freeze_keeps (Some peer) (Some a) None c is = p
     freeze_keeps (Some peer) None b c is = p
     freeze_keeps None a b c is = p
 
-    status_keeps : (list : Option (List SnStatus)) (c : UpContext) → find ue_cmp r.contexts ue ≡ Some c → Keeps (status_if way ch ue instance list c r)
+    status_keeps : (list : Option (List SnStatus)) (c : CuUpContext) → find ue_cmp r.contexts ue ≡ Some c → Keeps (status_if way ch ue instance list c r)
     unfolding take_status
     status_keeps (Some list) c is =
         keeps_if (c.flags.may_serve || not (are_bearers (names way c) (statuses_of list))) (drops Unexpected r) _ p
@@ -231,17 +231,17 @@ module _ {M C P : Type 0} (way : Way M C P) where
         (statuses_keep ue (as_known way c) list c.bearers))
     status_keeps None c is = p
 
-    resume_keeps : (c : UpContext) → find ue_cmp r.contexts ue ≡ Some c → Keeps (resume_if way ch ue instance c r)
+    resume_keeps : (c : CuUpContext) → find ue_cmp r.contexts ue ≡ Some c → Keeps (resume_if way ch ue instance c r)
     unfolding resume
     resume_keeps c is =
         keeps_if (c.flags.frozen && not c.flags.released) _ (drops Unexpected r)
         (steps_keep r ch ue c (as_resumed way c)
-        (each_bearer way (λ b. resumed way (up_at ue (as_resumed way c) b)) c.bearers) (modified way ue instance None None) p is refl
-        (each_keeps (λ b. resumed way (up_at ue (as_resumed way c) b)) (λ b x. resumed_stays way (up_at ue (as_resumed way c) b) x) c.bearers))
+        (each_bearer way (λ b. resumed way (cu_up_scope ue (as_resumed way c) b)) c.bearers) (modified way ue instance None None) p is refl
+        (each_keeps (λ b. resumed way (cu_up_scope ue (as_resumed way c) b)) (λ b x. resumed_stays way (cu_up_scope ue (as_resumed way c) b) x) c.bearers))
         p
 
     modify_keeps : (downlinks : Option (List Tunnel)) (mode : ℕ) (peer : Option Peer) (down up : Option (List Tunnel)) (ss : Option (List SnStatus)) (du : Option ℕ)
-        → WereGiven r.next_teid r.tunnels → (c : Option UpContext) → find ue_cmp r.contexts ue ≡ c
+        → WereGiven r.next_teid r.tunnels → (c : Option CuUpContext) → find ue_cmp r.contexts ue ≡ c
         → Keeps (modify_on way ch (e1s.BearerContextModificationRequest ue instance downlinks mode peer down up ss du) r c)
     modify_keeps downlinks mode peer down up ss du given None is = p
     modify_keeps downlinks mode peer down up ss du given (Some c) is =
@@ -274,35 +274,35 @@ module _ {M C P : Type 0} (way : Way M C P) where
   control_by_keeps ch m r (reply ue i) p given = holds_reply way Names r r.transactions ch i (set_up way ch r) p (is_set_up_keeps ch r p)
   control_by_keeps ch m r (transfer ue) p given = p
 
-  control_keeps : (from : NodeId) (m : Message C) (r : CuUp M C) → Names r → WereGiven r.next_teid r.tunnels → Keeps (control_came way from m r)
-  unfolding control_came
+  control_keeps : (from : NodeId) (m : Message C) (r : CuUp M C) → Names r → WereGiven r.next_teid r.tunnels → Keeps (control_received way from m r)
+  unfolding control_received
   control_keeps from m r p given =
-      keeps_if (is_own_cp way r.gnb from) _ (drops Unexpected r) (control_by_keeps (channel (ue_in way (kind_of m)) from) m r (kind_of m) p given) p
+      keeps_if (is_own_cu_cp way r.gnb from) _ (drops Unexpected r) (control_by_keeps (channel (ue_in way (kind_of m)) from) m r (kind_of m) p given) p
 
   -- ---- items, polls, ticks
 
-  still_open : (r : CuUp M C) (ue : UeId) (c : UpContext) (os : List (Output M P)) (bearer : BearerId) (b : UpBearer) (ts : List ℕ) → closed_by os ≡ ts
+  still_open : (r : CuUp M C) (ue : UeId) (c : CuUpContext) (os : List (Output M P)) (bearer : BearerId) (b : CuUpBearer) (ts : List ℕ) → closed_by os ≡ ts
       → Named (without_each r.tunnels ts) (put ue_cmp r.contexts ue (record c { bearers = put bearer_cmp c.bearers bearer b }))
       → Keeps (with_bearer way r ue c bearer (gives os b))
   still_open r ue c os bearer b ts closes h =
       subst (λ (cs : List ℕ). Named (without_each r.tunnels cs) (put ue_cmp r.contexts ue (record c { bearers = put bearer_cmp c.bearers bearer b }))) (sym closes) h
 
-  bearer_rests : (r : CuUp M C) (ue : UeId) (c : UpContext) (bearer : BearerId) (b : UpBearer) (a : Answer M P UpBearer) → Names r
+  bearer_rests : (r : CuUp M C) (ue : UeId) (c : CuUpContext) (bearer : BearerId) (b : CuUpBearer) (a : Answer M P CuUpBearer) → Names r
       → find ue_cmp r.contexts ue ≡ Some c → find bearer_cmp c.bearers bearer ≡ Some b → Stays way (ends b) a → Keeps (with_bearer way r ue c bearer a)
   bearer_rests r ue c bearer b (gives os d) p is there stay =
       still_open r ue c os bearer d [] stay.1 (bearer_stays r.tunnels r.contexts p ue c is bearer b there d stay.2)
   bearer_rests r ue c bearer b (spent k) p is there stay = tt
 
   -- at most N3, or this uplink, is closed
-  module _ (r : CuUp M C) (p : Names r) (t : UpTunnel) (teid : ℕ) (owned : find nat_cmp r.tunnels teid ≡ Some t) (c : UpContext)
-      (is : find ue_cmp r.contexts t.ue ≡ Some c) (b : UpBearer) (there : find bearer_cmp c.bearers t.bearer ≡ Some b) where
+  module _ (r : CuUp M C) (p : Names r) (t : CuUpTunnel) (teid : ℕ) (owned : find nat_cmp r.tunnels teid ≡ Some t) (c : CuUpContext)
+      (is : find ue_cmp r.contexts t.ue ≡ Some c) (b : CuUpBearer) (there : find bearer_cmp c.bearers t.bearer ≡ Some b) where
     -- the tunnel is the bearer's
     its_end : is_one_of (ends_of t.kind b) teid ≡ true
     its_end =
         ap (has_end t.kind teid) (sym there)
         ∙ second_of (c.instance == t.context) _ (sym (own_names r.tunnels r.contexts p t.ue c is t teid refl) ∙ p.0.named teid t owned)
 
-    closed_n3 : (d : UpBearer) (n : ℕ) → b.n3 ≡ Some n → ends d ≡ without_n3 (ends b)
+    closed_n3 : (d : CuUpBearer) (n : ℕ) → b.n3 ≡ Some n → ends d ≡ without_n3 (ends b)
         → Named (without_each r.tunnels (n ∷ [])) (put ue_cmp r.contexts t.ue (record c { bearers = put bearer_cmp c.bearers t.bearer d }))
     closed_n3 d n has left =
         bearer_closes r.tunnels r.contexts p t.ue c is t.bearer b there d n3 n
@@ -343,7 +343,7 @@ module _ {M C P : Type 0} (way : Way M C P) where
         by false at true false ux ty rest = or_left (u == q) _ ux
         by false at false y ux ty rest = ap (λ (x : Bool). x || is_one_of (filter (λ v. not (v == teid)) us) q) ux ∙ rest
 
-    closed_uplink : (d : UpBearer) → t.kind ≡ f1u_uplink → ends d ≡ without_uplink teid (ends b)
+    closed_uplink : (d : CuUpBearer) → t.kind ≡ f1u_uplink → ends d ≡ without_uplink teid (ends b)
         → Named (without_each r.tunnels (teid ∷ [])) (put ue_cmp r.contexts t.ue (record c { bearers = put bearer_cmp c.bearers t.bearer d }))
     closed_uplink d kind left =
         bearer_closes r.tunnels r.contexts p t.ue c is t.bearer b there d f1u_uplink teid
@@ -358,7 +358,7 @@ module _ {M C P : Type 0} (way : Way M C P) where
         gone : (q : ℕ) → is_one_of d.uplinks q ≡ is_one_of b.uplinks q && not (is_one_of (teid ∷ []) q)
         gone q = ap (λ (e : Ends). is_one_of e.uplinks q) left ∙ without_one b.uplinks q
 
-    took_keeps : (a : Answer M P UpBearer) → Took way t.kind teid b a → Keeps (with_bearer way r t.ue c t.bearer a)
+    took_keeps : (a : Answer M P CuUpBearer) → Took way t.kind teid b a → Keeps (with_bearer way r t.ue c t.bearer a)
     took_keeps (gives os d) (none, inl same) =
         still_open r t.ue c os t.bearer d [] same.0 (bearer_stays r.tunnels r.contexts p t.ue c is t.bearer b there d same.1)
     took_keeps (gives os d) (none, inr (inl n)) = still_open r t.ue c os t.bearer d (n.0 ∷ []) n.2 (closed_n3 d n.0 n.1 n.3)
@@ -368,24 +368,24 @@ module _ {M C P : Type 0} (way : Way M C P) where
     taken_keeps : (item : Taken P) (reason : Option HeldReason) → Keeps (taken_by way r t teid item c b reason)
     taken_keeps item (Some reason) = p
     taken_keeps item None =
-        holds_then Names Names (with_bearer way r t.ue c t.bearer (took way (up_at t.ue c t.bearer) t.kind teid item b)) (end_where_over way t.ue)
-        (took_keeps (took way (up_at t.ue c t.bearer) t.kind teid item b) (item_took way (up_at t.ue c t.bearer) t.kind teid item b)) (over_keeps t.ue)
+        holds_then Names Names (with_bearer way r t.ue c t.bearer (took way (cu_up_scope t.ue c t.bearer) t.kind teid item b)) (end_where_over way t.ue)
+        (took_keeps (took way (cu_up_scope t.ue c t.bearer) t.kind teid item b) (item_took way (cu_up_scope t.ue c t.bearer) t.kind teid item b)) (over_keeps t.ue)
 
   take_keeps : (teid : ℕ) (item : Taken P) (r : CuUp M C) → Names r → Keeps (take way teid item r)
   unfolding take
   take_keeps teid item r p = by (find nat_cmp r.tunnels teid) refl
     where
-      in_bearer : (t : UpTunnel) (c : UpContext) → find nat_cmp r.tunnels teid ≡ Some t → find ue_cmp r.contexts t.ue ≡ Some c → (b : Option UpBearer)
+      in_bearer : (t : CuUpTunnel) (c : CuUpContext) → find nat_cmp r.tunnels teid ≡ Some t → find ue_cmp r.contexts t.ue ≡ Some c → (b : Option CuUpBearer)
           → find bearer_cmp c.bearers t.bearer ≡ b → Keeps (taken_in way r t teid item c b)
       in_bearer t c owned is None there = p
-      in_bearer t c owned is (Some b) there = taken_keeps r p t teid owned c is b there item (held_reason (up_at t.ue c t.bearer) b t.kind item)
+      in_bearer t c owned is (Some b) there = taken_keeps r p t teid owned c is b there item (held_reason (cu_up_scope t.ue c t.bearer) b t.kind item)
 
-      in_context : (t : UpTunnel) → find nat_cmp r.tunnels teid ≡ Some t → (c : Option UpContext) → find ue_cmp r.contexts t.ue ≡ c
+      in_context : (t : CuUpTunnel) → find nat_cmp r.tunnels teid ≡ Some t → (c : Option CuUpContext) → find ue_cmp r.contexts t.ue ≡ c
           → Keeps (taken_of way r t teid item c)
       in_context t owned None is = p
       in_context t owned (Some c) is = in_bearer t c owned is (find bearer_cmp c.bearers t.bearer) refl
 
-      by : (t : Option UpTunnel) → find nat_cmp r.tunnels teid ≡ t → Keeps (taken_on way r teid item t)
+      by : (t : Option CuUpTunnel) → find nat_cmp r.tunnels teid ≡ t → Keeps (taken_on way r teid item t)
       by None owned = p
       by (Some t) owned = in_context t owned (context_of r t.ue) refl
 
@@ -393,15 +393,15 @@ module _ {M C P : Type 0} (way : Way M C P) where
   unfolding poll
   poll_keeps ue bearer r p = by (context_of r ue) refl
     where
-      in_bearer : (c : UpContext) → find ue_cmp r.contexts ue ≡ Some c → (b : Option UpBearer) → find bearer_cmp c.bearers bearer ≡ b
+      in_bearer : (c : CuUpContext) → find ue_cmp r.contexts ue ≡ Some c → (b : Option CuUpBearer) → find bearer_cmp c.bearers bearer ≡ b
           → Keeps (poll_bearer way r ue c bearer b)
       in_bearer c is None there = p
       in_bearer c is (Some b) there =
           keeps_if (length b.sender.unconfirmed == 0) (puts (no Empty) r) _ p
           (keeps_if (c.flags.frozen || not (has_downlink b.downlink)) (puts (no NoRadio) r) _ p
-          (bearer_rests r ue c bearer b (framed way (up_at ue c bearer) true false None Absent b) p is there (poll_stays way (up_at ue c bearer) b)))
+          (bearer_rests r ue c bearer b (framed way (cu_up_scope ue c bearer) true false None Absent b) p is there (poll_stays way (cu_up_scope ue c bearer) b)))
 
-      by : (c : Option UpContext) → find ue_cmp r.contexts ue ≡ c → Keeps (poll_on way r ue bearer c)
+      by : (c : Option CuUpContext) → find ue_cmp r.contexts ue ≡ c → Keeps (poll_on way r ue bearer c)
       by None is = p
       by (Some c) is = in_bearer c is (find bearer_cmp c.bearers bearer) refl
 
@@ -426,9 +426,9 @@ module _ {M C P : Type 0} (way : Way M C P) where
   acts_keep r (order_input (orders.Poll ue bearer)) p given = poll_keeps ue bearer r p
   acts_keep r input p given = p
 
-  pub cu_up_owns : (r : CuUp M C) (input : Input C P) → UpOwns r → HoldsAfter UpOwns (cu_up_acts way r input)
+  pub cu_up_owns : (r : CuUp M C) (input : Input C P) → CuUpOwns r → HoldsAfter CuUpOwns (cu_up_acts way r input)
   cu_up_owns r input p = by (cu_up_acts way r input) (acts_keep r input (p.0, p.1) p.2) (cu_up_gives way r input)
     where
-      by : (a : Answer M P (CuUp M C)) → Keeps a → Gives way r a → HoldsAfter UpOwns a
+      by : (a : Answer M P (CuUp M C)) → Keeps a → Gives way r a → HoldsAfter CuUpOwns a
       by (gives os after) h g = (h.0, h.1, given_then r.next_teid r.tunnels after.next_teid after.tunnels p.2 g.1)
       by (spent k) h g = tt

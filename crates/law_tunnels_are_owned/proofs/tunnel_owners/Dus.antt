@@ -31,10 +31,10 @@ use Rattle.unit_defs.specs.Ways.{Message, f1, rrc, uplink, Taken, frame_item, pa
 use Rattle.unit_defs.specs.Messages.{channel, is_same_gnb, bearers_of, are_from, are_first_bearers}
 use Rattle.unit_defs.specs.Teids.{teids_are_left, without_each}
 use Rattle.unit_defs.specs.Transactions.{Kind, request, reply, transfer, kind_of, no_instance, ask, advance, replied}
-use Rattle.unit_defs.specs.Du.{DuBearer, DuContext, DuTunnel, Du, du_node, context_of, with_transactions, downlink_list, with_entries, bearers_made, bearers_anew, replies, openings, old_downlinks, replaced, replaces, context_with, setup, context_anew, modify_on, modify, released_on, release, relayed_down, relay_down, relayed_up, relay_up, token_ue, start, set_up, asked, transferred, of_cp, of_terminal, control_came, told, gap_after, carried, with_bearer, frame_came, taken_in, taken_of, taken_on, take, of_bearer, of_context, pass_up, confirmed, confirm, tick, du_acts}
+use Rattle.unit_defs.specs.Du.{DuBearer, DuContext, DuTunnel, Du, du_node, context_of, with_transactions, downlink_list, with_entries, bearers_made, bearers_anew, replies, openings, old_downlinks, replaced, replaces, context_with, setup, context_anew, modify_on, modify, released_on, release, relayed_down, relay_down, relayed_up, relay_up, token_ue, start, set_up, asked, transferred, of_cu_cp, of_terminal, control_received, told, gap_after, carried, with_bearer, frame_received, taken_in, taken_of, taken_on, take, of_bearer, of_context, pass_up, confirmed, confirm, tick, du_acts}
 use Rattle.gnb_types.proofs.OrderLemmas.{ue_total, bearer_total, bearer_exact}
 use Rattle.tables.proofs.TableLaws.{find-put, find-without, sorted-put}
-use Rattle.unit_defs.specs.UpBearers.{is_one_of}
+use Rattle.unit_defs.specs.CuUpBearers.{is_one_of}
 use Rattle.proof_run_steps.specs.teids.Given.{count_from}
 use Rattle.proof_run_steps.proofs.teids.Grows.{below_left, fewer_each}
 use Rattle.proof_run_steps.proofs.teids.Dus.{Gives, du_gives, made_counted, anew_counted, AreCounted}
@@ -363,7 +363,7 @@ module _ {M C P : Type 0} (way : Way M C P) where
       any_then Names (advance way (record r.transactions { caller = close r.transactions.caller ch }) ch)
       (λ a. nothing (record r { is_set_up = true; transactions = a.transactions })) (λ a. p)
 
-  of_cp_keeps : (from : NodeId) (m : Message C) (r : Du M C) (k : Kind) → Names r → WereGiven r.next_teid r.tunnels → Keeps (of_cp way from m r k)
+  of_cp_keeps : (from : NodeId) (m : Message C) (r : Du M C) (k : Kind) → Names r → WereGiven r.next_teid r.tunnels → Keeps (of_cu_cp way from m r k)
   of_cp_keeps from m r (request ue i) p given =
       holds_request way Names r r.transactions (channel ue from) i (λ t. asked way (channel ue from) m (with_transactions r t)) p
       (λ t. asked_keeps (channel ue from) m (with_transactions r t) p given)
@@ -371,8 +371,8 @@ module _ {M C P : Type 0} (way : Way M C P) where
       holds_reply way Names r r.transactions (channel ue from) i (set_up way (channel ue from) r) p (set_up_keeps (channel ue from) r p)
   of_cp_keeps from m r (transfer ue) p given = transferred_keeps m r p
 
-  control_keeps : (from : NodeId) (m : Message C) (r : Du M C) → Names r → WereGiven r.next_teid r.tunnels → Keeps (control_came way from m r)
-  unfolding control_came
+  control_keeps : (from : NodeId) (m : Message C) (r : Du M C) → Names r → WereGiven r.next_teid r.tunnels → Keeps (control_received way from m r)
+  unfolding control_received
   control_keeps (CuCp gnb) m r p given = keeps_if (is_same_gnb gnb r.gnb) _ (drops Unexpected r) (of_cp_keeps (CuCp gnb) m r (kind_of m) p given) p
   control_keeps (Ue ue) m r p given = terminal_keeps ue m r p
   control_keeps (CuUp gnb number) m r p given = p
@@ -387,7 +387,7 @@ module _ {M C P : Type 0} (way : Way M C P) where
   carried_keeps ue bearer c false (Some pdu) r p = p
 
   frame_keeps : (ue : UeId) (bearer : BearerId) (c : DuContext) (b : DuBearer) (item : Taken P) (r : Du M C) → Names r → find ue_cmp r.contexts ue ≡ Some c
-      → find bearer_cmp c.bearers bearer ≡ Some b → Keeps (frame_came way ue bearer c b item r)
+      → find bearer_cmp c.bearers bearer ≡ Some b → Keeps (frame_received way ue bearer c b item r)
   frame_keeps ue bearer c b (frame_item poll restart number pdu) r p is there =
       holds_then Names Names
       (gives (told way ue bearer b poll number) (with_bearer way ue bearer c (record b { awaited = number + 1; gap = gap_after way b number restart pdu }) r))

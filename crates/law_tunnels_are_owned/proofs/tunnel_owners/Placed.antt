@@ -19,18 +19,18 @@ use Rattle.tables.specs.Tables.{find, at, IsSorted}
 use Rattle.tables.proofs.TableLaws.{at-put}
 use Rattle.unit_defs.specs.Messages.{bearers_of, are_from}
 use Rattle.unit_defs.specs.Accessors.{place_of, epoch_in}
-use Rattle.unit_defs.specs.CpRecords.{CuCpRecord}
-use Rattle.unit_defs.specs.UpRecords.{CuUp, UpContext, UpTunnel}
+use Rattle.unit_defs.specs.CuCpRecords.{CuCpRecord}
+use Rattle.unit_defs.specs.CuUpRecords.{CuUp, CuUpContext, CuUpTunnel}
 use Rattle.unit_defs.specs.CuUp.{new_cu_up, bearers_from, bearers_made}
 use Rattle.unit_defs.specs.Du.{Du, DuContext, DuTunnel, new_du}
-use Rattle.unit_defs.specs.Static.{with_downlinks, up_context, up_placed, up_has_teids, uplinks_from, du_context, du_placed, du_has_teids, cp_placed, up_set_up, du_set_up}
-use Rattle.run_defs.specs.Units.{Units, new_units, cp_of, with_cp, up_of, with_up, du_of, with_du, with_ue}
+use Rattle.unit_defs.specs.Static.{with_downlinks, cu_up_context, cu_up_placed, cu_up_has_teids, uplinks_from, du_context, du_placed, du_has_teids, cu_cp_placed, cu_up_set_up, du_set_up}
+use Rattle.run_defs.specs.Units.{Units, new_units, cu_cp_of, with_cu_cp, cu_up_of, with_cu_up, du_of, with_du, with_ue}
 use Rattle.run_defs.specs.Conditions.{is_held_by_units, units_placed, all_set_up}
 use Rattle.proof_run_steps.proofs.teids.Grows.{below_left}
 use Rattle.proof_run_steps.proofs.teids.CuUps.{Entry}
 use Rattle.proof_run_steps.proofs.teids.Dus.{made_counted}
 use Rattle.proof_run_steps.proofs.teids.Placed.{same_ends, up_grows, du_grows, find_mapped}
-use Rattle.law_tunnels_are_owned.specs.owner_facts.Owned.{up_names, du_names, AreNamed, WereGiven, UpInOrder, DuInOrder, UpOwns, DuOwns, AreOwned}
+use Rattle.law_tunnels_are_owned.specs.owner_facts.Owned.{cu_up_names, du_names, AreNamed, WereGiven, UpInOrder, DuInOrder, CuUpOwns, DuOwns, AreOwned}
 use Rattle.law_tunnels_are_owned.proofs.owner_facts.Owners.{first_of, second_of, both_of, given_then, AreFrom}
 use Rattle.law_tunnels_are_owned.proofs.owner_facts.UpEnds.{Bearers, made_from, made_in_order}
 use Rattle.law_tunnels_are_owned.proofs.owner_facts.UpContexts.{Named}
@@ -49,7 +49,7 @@ uplinks_counted first i (suc n) = both_of (i == i) _ (eq-eqb i i refl) (uplinks_
 
 -- ---- what no unit holds
 
-none_up : (o : Option UpContext) → is_some o ≡ false → o ≡ None
+none_up : (o : Option CuUpContext) → is_some o ≡ false → o ≡ None
 none_up None h = refl
 none_up (Some c) h = absurd cc
 
@@ -58,19 +58,19 @@ none_du None h = refl
 none_du (Some c) h = absurd cc
 
 module _ {M C : Type 0} where
-  up_owns_placed : (r : CuUp M C) (plan : Plan) (downlink : ℕ) → UpOwns r → up_has_teids r plan ≡ true → find ue_cmp r.contexts plan.ue ≡ None
-      → UpOwns (up_placed r plan downlink)
-  unfolding up_placed
+  up_owns_placed : (r : CuUp M C) (plan : Plan) (downlink : ℕ) → CuUpOwns r → cu_up_has_teids r plan ≡ true → find ue_cmp r.contexts plan.ue ≡ None
+      → CuUpOwns (cu_up_placed r plan downlink)
+  unfolding cu_up_placed
   up_owns_placed r plan downlink p left none =
       let bs : Bearers = bearers_made false r.next_teid (bearers_from 1 plan.bearers) in
-      let now : Named (up_placed r plan downlink).tunnels (up_placed r plan downlink).contexts =
+      let now : Named (cu_up_placed r plan downlink).tunnels (cu_up_placed r plan downlink).contexts =
       new_named r.tunnels r.contexts (p.0, p.1) plan.ue r.next_teid
-      (subst (λ (n : ℕ). (q : ℕ) (o : UpTunnel) → find nat_cmp r.tunnels q ≡ Some o → q + 1 ≤ n) (below_left r.next_teid (2 * plan.bearers) left) p.2)
-      (up_context r plan downlink) none
+      (subst (λ (n : ℕ). (q : ℕ) (o : CuUpTunnel) → find nat_cmp r.tunnels q ≡ Some o → q + 1 ≤ n) (below_left r.next_teid (2 * plan.bearers) left) p.2)
+      (cu_up_context r plan downlink) none
       (subst (λ (ks : List BearerId). IsStrictlySortedBy bearer_cmp ks) (down_keys r.gnb plan.du downlink bs) (made_in_order false 1 plan.bearers r.next_teid))
       (subst (λ (es : List Entry). AreFrom r.next_teid es) (sym (same_ends plan.ue r.next_teid r.gnb plan.du downlink bs))
       (made_from plan.ue r.next_teid false (bearers_from 1 plan.bearers) r.next_teid)) in
-      (now.0, now.1, given_then r.next_teid r.tunnels (up_placed r plan downlink).next_teid (up_placed r plan downlink).tunnels p.2 (up_grows r plan downlink left))
+      (now.0, now.1, given_then r.next_teid r.tunnels (cu_up_placed r plan downlink).next_teid (cu_up_placed r plan downlink).tunnels p.2 (up_grows r plan downlink left))
 
   -- ---- DU
 
@@ -91,14 +91,14 @@ module _ {M C : Type 0} where
 
   -- ---- one unit changes
 
-  pub with_up_owned : (u : Units M C) (gnb : Gnb) (number : ℕ) (r : CuUp M C) → AreOwned u → UpOwns r → AreOwned (with_up u gnb number r)
+  pub with_up_owned : (u : Units M C) (gnb : Gnb) (number : ℕ) (r : CuUp M C) → AreOwned u → CuUpOwns r → AreOwned (with_cu_up u gnb number r)
   with_up_owned u gnb number r p h = (
-    λ g n. subst (λ (x : CuUp M C). UpOwns x) (sym (at-put node_total (new_cu_up g n) u.ups (up_id gnb number) r (up_id g n)))
+    λ g n. subst (λ (x : CuUp M C). CuUpOwns x) (sym (at-put node_total (new_cu_up g n) u.ups (up_id gnb number) r (up_id g n)))
         (by g n (eq_by_cmp node_cmp (up_id g n) (up_id gnb number))),
     p.1,
   )
     where
-      by : (g : Gnb) (n : ℕ) (t : Bool) → UpOwns (cond t r (up_of u g n))
+      by : (g : Gnb) (n : ℕ) (t : Bool) → CuUpOwns (cond t r (cu_up_of u g n))
       by g n true = h
       by g n false = p.0 g n
 
@@ -113,7 +113,7 @@ module _ {M C : Type 0} where
       by g n true = h
       by g n false = p.1 g n
 
-  pub with_cp_owned : (u : Units M C) (gnb : Gnb) (r : CuCpRecord M C) → AreOwned u → AreOwned (with_cp u gnb r)
+  pub with_cp_owned : (u : Units M C) (gnb : Gnb) (r : CuCpRecord M C) → AreOwned u → AreOwned (with_cu_cp u gnb r)
   with_cp_owned u A r p = p
   with_cp_owned u B r p = p
 
@@ -123,13 +123,13 @@ module _ {M C : Type 0} where
   unfolding at
   set_up_owned u p = (ups, dus)
     where
-      up_by : (g : Gnb) (n : ℕ) (o : Option (CuUp M C)) → UpOwns (unwrap_or o (new_cu_up g n)) → UpOwns (unwrap_or (option_map up_set_up o) (new_cu_up g n))
+      up_by : (g : Gnb) (n : ℕ) (o : Option (CuUp M C)) → CuUpOwns (unwrap_or o (new_cu_up g n)) → CuUpOwns (unwrap_or (option_map cu_up_set_up o) (new_cu_up g n))
       up_by g n None h = h
       up_by g n (Some r) h = h
 
-      ups : (g : Gnb) (n : ℕ) → UpOwns (up_of (all_set_up u) g n)
+      ups : (g : Gnb) (n : ℕ) → CuUpOwns (cu_up_of (all_set_up u) g n)
       ups g n =
-          subst (λ (o : Option (CuUp M C)). UpOwns (unwrap_or o (new_cu_up g n))) (sym (find_mapped node_cmp up_set_up u.ups (up_id g n)))
+          subst (λ (o : Option (CuUp M C)). CuUpOwns (unwrap_or o (new_cu_up g n))) (sym (find_mapped node_cmp cu_up_set_up u.ups (up_id g n)))
           (up_by g n (find node_cmp u.ups (up_id g n)) (p.0 g n))
 
       du_by : (g : Gnb) (n : ℕ) (o : Option (Du M C)) → DuOwns (unwrap_or o (new_du g n)) → DuOwns (unwrap_or (option_map du_set_up o) (new_du g n))
@@ -144,28 +144,28 @@ module _ {M C : Type 0} where
   -- ---- a terminal that no unit holds is set up
 
   pub placed_owned : (u : Units M C) (plan : Plan) → is_held_by_units plan u ≡ false
-      → up_has_teids (up_of u plan.gnb plan.up) plan && du_has_teids (du_of u plan.gnb plan.du) plan ≡ true → AreOwned u → AreOwned (all_set_up (units_placed plan u))
+      → cu_up_has_teids (cu_up_of u plan.gnb plan.up) plan && du_has_teids (du_of u plan.gnb plan.du) plan ≡ true → AreOwned u → AreOwned (all_set_up (units_placed plan u))
   placed_owned u plan free left p =
-      let up : CuUp M C = up_of u plan.gnb plan.up in
+      let up : CuUp M C = cu_up_of u plan.gnb plan.up in
       let du : Du M C = du_of u plan.gnb plan.du in
       let a : Units M C = with_ue u plan.ue _ in
-      let b : Units M C = with_up a plan.gnb plan.up (up_placed up plan du.next_teid) in
+      let b : Units M C = with_cu_up a plan.gnb plan.up (cu_up_placed up plan du.next_teid) in
       let c : Units M C = with_du b plan.gnb plan.du (du_placed du plan (up.next_teid + 1)) in
-      let none = or_parts (is_some (place_of (cp_of u plan.gnb) plan.ue) || is_some (find ue_cmp up.contexts plan.ue)) (is_some (epoch_in (find ue_cmp du.contexts plan.ue))) free in
-      let ups = or_parts (is_some (place_of (cp_of u plan.gnb) plan.ue)) (is_some (find ue_cmp up.contexts plan.ue)) none.0 in
+      let none = or_parts (is_some (place_of (cu_cp_of u plan.gnb) plan.ue) || is_some (find ue_cmp up.contexts plan.ue)) (is_some (epoch_in (find ue_cmp du.contexts plan.ue))) free in
+      let ups = or_parts (is_some (place_of (cu_cp_of u plan.gnb) plan.ue)) (is_some (find ue_cmp up.contexts plan.ue)) none.0 in
       set_up_owned (units_placed plan u)
-      (with_cp_owned c plan.gnb (cp_placed (cp_of u plan.gnb) plan)
+      (with_cp_owned c plan.gnb (cu_cp_placed (cu_cp_of u plan.gnb) plan)
       (with_du_owned b plan.gnb plan.du (du_placed du plan (up.next_teid + 1))
-      (with_up_owned a plan.gnb plan.up (up_placed up plan du.next_teid) p
-      (up_owns_placed up plan du.next_teid (p.0 plan.gnb plan.up) (first_of (up_has_teids up plan) _ left) (none_up (find ue_cmp up.contexts plan.ue) ups.1)))
-      (du_owns_placed du plan (up.next_teid + 1) (p.1 plan.gnb plan.du) (second_of (up_has_teids up plan) _ left) (none_du (find ue_cmp du.contexts plan.ue) none.1))))
+      (with_up_owned a plan.gnb plan.up (cu_up_placed up plan du.next_teid) p
+      (up_owns_placed up plan du.next_teid (p.0 plan.gnb plan.up) (first_of (cu_up_has_teids up plan) _ left) (none_up (find ue_cmp up.contexts plan.ue) ups.1)))
+      (du_owns_placed du plan (up.next_teid + 1) (p.1 plan.gnb plan.du) (second_of (cu_up_has_teids up plan) _ left) (none_du (find ue_cmp du.contexts plan.ue) none.1))))
 
   -- ---- the first state
 
-  pub nothing_up : (r : CuUp M C) → r.tunnels ≡ [] → r.contexts ≡ [] → UpOwns r
+  pub nothing_up : (r : CuUp M C) → r.tunnels ≡ [] → r.contexts ≡ [] → CuUpOwns r
   unfolding find
   nothing_up r t c =
-      subst (λ (x : List (ℕ × UpTunnel) × List (UeId × UpContext)). AreNamed x.0 (up_names x.1) × UpInOrder x.1 × WereGiven r.next_teid x.0) (λ i. (sym t i, sym c i))
+      subst (λ (x : List (ℕ × CuUpTunnel) × List (UeId × CuUpContext)). AreNamed x.0 (cu_up_names x.1) × UpInOrder x.1 × WereGiven r.next_teid x.0) (λ i. (sym t i, sym c i))
       (record { named = λ q o e. absurd cc; stands = λ q o e. absurd cc }, λ ue d e. absurd cc, λ q o e. absurd cc)
 
   pub nothing_du : (r : Du M C) → r.tunnels ≡ [] → r.contexts ≡ [] → DuOwns r
@@ -178,7 +178,7 @@ pub first_owned : (M C : Type 0) → AreOwned (new_units {M = M} {C = C})
 unfolding at find
 first_owned M C = (ups, dus)
   where
-    up_by : (g : Gnb) (k : ℕ) (a b c d : Bool) → UpOwns (unwrap_or (cond a (Some (new_cu_up {M = M} {C = C} A 1)) (cond b (Some (new_cu_up A 2)) (cond c (Some (new_cu_up B 1))
+    up_by : (g : Gnb) (k : ℕ) (a b c d : Bool) → CuUpOwns (unwrap_or (cond a (Some (new_cu_up {M = M} {C = C} A 1)) (cond b (Some (new_cu_up A 2)) (cond c (Some (new_cu_up B 1))
         (cond d (Some (new_cu_up B 2)) None)))) (new_cu_up g k))
     up_by g k true b c d = nothing_up (new_cu_up {M = M} {C = C} A 1) refl refl
     up_by g k false true c d = nothing_up (new_cu_up {M = M} {C = C} A 2) refl refl
@@ -186,7 +186,7 @@ first_owned M C = (ups, dus)
     up_by g k false false false true = nothing_up (new_cu_up {M = M} {C = C} B 2) refl refl
     up_by g k false false false false = nothing_up (new_cu_up {M = M} {C = C} g k) refl refl
 
-    ups : (g : Gnb) (k : ℕ) → UpOwns (up_of (new_units {M = M} {C = C}) g k)
+    ups : (g : Gnb) (k : ℕ) → CuUpOwns (cu_up_of (new_units {M = M} {C = C}) g k)
     ups g k =
         up_by g k (is_at (node_cmp (up_id g k)) (up_id A 1)) (is_at (node_cmp (up_id g k)) (up_id A 2)) (is_at (node_cmp (up_id g k)) (up_id B 1))
         (is_at (node_cmp (up_id g k)) (up_id B 2))

@@ -7,19 +7,19 @@ use Rattle.message_types.specs.declared.rrc.Token.{Token}
 use Rattle.scenario_text.specs.declared.event.Event.{Event}
 use Rattle.unit_defs.specs.Ways.{Message, Pdu, Load, Put, Input, gives, spent}
 use Rattle.unit_defs.specs.Ue.{UeNode, ue_acts}
-use Rattle.unit_defs.specs.UpRecords.{CuUp}
+use Rattle.unit_defs.specs.CuUpRecords.{CuUp}
 use Rattle.unit_defs.specs.CuUp.{cu_up_acts}
 use Rattle.unit_defs.specs.Du.{Du, du_acts}
-use Rattle.unit_defs.specs.CpRecords.{CuCpRecord}
+use Rattle.unit_defs.specs.CuCpRecords.{CuCpRecord}
 use Rattle.unit_defs.specs.CuCp.{cu_cp_acts}
-use Rattle.run_defs.specs.Units.{Units, cp_of, with_cp, up_of, with_up, du_of, with_du, ue_of, with_ue}
+use Rattle.run_defs.specs.Units.{Units, cu_cp_of, with_cu_cp, cu_up_of, with_cu_up, du_of, with_du, ue_of, with_ue}
 use Rattle.run_defs.specs.Written.{Written, PlainStepped, WrittenStepped, written_step}
 use Rattle.run_defs.specs.States.{State, Lengths, stepped, step_spent, goes, RunStep}
 use Rattle.run_defs.specs.Runs.{Reading, PlainGiven, Plain, plain_way, input_of, stepped_with, ue_stepped, acts_on, plain_by, plain_world}
-use Rattle.proof_run_steps.specs.steps.Made.{Made}
+use Rattle.proof_run_steps.specs.steps.IsOutcome.{IsOutcome}
 use Rattle.proof_run_steps.specs.steps.Reached.{reached}
 use Rattle.proof_run_steps.proofs.steps.Frames.{made_relates, reached_relates}
-use Rattle.law_tunnels_are_owned.specs.owner_facts.Owned.{UpOwns, DuOwns, AreOwned}
+use Rattle.law_tunnels_are_owned.specs.owner_facts.Owned.{CuUpOwns, DuOwns, AreOwned}
 use Rattle.proof_unit_steps.specs.answers.After.{HoldsAfter}
 use Rattle.law_tunnels_are_owned.proofs.tunnel_owners.CuUps.{cu_up_owns}
 use Rattle.law_tunnels_are_owned.proofs.tunnel_owners.Dus.{du_owns}
@@ -41,12 +41,12 @@ module _ (reading : Reading) where
   AnsweredWell u (stepped outputs v) = GoesOn u v
   AnsweredWell u (step_spent counter) = Unit {0}
 
-  by_cp : (u : PlainUnits) (gnb : Gnb) (a : Plain (CuCpRecord (Message Token) Token)) → Answered u (stepped_with reading (with_cp u gnb) a)
+  by_cp : (u : PlainUnits) (gnb : Gnb) (a : Plain (CuCpRecord (Message Token) Token)) → Answered u (stepped_with reading (with_cu_cp u gnb) a)
   by_cp u gnb (gives outputs r) = λ p. with_cp_owned u gnb r p
   by_cp u gnb (spent counter) = tt
 
-  by_up : (u : PlainUnits) (gnb : Gnb) (number : ℕ) (a : Plain (CuUp (Message Token) Token)) → (UpOwns (up_of u gnb number) → HoldsAfter UpOwns a)
-      → Answered u (stepped_with reading (with_up u gnb number) a)
+  by_up : (u : PlainUnits) (gnb : Gnb) (number : ℕ) (a : Plain (CuUp (Message Token) Token)) → (CuUpOwns (cu_up_of u gnb number) → HoldsAfter CuUpOwns a)
+      → Answered u (stepped_with reading (with_cu_up u gnb number) a)
   by_up u gnb number (gives outputs r) h = λ p. with_up_owned u gnb number r p (h (p.0 gnb number))
   by_up u gnb number (spent counter) h = tt
 
@@ -60,9 +60,9 @@ module _ (reading : Reading) where
   by_ue u ue (spent counter) = tt
 
   acted : (u : PlainUnits) (node : NodeId) (input : Input Token Pdu) → Answered u (acts_on reading u node input)
-  acted u (CuCp gnb) input = by_cp u gnb (cu_cp_acts plain_way (cp_of u gnb) input)
+  acted u (CuCp gnb) input = by_cp u gnb (cu_cp_acts plain_way (cu_cp_of u gnb) input)
   acted u (up_id gnb number) input =
-      by_up u gnb number (cu_up_acts plain_way (up_of u gnb number) input) (cu_up_owns plain_way (up_of u gnb number) input)
+      by_up u gnb number (cu_up_acts plain_way (cu_up_of u gnb number) input) (cu_up_owns plain_way (cu_up_of u gnb number) input)
   acted u (du_id gnb number) input =
       by_du u gnb number (du_acts plain_way (du_of u gnb number) input) (du_owns plain_way (du_of u gnb number) input)
   acted u (Ue ue) input = there (ue_of u (record { 0 = ue }))
@@ -87,7 +87,7 @@ module _ (reading : Reading) where
 
   -- within an event too
   pub owned_made : (event : Event) (s t : State (Message Token) Token (Written (Load Pdu)) (Written Pdu)) (told : List (RunStep (Message Token)))
-      → Made (plain_world reading) event s (goes told t) → AreOwned s.units → AreOwned t.units
+      → IsOutcome (plain_world reading) event s (goes told t) → AreOwned s.units → AreOwned t.units
   owned_made event s t told made =
       made_relates (plain_world reading) GoesOn (λ u p. p) (λ u v w first second p. second (first p)) answers_own
       (λ u plan p. p) (λ u plan free room teids p. placed_owned u plan free teids p) event s (goes told t) made

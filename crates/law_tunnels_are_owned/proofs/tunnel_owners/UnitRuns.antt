@@ -8,19 +8,19 @@ use Rattle.gnb_types.specs.declared.inputs.Input.{Input as OctetInput}
 use Rattle.scenario_text.specs.declared.event.Event.{Event}
 use Rattle.unit_defs.specs.Ways.{gives, spent}
 use Rattle.unit_defs.specs.Ue.{UeNode}
-use Rattle.unit_defs.specs.UpRecords.{CuUp}
+use Rattle.unit_defs.specs.CuUpRecords.{CuUp}
 use Rattle.unit_defs.specs.CuUp.{cu_up_acts}
 use Rattle.unit_defs.specs.Du.{Du, du_acts}
-use Rattle.unit_defs.specs.CpRecords.{CuCpRecord}
+use Rattle.unit_defs.specs.CuCpRecords.{CuCpRecord}
 use Rattle.unit_defs.specs.octet_defs.Codec.{Codec, octet_way}
 use Rattle.unit_defs.specs.octet_defs.Reading.{ReadInput, read_at_cu_up, read_at_du}
 use Rattle.unit_defs.specs.octet_defs.Units.{OctetAnswer, acts_on, cu_cp_steps, cu_up_steps, du_steps, ue_steps}
-use Rattle.run_defs.specs.Units.{cp_of, with_cp, up_of, with_up, du_of, with_du, ue_of, with_ue}
+use Rattle.run_defs.specs.Units.{cu_cp_of, with_cu_cp, cu_up_of, with_cu_up, du_of, with_du, ue_of, with_ue}
 use Rattle.run_defs.specs.States.{State, stepped, step_spent}
 use Rattle.run_defs.specs.UnitRuns.{Records, UnitAnswer, unit_gives, unit_spent, OctetStepped, stepped_by, unit_world, answered_with, ue_answers, input_of, tables}
 use Rattle.proof_run_steps.specs.steps.Reached.{reached}
 use Rattle.proof_run_steps.proofs.steps.Frames.{reached_relates}
-use Rattle.law_tunnels_are_owned.specs.owner_facts.Owned.{UpOwns, DuOwns, AreOwned}
+use Rattle.law_tunnels_are_owned.specs.owner_facts.Owned.{CuUpOwns, DuOwns, AreOwned}
 use Rattle.proof_unit_steps.specs.answers.After.{HoldsAfter}
 use Rattle.law_tunnels_are_owned.proofs.tunnel_owners.CuUps.{cu_up_owns}
 use Rattle.law_tunnels_are_owned.proofs.tunnel_owners.Dus.{du_owns}
@@ -36,12 +36,12 @@ module _ (codec : Codec) where
   Stepped u (stepped outputs v) = GoesOn u v
   Stepped u (step_spent counter) = Unit {0}
 
-  by_cp : (u : Records) (gnb : Gnb) (a : OctetAnswer (CuCpRecord (List ℕ) (List ℕ))) → Answered u (answered_with codec (with_cp u gnb) a)
+  by_cp : (u : Records) (gnb : Gnb) (a : OctetAnswer (CuCpRecord (List ℕ) (List ℕ))) → Answered u (answered_with codec (with_cu_cp u gnb) a)
   by_cp u gnb (gives outputs r) = λ p. with_cp_owned u gnb r p
   by_cp u gnb (spent counter) = tt
 
-  by_up : (u : Records) (gnb : Gnb) (number : ℕ) (a : OctetAnswer (CuUp (List ℕ) (List ℕ))) → (UpOwns (up_of u gnb number) → HoldsAfter UpOwns a)
-      → Answered u (answered_with codec (with_up u gnb number) a)
+  by_up : (u : Records) (gnb : Gnb) (number : ℕ) (a : OctetAnswer (CuUp (List ℕ) (List ℕ))) → (CuUpOwns (cu_up_of u gnb number) → HoldsAfter CuUpOwns a)
+      → Answered u (answered_with codec (with_cu_up u gnb number) a)
   by_up u gnb number (gives outputs r) h = λ p. with_up_owned u gnb number r p (h (p.0 gnb number))
   by_up u gnb number (spent counter) h = tt
 
@@ -56,10 +56,10 @@ module _ (codec : Codec) where
 
   -- what isn't read leaves the record
   up_read : (u : Records) (gnb : Gnb) (number : ℕ) (input : ReadInput)
-      → Answered u (answered_with codec (with_up u gnb number) (acts_on (cu_up_acts (octet_way codec) (up_of u gnb number)) (up_of u gnb number) input))
+      → Answered u (answered_with codec (with_cu_up u gnb number) (acts_on (cu_up_acts (octet_way codec) (cu_up_of u gnb number)) (cu_up_of u gnb number) input))
   up_read u gnb number (Ok input) =
-      by_up u gnb number (cu_up_acts (octet_way codec) (up_of u gnb number) input) (cu_up_owns (octet_way codec) (up_of u gnb number) input)
-  up_read u gnb number (Err reason) = λ p. with_up_owned u gnb number (up_of u gnb number) p (p.0 gnb number)
+      by_up u gnb number (cu_up_acts (octet_way codec) (cu_up_of u gnb number) input) (cu_up_owns (octet_way codec) (cu_up_of u gnb number) input)
+  up_read u gnb number (Err reason) = λ p. with_up_owned u gnb number (cu_up_of u gnb number) p (p.0 gnb number)
 
   du_read : (u : Records) (gnb : Gnb) (number : ℕ) (input : ReadInput)
       → Answered u (answered_with codec (with_du u gnb number) (acts_on (du_acts (octet_way codec) (du_of u gnb number)) (du_of u gnb number) input))
@@ -69,8 +69,8 @@ module _ (codec : Codec) where
 
   acted : (u : Records) (node : NodeId) (input : OctetInput) → Answered u (tables codec u node input)
   unfolding tables cu_up_steps du_steps
-  acted u (CuCp gnb) input = by_cp u gnb (cu_cp_steps codec (cp_of u gnb) input)
-  acted u (up_id gnb number) input = up_read u gnb number (read_at_cu_up codec (up_of u gnb number) input)
+  acted u (CuCp gnb) input = by_cp u gnb (cu_cp_steps codec (cu_cp_of u gnb) input)
+  acted u (up_id gnb number) input = up_read u gnb number (read_at_cu_up codec (cu_up_of u gnb number) input)
   acted u (du_id gnb number) input = du_read u gnb number (read_at_du codec (du_of u gnb number) input)
   acted u (Ue ue) input = there (ue_of u (record { 0 = ue }))
     where

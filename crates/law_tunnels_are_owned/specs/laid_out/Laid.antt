@@ -12,7 +12,7 @@ use Rattle.run_defs.specs.Local.{puts_something}
 -- with numbers of one of the two lengths
 abbrev pub IsLaidLine : {M : Type 0} → NodeId → RunLine M → Type 0
 IsLaidLine actor (put_item link item) = (sn : SnBits) × IsLaidOut sn actor link item
-IsLaidLine actor (put_message number letter) = letter.from ≡ actor
+IsLaidLine actor (put_message number control_message) = control_message.from ≡ actor
 IsLaidLine actor line = Unit {0}
 
 -- where no unit acts, nothing is put or delivered

@@ -7,7 +7,7 @@ use Rattle.gnb_types.specs.declared.names.NodeId.TheVariants.{CuUp, Du}
 use Rattle.gnb_types.specs.Orders.{tunnel_cmp}
 use Rattle.tables.specs.Tables.{find}
 use Rattle.unit_defs.specs.Ways.{Put, opened, closed, Answer, gives, spent}
-use Rattle.run_defs.specs.Units.{up_of, du_of}
+use Rattle.run_defs.specs.Units.{cu_up_of, du_of}
 use Rattle.run_defs.specs.States.{State}
 
 -- a TEID is open after outputs, where it was before or not
@@ -34,5 +34,5 @@ stands s node teid = is_some (find tunnel_cmp s.tunnels (record { node = node; t
 -- a tunnel ends at a CU-UP and a DU exactly where its TEID is open there
 abbrev pub StandWhereOpen : {M C L P : Type 0} → State M C L P → Type 0
 StandWhereOpen s =
-    ((gnb : Gnb) (number teid : ℕ) → stands s (CuUp gnb number) teid ≡ is_open_in (up_of s.units gnb number).tunnels teid)
+    ((gnb : Gnb) (number teid : ℕ) → stands s (CuUp gnb number) teid ≡ is_open_in (cu_up_of s.units gnb number).tunnels teid)
     × ((gnb : Gnb) (number teid : ℕ) → stands s (Du gnb number) teid ≡ is_open_in (du_of s.units gnb number).tunnels teid)

@@ -10,12 +10,12 @@ use Rattle.gnb_types.specs.Orders.{ue_cmp, tunnel_cmp}
 use Rattle.message_types.specs.declared.rrc.Token.{Token}
 use Rattle.tables.specs.Tables.{find}
 use Rattle.unit_defs.specs.Ways.{Message, Pdu, Load, numbered}
-use Rattle.unit_defs.specs.UpRecords.{UpContext}
+use Rattle.unit_defs.specs.CuUpRecords.{CuUpContext}
 use Rattle.unit_defs.specs.Du.{DuContext}
-use Rattle.unit_defs.specs.CpRecords.{CpContext, CpTerminal}
+use Rattle.unit_defs.specs.CuCpRecords.{CuCpContext, CuCpTerminal}
 use Rattle.unit_defs.specs.octet_defs.Writing.{pdu_octets, load_octets, written_load}
 use Rattle.transport_defs.specs.declared.Item.{Item}
-use Rattle.run_defs.specs.Units.{cp_of, up_of, du_of}
+use Rattle.run_defs.specs.Units.{cu_cp_of, cu_up_of, du_of}
 use Rattle.run_defs.specs.Written.{Written}
 use Rattle.run_defs.specs.States.{State, sn_of, radio_of}
 
@@ -35,7 +35,7 @@ pub record NumbersAreOfPlans (s : State (Message Token) Token (Written (Load Pdu
   pub tunnels : (end : TunnelEnd) (items : List (Item (Written (Load Pdu)))) → find tunnel_cmp s.tunnels end ≡ Some items
       → AllByRecursion (λ (item : Item (Written (Load Pdu))). IsWrittenBy (sn_of s item.key.ue) end.teid item) items
   pub radios : (key : EntityKey) → AllByRecursion (λ (item : Item (Written Pdu)). IsWrittenOnAirBy (sn_of s item.key.ue) item) (radio_of s key).items
-  pub cps : (gnb : Gnb) (ue : UeId) (t : CpTerminal) (c : CpContext) → find ue_cmp (cp_of s.units gnb).terminals ue ≡ Some t → t.context ≡ Some c
+  pub cps : (gnb : Gnb) (ue : UeId) (t : CuCpTerminal) (c : CuCpContext) → find ue_cmp (cu_cp_of s.units gnb).terminals ue ≡ Some t → t.context ≡ Some c
       → sn_of s ue ≡ c.sn
-  pub ups : (gnb : Gnb) (number : ℕ) (ue : UeId) (c : UpContext) → find ue_cmp (up_of s.units gnb number).contexts ue ≡ Some c → sn_of s ue ≡ c.sn
+  pub ups : (gnb : Gnb) (number : ℕ) (ue : UeId) (c : CuUpContext) → find ue_cmp (cu_up_of s.units gnb number).contexts ue ≡ Some c → sn_of s ue ≡ c.sn
   pub dus : (gnb : Gnb) (number : ℕ) (ue : UeId) (c : DuContext) → find ue_cmp (du_of s.units gnb number).contexts ue ≡ Some c → sn_of s ue ≡ c.sn

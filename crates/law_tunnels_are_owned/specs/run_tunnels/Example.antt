@@ -6,17 +6,17 @@ use Rattle.gnb_types.specs.declared.names.Dir.TheVariants.{Dl}
 use Rattle.gnb_types.specs.declared.keys.TunnelEnd.{TunnelEnd}
 use Rattle.message_types.specs.declared.rrc.Token.{Token}
 use Rattle.unit_defs.specs.Ways.{Message, Pdu, Load, fresh}
-use Rattle.unit_defs.specs.UpRecords.{n3, UpTunnel}
+use Rattle.unit_defs.specs.CuUpRecords.{n3, CuUpTunnel}
 use Rattle.unit_defs.specs.CuUp.{new_cu_up}
 use Rattle.transport_defs.specs.declared.Item.{Item}
-use Rattle.run_defs.specs.Units.{new_units, with_up}
+use Rattle.run_defs.specs.Units.{new_units, with_cu_up}
 use Rattle.run_defs.specs.Written.{Written}
 use Rattle.run_defs.specs.States.{State, new_state}
 
 abbrev pub its_end : TunnelEnd
 its_end = record { node = CuUp A 1; teid = 1 }
 
-abbrev pub its_owner : UpTunnel
+abbrev pub its_owner : CuUpTunnel
 its_owner = record { ue = record { 0 = 1 }; bearer = record { 0 = 1 }; kind = n3; context = 1 }
 
 abbrev pub its_items : List (Item (Written (Load Pdu)))
@@ -29,6 +29,6 @@ its_items =
 
 abbrev pub of_another : State (Message Token) Token (Written (Load Pdu)) (Written Pdu)
 of_another = record new_state {
-  units = with_up new_units A 1 (record (new_cu_up A 1) { tunnels = (1, its_owner) ∷ [] });
+  units = with_cu_up new_units A 1 (record (new_cu_up A 1) { tunnels = (1, its_owner) ∷ [] });
   tunnels = (its_end, its_items) ∷ [];
 }

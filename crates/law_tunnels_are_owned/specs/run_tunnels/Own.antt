@@ -13,10 +13,10 @@ use Rattle.gnb_types.specs.Orders.{tunnel_cmp}
 use Rattle.message_types.specs.declared.rrc.Token.{Token}
 use Rattle.tables.specs.Tables.{find}
 use Rattle.unit_defs.specs.Ways.{Message, Pdu, Load}
-use Rattle.unit_defs.specs.UpRecords.{TunnelKind, n3, f1u_uplink, forwarding_down, forwarding_up, UpTunnel}
+use Rattle.unit_defs.specs.CuUpRecords.{TunnelKind, n3, f1u_uplink, forwarding_down, forwarding_up, CuUpTunnel}
 use Rattle.unit_defs.specs.Du.{DuTunnel}
 use Rattle.transport_defs.specs.declared.Item.{Item}
-use Rattle.run_defs.specs.Units.{Units, up_of, du_of}
+use Rattle.run_defs.specs.Units.{Units, cu_up_of, du_of}
 use Rattle.run_defs.specs.Carried.{Layout, NoLayout, N3, ForwardingDown, ForwardingUp, F1uDownlink, F1uUplink, IsDeliveryStatus}
 use Rattle.run_defs.specs.Written.{Written}
 use Rattle.run_defs.specs.States.{State}
@@ -34,7 +34,7 @@ IsOfKind kind dir load = ⊥
 -- of an item with this key and load on a tunnel with this end: where the TEID is open, it is its owner's and of its kind
 abbrev pub IsOwnAt : {M C : Type 0} → Units M C → NodeId → ℕ → EntityKey → Load Pdu → Type 0
 IsOwnAt units (CuUp gnb number) teid key load =
-    (owner : UpTunnel) → find nat_cmp (up_of units gnb number).tunnels teid ≡ Some owner
+    (owner : CuUpTunnel) → find nat_cmp (cu_up_of units gnb number).tunnels teid ≡ Some owner
     → (key.ue ≡ owner.ue) × (key.bearer ≡ owner.bearer) × IsOfKind owner.kind key.dir load
 IsOwnAt units (Du gnb number) teid key load =
     (owner : DuTunnel) → find nat_cmp (du_of units gnb number).tunnels teid ≡ Some owner
@@ -62,7 +62,7 @@ IsLaidBy layout teid item = (sn : SnBits) × layout sn teid item.count item.cont
 
 abbrev pub IsLaidAt : {M C : Type 0} → Units M C → NodeId → ℕ → Item (Written (Load Pdu)) → Type 0
 IsLaidAt units (CuUp gnb number) teid item =
-    (owner : UpTunnel) → find nat_cmp (up_of units gnb number).tunnels teid ≡ Some owner → IsLaidBy (layout_of owner.kind item.key.dir) teid item
+    (owner : CuUpTunnel) → find nat_cmp (cu_up_of units gnb number).tunnels teid ≡ Some owner → IsLaidBy (layout_of owner.kind item.key.dir) teid item
 IsLaidAt units (Du gnb number) teid item =
     (owner : DuTunnel) → find nat_cmp (du_of units gnb number).tunnels teid ≡ Some owner → IsLaidBy F1uDownlink teid item
 IsLaidAt units node teid item = ⊥

@@ -6,12 +6,12 @@ use Rattle.gnb_types.specs.declared.names.Gnb.{Gnb}
 use Rattle.gnb_types.specs.declared.names.UeId.{UeId}
 use Rattle.gnb_types.specs.declared.names.BearerId.{BearerId}
 use Rattle.tables.specs.Tables.{find}
-use Rattle.unit_defs.specs.UpRecords.{TunnelKind, n3, f1u_uplink, forwarding_down, forwarding_up, UpTunnel}
+use Rattle.unit_defs.specs.CuUpRecords.{TunnelKind, n3, f1u_uplink, forwarding_down, forwarding_up, CuUpTunnel}
 use Rattle.unit_defs.specs.Du.{DuTunnel}
-use Rattle.run_defs.specs.Units.{Units, up_of, du_of}
+use Rattle.run_defs.specs.Units.{Units, cu_up_of, du_of}
 use Rattle.proof_run_steps.specs.teids.Given.{below}
 use Rattle.proof_unit_steps.specs.tunnel_names.Names.{Book, by_book}
-use Rattle.proof_unit_steps.specs.tunnels.Units.{UpHolds, DuHolds, NoneIsFree}
+use Rattle.proof_unit_steps.specs.tunnels.Units.{CuUpHolds, DuHolds, NoneIsFree}
 
 abbrev pub is_kind : TunnelKind → TunnelKind → Bool
 is_kind n3 n3 = true
@@ -20,7 +20,7 @@ is_kind forwarding_down forwarding_down = true
 is_kind forwarding_up forwarding_up = true
 is_kind kind other = false
 
-abbrev pub is_up_owner : TunnelKind → UeId → BearerId → UpTunnel → Bool
+abbrev pub is_up_owner : TunnelKind → UeId → BearerId → CuUpTunnel → Bool
 is_up_owner kind ue bearer owner = owner.ue.0 == ue.0 && owner.bearer.0 == bearer.0 && is_kind owner.kind kind
 
 abbrev pub is_du_owner : UeId → BearerId → DuTunnel → Bool
@@ -37,7 +37,7 @@ may_be test next tunnels teid = nat_lt teid (below next) && all_such test (find 
 abbrev pub book_of : {M C : Type 0} → Units M C → Book
 book_of units = record {
   up = λ gnb number kind ue bearer teid.
-      may_be (is_up_owner kind ue bearer) (up_of units gnb number).next_teid (up_of units gnb number).tunnels teid;
+      may_be (is_up_owner kind ue bearer) (cu_up_of units gnb number).next_teid (cu_up_of units gnb number).tunnels teid;
   du = λ gnb number ue bearer teid. may_be (is_du_owner ue bearer) (du_of units gnb number).next_teid (du_of units gnb number).tunnels teid;
   length = λ ue sn. true;
 }
@@ -51,6 +51,6 @@ pub record Keeps (first second : Book) : Type 0 where
 
 -- each CU-UP and each DU has in the book what its contexts name of its own tunnels, and 0 is free
 pub record HasItsOwn {M C : Type 0} (units : Units M C) : Type 0 where
-  pub ups : (gnb : Gnb) (number : ℕ) → UpHolds (by_book (book_of units)) gnb number (up_of units gnb number)
+  pub ups : (gnb : Gnb) (number : ℕ) → CuUpHolds (by_book (book_of units)) gnb number (cu_up_of units gnb number)
   pub dus : (gnb : Gnb) (number : ℕ) → DuHolds (by_book (book_of units)) gnb number (du_of units gnb number)
   pub none : NoneIsFree (by_book (book_of units))

@@ -24,7 +24,7 @@ use Rattle.run_defs.specs.Local.{Act, acts_of_event, acts_of}
 use Rattle.run_defs.specs.Said.{is_refusal, lines_in}
 use Rattle.run_defs.specs.Written.{Written, WrittenStepped}
 use Rattle.run_defs.specs.States.{Lengths, RunStep, offer_for, stepped, step_spent, goes, stops, ◌next◌, Within, as_step, goes_on, entity, sn_of, has_bearer, spent_counter}
-use Rattle.run_defs.specs.Steps.{check_spans, put_on_tunnel, letters_spent, too_many_letters, is_done, carried_out, done_with, does, ordered_by}
+use Rattle.run_defs.specs.Steps.{check_spans, put_on_tunnel, control_messages_spent, too_many_control_messages, is_done, carried_out, done_with, does, ordered_by}
 use Rattle.run_defs.specs.Events.{offered, offer_on_path, offer}
 use Rattle.run_defs.specs.Runs.{Reading, happens, run_on, run_from}
 use Rattle.proof_run_steps.specs.steps.Causes.{by_offer}
@@ -137,9 +137,9 @@ module _ (reading : Reading) where
       → Clean (ordered_by (W reading) s (done_with (W reading) (Ue ue.0) None (λ t. goes_on (offered (W reading) (entity ue bearer Ul) t)) s answer))
   done_clean ue bearer p s (stepped (held reason ∷ []) units) = inl refl
   done_clean ue bearer p s (stepped (no reason ∷ []) units) = inr (refl, tt)
-  done_clean ue bearer p s (stepped outputs units) = by (too_many_letters (W reading) outputs s)
+  done_clean ue bearer p s (stepped outputs units) = by (too_many_control_messages (W reading) outputs s)
     where
-      by : (t : Bool) → Clean (ordered_by (W reading) s (if t then is_done (stops [] (spent_counter letters_spent))
+      by : (t : Bool) → Clean (ordered_by (W reading) s (if t then is_done (stops [] (spent_counter control_messages_spent))
           else is_done (as_step (Some (Ue ue.0)) (carried_out (W reading) (Ue ue.0) None (λ t. goes_on (offered (W reading) (entity ue bearer Ul) t)) outputs units s))))
       by true = inl refl
       by false =

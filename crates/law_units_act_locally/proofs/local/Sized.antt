@@ -20,7 +20,7 @@ use Rattle.unit_defs.specs.Ways.{Message, Pdu, Load, Put, control, packet, radio
 use Rattle.unit_defs.specs.Ue.{UeBearer, UeNode, largest_packet, offered, offer, ue_acts}
 use Rattle.run_defs.specs.Units.{ue_of}
 use Rattle.run_defs.specs.Written.{Written, WrittenStepped}
-use Rattle.run_defs.specs.States.{new_state, order_for, letter_for, item_for, carried_for, confirmed_for, offer_for, tick_for, octets_from, octets_on, stepped, step_spent}
+use Rattle.run_defs.specs.States.{new_state, order_for, control_message_for, item_for, carried_for, confirmed_for, offer_for, tick_for, octets_from, octets_on, stepped, step_spent}
 use Rattle.run_defs.specs.Runs.{Reading, PlainGiven, Plain, plain_way, plain_by, input_of, acts_on, ue_stepped, content_of, taken_of}
 use Rattle.proof_run_steps.specs.facts.Facts.{Facts, Hold, PutFits, PutsFit, GivenFits}
 use Rattle.proof_run_steps.specs.plan_facts.Along.{lengths_by, Allowed, Brings as BringsIn, AreKeptAlong}
@@ -47,7 +47,7 @@ abbrev pub sized : RunFacts
 sized = record {
   units = λ u. Known SizedAt u;
   core = λ r. Unit {0};
-  letter = λ l. Unit {0};
+  control_message = λ l. Unit {0};
   puts_on = λ node end item. IfAny IsSized (packet_of_load item.content.says);
   puts_on_air = λ node key item. IfAny IsSized (packet_of_pdu item.content.says);
   on_tunnel = λ end item. IfAny IsSized (packet_of_load item.content.says);
@@ -142,8 +142,8 @@ module _ (reading : Reading) where
 
     given_answered : (u : Records) (node : NodeId) (taken : Option ℕ) (given : PlainGiven) → BringsIn Its given → GivenFits sized node taken given → Known SizedAt u
         → Answered SizedAt reading node (plain_by reading u node given (input_of reading given))
-    given_answered u node taken (letter_for from message) may fits k =
-        answered SizedAt reading u node (letter_for from message) (input_of reading (letter_for from message)) k (control_brings SizedAt reading u node from message)
+    given_answered u node taken (control_message_for from message) may fits k =
+        answered SizedAt reading u node (control_message_for from message) (input_of reading (control_message_for from message)) k (control_brings SizedAt reading u node from message)
     given_answered u node taken (item_for teid item) may fits k =
         answered SizedAt reading u node (item_for teid item) (input_of reading (item_for teid item)) k (item_brings u node teid item.key item.content.says fits.1)
     given_answered u node taken (carried_for item) may fits k =
@@ -173,7 +173,7 @@ module _ (reading : Reading) where
       grows = λ before after stay. record {
         units = λ u p. p;
         core = λ r p. p;
-        letter = λ l p. p;
+        control_message = λ l p. p;
         on_tunnel = λ end item p. p;
         on_radio = λ key item p. p;
         counted = λ c. c;
@@ -198,7 +198,7 @@ module _ (reading : Reading) where
   sized_first = record {
     units = first_known SizedAt reading;
     core = tt;
-    letters = tt;
+    control_messages = tt;
     tunnels = λ end items found. absurd cc;
     radios = λ key. tt;
     few = λ counted. absurd counted;

@@ -151,9 +151,9 @@ module _ (L : Lengths) where
           (if_said (WasAtSaying (SaysSized L) seen actor (item_key item)) h.0 x (back link item h.0 x h.1.0 carries) h.2),
     )
     line_whole seen actor (delivers key count x) ok h laid = was_at seen actor key x ok h
-    line_whole seen actor (put_message number letter) ok h laid = (laid, spelled actor letter.to letter.message)
+    line_whole seen actor (put_message number control_message) ok h laid = (laid, spelled actor control_message.to control_message.message)
     line_whole seen actor (got_item link item) ok h laid = tt
-    line_whole seen actor (got_message number letter) ok h laid = tt
+    line_whole seen actor (got_message number control_message) ok h laid = tt
     line_whole seen actor (lost_items link items) ok h laid = tt
     line_whole seen actor (lost_message number) ok h laid = tt
     line_whole seen actor (drops_input node reason) ok h laid = tt

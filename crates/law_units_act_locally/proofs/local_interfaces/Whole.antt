@@ -12,7 +12,7 @@ use Rattle.run_defs.specs.Local.{Act, IsLocalLine, IsLocalBy, LocalFrom, acts_of
 use Rattle.intervals.proofs.Intervals.{all_append}
 use Rattle.law_units_act_locally.specs.local.Offered.{OffersHaveOctets}
 use Rattle.law_units_act_locally.proofs.local.Whole.{all_of, whole_local}
-use Rattle.law_units_act_locally.specs.cp_interfaces.Interfaces.{IsOf}
+use Rattle.law_units_act_locally.specs.cu_cp_interfaces.Interfaces.{IsOf}
 use Rattle.law_units_act_locally.specs.run_interfaces.Lines.{IsLineOf, IsStepOf, AreOf}
 use Rattle.law_units_act_locally.proofs.run_interfaces.Runs.{run_is_of}
 

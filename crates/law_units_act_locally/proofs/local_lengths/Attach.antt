@@ -22,16 +22,16 @@ use Rattle.scenario_text.specs.declared.event.Event.TheVariants as events
 use Rattle.unit_defs.specs.Ways.{Message, Pdu, Load, Put, control, packet, radio, deliver, dropped, held, opened, closed, failed, no, order_input, gives, spent, with_outputs, ◌then◌, nothing}
 use Rattle.unit_defs.specs.Messages.{channel}
 use Rattle.unit_defs.specs.Transactions.{Waiting, Transactions, is_empty, waits_at, begun_as, begin_request, ask}
-use Rattle.unit_defs.specs.CpRecords.{Say, asks, refuses, Row, row, row_spent, CpContext, CpTerminal, CuCpRecord, has_unit, with_terminal, stays, keeps, noted, after_asked, waiting_of, say_one, say_all, carry_out}
-use Rattle.unit_defs.specs.CpRows.{CpAt, own_up, own_du, bearer_setup, attach_context, attach as attach_row, attach_on, attach_begins}
+use Rattle.unit_defs.specs.CuCpRecords.{Action, asks, refuses, Row, row, row_spent, CuCpContext, CuCpTerminal, CuCpRecord, has_unit, with_terminal, stays, keeps, noted, after_asked, waiting_of, act_one, act_all, carry_out}
+use Rattle.unit_defs.specs.CuCpRows.{CuCpScope, own_up, own_du, bearer_setup, attach_context, attach as attach_row, attach_on, attach_begins}
 use Rattle.unit_defs.specs.CuCp.{cu_cp_acts}
-use Rattle.unit_defs.specs.Static.{up_has_room, up_has_teids, du_has_teids}
+use Rattle.unit_defs.specs.Static.{cu_up_has_room, cu_up_has_teids, du_has_teids}
 use Rattle.run_defs.specs.Lines.{RunLine, put_item, got_item, put_message, got_message, delivers, lost_items, lost_message, drops_input, held_at, procedure_failed, is_quiet, is_busy, has_settled, has_not_settled, was_refused}
 use Rattle.run_defs.specs.Said.{is_refusal, lines_in}
-use Rattle.run_defs.specs.Units.{Units, cp_of, with_cp, up_of, du_of}
+use Rattle.run_defs.specs.Units.{Units, cu_cp_of, with_cu_cp, cu_up_of, du_of}
 use Rattle.run_defs.specs.Written.{Written, written_put, WrittenStepped, written_step}
 use Rattle.run_defs.specs.States.{State, Lengths, World, order_for, stepped, step_spent, goes, stops, Within, Outcome, as_step, refused, sn_of, was_attached, spent_counter}
-use Rattle.run_defs.specs.Steps.{letters_spent, too_many_letters, is_done, carried_out, done_with, does, ordered_by}
+use Rattle.run_defs.specs.Steps.{control_messages_spent, too_many_control_messages, is_done, carried_out, done_with, does, ordered_by}
 use Rattle.run_defs.specs.Conditions.{is_held_by_units, has_started}
 use Rattle.run_defs.specs.Events.{static, with_terminal as comes, attach}
 use Rattle.run_defs.specs.Runs.{Reading, Plain, plain_way, stepped_with, plain_world, happens}
@@ -85,7 +85,7 @@ unfolding ask begin_request
 ask_never t c w =
     never_if (is_open t.caller c || not (is_empty (waits_at t c))) _ _ tt (begun_never t c w (begin t.caller c w.deadline))
 
-abbrev IsSmall : Say Token → Type 0
+abbrev IsSmall : Action Token → Type 0
 IsSmall (asks to message deadline awaited) = Unit {0}
 IsSmall (refuses reason) = Unit {0}
 IsSmall say = ⊥
@@ -95,8 +95,8 @@ IsSmallRow (row (say ∷ []) after) = IsSmall say
 IsSmallRow (row says after) = ⊥
 IsSmallRow (row_spent counter) = Unit {0}
 
-say_never : (ue : UeId) (r : CuCpRecord (Message Token) Token) (say : Say Token) → IsSmall say → Never (say_one plain_way ue r say)
-unfolding say_one
+say_never : (ue : UeId) (r : CuCpRecord (Message Token) Token) (say : Action Token) → IsSmall say → Never (act_one plain_way ue r say)
+unfolding act_one
 say_never ue r (asks to message deadline awaited) p =
     let w : Waiting Token = waiting_of plain_way message deadline awaited in
     never_then (ask plain_way r.transactions (channel ue.0 to) w) (λ a. nothing (after_asked plain_way ue to (noted plain_way ue to awaited r) a))
@@ -105,10 +105,10 @@ say_never ue r (refuses reason) p = (tt, tt)
 say_never ue r say p = absurd p
 
 row_never : (ue : UeId) (r : CuCpRecord (Message Token) Token) (w : Row Token) → IsSmallRow w → Never (carry_out plain_way ue r w)
-unfolding carry_out say_all
+unfolding carry_out act_all
 row_never ue r (row (say ∷ []) after) p =
     let q : CuCpRecord (Message Token) Token = with_terminal ue r after in
-    never_then (say_one plain_way ue q say) (say_all plain_way ue []) (say_never ue q say p) (λ x. tt)
+    never_then (act_one plain_way ue q say) (act_all plain_way ue []) (say_never ue q say p) (λ x. tt)
 row_never ue r (row [] after) p = absurd p
 row_never ue r (row (say ∷ more ∷ says) after) p = absurd p
 row_never ue r (row_spent counter) p = tt
@@ -117,16 +117,16 @@ small_if : (t : Bool) (a b : Row Token) → IsSmallRow a → IsSmallRow b → Is
 small_if true a b p q = p
 small_if false a b p q = q
 
-begins_small : (at : CpAt) (plan : Plan) (t : CpTerminal) → IsSmallRow (attach_begins plain_way at plan t)
+begins_small : (at : CuCpScope) (plan : Plan) (t : CuCpTerminal) → IsSmallRow (attach_begins plain_way at plan t)
 begins_small at plan t =
     small_if (not (has_unit at.units (own_up at plan.up)) || not (has_unit at.units (own_du at plan.du))) (stays t (refuses NotStarted ∷ []))
     (keeps t (bearer_setup plain_way at (attach_context plain_way plan) false ∷ []) (attach_context plain_way plan)) tt tt
 
-attach_small : (at : CpAt) (plan : Plan) (t : CpTerminal) → IsSmallRow (attach_row plain_way at plan t)
+attach_small : (at : CuCpScope) (plan : Plan) (t : CuCpTerminal) → IsSmallRow (attach_row plain_way at plan t)
 unfolding attach_row
 attach_small at plan t = by t.context
   where
-    by : (o : Option CpContext) → IsSmallRow (attach_on plain_way at plan t o)
+    by : (o : Option CuCpContext) → IsSmallRow (attach_on plain_way at plan t o)
     by None = begins_small at plan t
     by (Some c) = tt
 
@@ -172,8 +172,8 @@ module _ (reading : Reading) where
   pub other_clean : (line : RunLine (Message Token)) → IsOther line → IsClean line
   other_clean (put_item link item) h = refl
   other_clean (got_item link item) h = refl
-  other_clean (put_message number letter) h = refl
-  other_clean (got_message number letter) h = refl
+  other_clean (put_message number control_message) h = refl
+  other_clean (got_message number control_message) h = refl
   other_clean (delivers key count x) h = refl
   other_clean (lost_items link items) h = refl
   other_clean (lost_message number) h = refl
@@ -228,8 +228,8 @@ module _ (reading : Reading) where
   unfolding static
   static_came plan s =
       came_if plan s (was_attached s plan.ue || is_held_by_units plan s.units) _ _ (came_refused plan s Attached)
-      (came_if plan s (not (up_has_room (up_of s.units plan.gnb plan.up) plan)) _ _ (came_refused plan s reasons.Quota)
-      (came_if plan s (up_has_teids (up_of s.units plan.gnb plan.up) plan && du_has_teids (du_of s.units plan.gnb plan.du) plan) _ _
+      (came_if plan s (not (cu_up_has_room (cu_up_of s.units plan.gnb plan.up) plan)) _ _ (came_refused plan s reasons.Quota)
+      (came_if plan s (cu_up_has_teids (cu_up_of s.units plan.gnb plan.up) plan && du_has_teids (du_of s.units plan.gnb plan.du) plan) _ _
       (inr (find-put-same ue_total s.plans plan.ue plan, refl)) refl))
 
   step_came : (plan : Plan) (s : Here) (node : NodeId) (w : Within (Message Token) Token (Written (Load Pdu)) (Written Pdu))
@@ -239,7 +239,7 @@ module _ (reading : Reading) where
   step_came plan s node (stops lines why) has all = step_clean lines all
 
   few_came : (plan : Plan) (s : Here) (outputs : List Output) (units : Units (Message Token) Token) (t : Bool)
-      → Came plan s (ordered_by W s (if t then is_done (stops [] (spent_counter letters_spent))
+      → Came plan s (ordered_by W s (if t then is_done (stops [] (spent_counter control_messages_spent))
       else is_done (as_step (Some (CuCp plan.gnb)) (carried_out W (CuCp plan.gnb) None (comes W plan) outputs units s))))
   few_came plan s outputs units true = refl
   few_came plan s outputs units false =
@@ -250,7 +250,7 @@ module _ (reading : Reading) where
       → Came plan s (ordered_by W s (done_with W (CuCp plan.gnb) None (comes W plan) s answer))
   done_came plan s (stepped (held reason ∷ []) units) p = absurd p.0
   done_came plan s (stepped (no reason ∷ []) units) p = came_refused plan s reason
-  done_came plan s (stepped outputs units) p = few_came plan s outputs units (too_many_letters W outputs s)
+  done_came plan s (stepped outputs units) p = few_came plan s outputs units (too_many_control_messages W outputs s)
   done_came plan s (step_spent counter) p = refl
 
   attach_came : (plan : Plan) (s : Here) → Came plan s (attach W plan s)
@@ -259,7 +259,7 @@ module _ (reading : Reading) where
       came_if plan s (was_attached s plan.ue) _ _ (came_refused plan s Attached)
       (came_if plan s (not (has_started plan s)) _ _ (came_refused plan s NotStarted)
       (done_came plan s (W.answer (sn_of s) s.units (CuCp plan.gnb) (order_for (orders.Attach plan)))
-      (written_never (sn_of s) (with_cp s.units plan.gnb) _ (attach_never (cp_of s.units plan.gnb) plan))))
+      (written_never (sn_of s) (with_cu_cp s.units plan.gnb) _ (attach_never (cu_cp_of s.units plan.gnb) plan))))
 
   -- ---- the plan of a terminal that an event brings
 

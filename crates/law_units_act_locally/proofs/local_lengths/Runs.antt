@@ -50,7 +50,7 @@ module _ (reading : Reading) (L : Lengths) where
       record {
         units = (one.units, other.units);
         core = (one.core, other.core);
-        letters = tt;
+        control_messages = tt;
         tunnels = λ end items found. absurd cc;
         radios = λ key. tt;
         few = λ counted. absurd counted;

@@ -16,24 +16,24 @@ use Rattle.message_types.specs.declared.rrc.Token.{Token}
 use Rattle.pdcp_defs.specs.Senders.{Sender}
 use Rattle.pdcp_defs.specs.Receivers.{Receiver}
 use Rattle.unit_defs.specs.Ways.{Message, Pdu, packet_pdu, report_pdu, Load, fresh, numbered, frame, uplink, status, end_marker, Put, control, packet, radio, deliver, dropped, held, opened, closed, failed, no, Input, control_input, packet_input, radio_input, confirm_input, offer_input, tick_input, order_input, gives, spent}
-use Rattle.unit_defs.specs.UpRecords.{TunnelKind, n3, f1u_uplink, forwarding_down, forwarding_up, UpBearer, UpContext, UpTunnel, CuUp}
+use Rattle.unit_defs.specs.CuUpRecords.{TunnelKind, n3, f1u_uplink, forwarding_down, forwarding_up, CuUpBearer, CuUpContext, CuUpTunnel, CuUp}
 use Rattle.unit_defs.specs.CuUp.{cu_up_acts}
 use Rattle.unit_defs.specs.Du.{Du, du_acts}
 use Rattle.unit_defs.specs.Ue.{UeBearer, UeNode, new_ue, placed, ue_acts}
-use Rattle.unit_defs.specs.CpRecords.{CuCpRecord}
+use Rattle.unit_defs.specs.CuCpRecords.{CuCpRecord}
 use Rattle.unit_defs.specs.CuCp.{cu_cp_acts}
 use Rattle.unit_defs.specs.Core.{CoreRecord, core_acts}
 use Rattle.transport_defs.specs.declared.Item.{Item}
-use Rattle.run_defs.specs.Units.{Units, new_units, cp_of, with_cp, up_of, with_up, du_of, with_du, ue_of, with_ue}
+use Rattle.run_defs.specs.Units.{Units, new_units, cu_cp_of, with_cu_cp, cu_up_of, with_cu_up, du_of, with_du, ue_of, with_ue}
 use Rattle.run_defs.specs.Written.{Written, written_put, PlainStepped, WrittenStepped, WrittenCoreStepped, written_step}
-use Rattle.run_defs.specs.States.{Lengths, letter_for, item_for, carried_for, confirmed_for, offer_for, tick_for, order_for, octets_from, octets_on, stepped, step_spent, core_stepped, entity}
+use Rattle.run_defs.specs.States.{Lengths, control_message_for, item_for, carried_for, confirmed_for, offer_for, tick_for, order_for, octets_from, octets_on, stepped, step_spent, core_stepped, entity}
 use Rattle.run_defs.specs.Conditions.{units_placed, all_set_up}
 use Rattle.run_defs.specs.Runs.{Reading, PlainGiven, Plain, plain_way, content_of, taken_of, input_of, stepped_with, ue_stepped, acts_on, plain_by, plain_answer, core_done, plain_core}
 use Rattle.proof_run_steps.specs.facts.UnitFacts.{UnitFacts, OfUnits}
 use Rattle.proof_run_steps.proofs.facts.Alone.{alone}
 use Rattle.proof_run_steps.proofs.facts.Units.{with_up_holds, with_du_holds, with_cp_holds, with_ue_holds, units_set_up, first_hold}
 use Rattle.law_tunnels_are_owned.proofs.link_items.Octets.{map_all}
-use Rattle.proof_unit_steps.specs.packets.Packets.{of, dir_of, Property, ContentHas, TakenHas, UpInputHas, DuInputHas, UeInputHas, LoadHas, OutputHas, CountedHave, BearerHas, BearersHave, UpHas, UeHas, AnswerHas}
+use Rattle.proof_unit_steps.specs.packets.Packets.{of, dir_of, Property, ContentHas, TakenHas, UpInputHas, DuInputHas, UeInputHas, LoadHas, OutputHas, CountedHave, BearerHas, BearersHave, CuUpHas, UeHas, AnswerHas}
 use Rattle.proof_unit_steps.proofs.packets.CuUps.{cu_up_has, placed_has}
 use Rattle.proof_unit_steps.proofs.node_packets.Terminals.{terminal_has, new_has}
 use Rattle.proof_unit_steps.proofs.node_packets.Dus.{du_has}
@@ -65,11 +65,11 @@ module _ (G H : EntityKey → List ℕ → Type 0) (more : (key : EntityKey) (p 
     stored = counted_later back r.stored p.stored;
   }
 
-  up_later : (r : CuUp (Message Token) Token) → UpHas (of_packets G) r → UpHas (of_packets H) r
+  up_later : (r : CuUp (Message Token) Token) → CuUpHas (of_packets G) r → CuUpHas (of_packets H) r
   up_later r p =
-      map_all (λ (e : UeId × UpContext). BearersHave (of_packets G) e.0 e.1.bearers) (λ (e : UeId × UpContext). BearersHave (of_packets H) e.0 e.1.bearers) r.contexts
-      (λ e all. map_all (λ (x : BearerId × UpBearer). BearerHas (of_packets G) (of e.0 x.0 Dl) (of e.0 x.0 Ul) x.1.sender x.1.waiting x.1.receiver)
-      (λ (x : BearerId × UpBearer). BearerHas (of_packets H) (of e.0 x.0 Dl) (of e.0 x.0 Ul) x.1.sender x.1.waiting x.1.receiver) e.1.bearers
+      map_all (λ (e : UeId × CuUpContext). BearersHave (of_packets G) e.0 e.1.bearers) (λ (e : UeId × CuUpContext). BearersHave (of_packets H) e.0 e.1.bearers) r.contexts
+      (λ e all. map_all (λ (x : BearerId × CuUpBearer). BearerHas (of_packets G) (of e.0 x.0 Dl) (of e.0 x.0 Ul) x.1.sender x.1.waiting x.1.receiver)
+      (λ (x : BearerId × CuUpBearer). BearerHas (of_packets H) (of e.0 x.0 Dl) (of e.0 x.0 Ul) x.1.sender x.1.waiting x.1.receiver) e.1.bearers
       (λ x h. bearer_later (of e.0 x.0 Dl) (of e.0 x.0 Ul) x.1.sender x.1.waiting x.1.receiver h) all) p
 
   ue_later : (ue : UeId) (u : UeNode) → UeHas (of_packets G) ue u → UeHas (of_packets H) ue u
@@ -89,7 +89,7 @@ abbrev pub Records : Type 0
 Records = Units (Message Token) Token
 
 abbrev up_knows : Knowledge → Gnb → ℕ → CuUp (Message Token) Token → Type 0
-up_knows K gnb number r = UpHas (of_packets (K (up_id gnb number))) r
+up_knows K gnb number r = CuUpHas (of_packets (K (up_id gnb number))) r
 
 abbrev ue_knows : Knowledge → UeId → UeNode → Type 0
 ue_knows K ue u = UeHas (of_packets (K (Ue ue.0))) ue u
@@ -102,7 +102,7 @@ Known K u = OfUnits (known K) u
 
 pub known_later : (K L : Knowledge) → ((node : NodeId) (key : EntityKey) (p : List ℕ) → K node key p → L node key p) → (u : Records) → Known K u → Known L u
 known_later K L more u p = (
-  λ gnb number. up_later (K (up_id gnb number)) (L (up_id gnb number)) (more (up_id gnb number)) (up_of u gnb number) (p.0 gnb number),
+  λ gnb number. up_later (K (up_id gnb number)) (L (up_id gnb number)) (more (up_id gnb number)) (cu_up_of u gnb number) (p.0 gnb number),
   p.1,
   p.2,
   λ ue x is. ue_later (K (Ue ue.0)) (L (Ue ue.0)) (more (Ue ue.0)) ue x (p.3 ue x is),
@@ -158,7 +158,7 @@ module _ (G : EntityKey → List ℕ → Type 0) where
   kind_goes f1u_uplink ue bearer Dl (status lost delivered) is h = tt
   kind_goes kind ue bearer dir load is h = absurd is
 
-  up_taken : (key : EntityKey) (load : Load Pdu) (owner : UpTunnel) → (key.ue ≡ owner.ue) × (key.bearer ≡ owner.bearer) × IsOfKind owner.kind key.dir load
+  up_taken : (key : EntityKey) (load : Load Pdu) (owner : CuUpTunnel) → (key.ue ≡ owner.ue) × (key.bearer ≡ owner.bearer) × IsOfKind owner.kind key.dir load
       → IfAny (G key) (packet_of_load load) → TakenHas (of_packets G) (of owner.ue owner.bearer (dir_of owner.kind)) (taken_of load)
   up_taken key load owner own h =
       load_taken (of owner.ue owner.bearer (dir_of owner.kind)) load
@@ -215,12 +215,12 @@ module _ (K : Knowledge) (reading : Reading) where
   Has node Q a = AnswerHas (of_packets (K node)) Q a
 
   by_cp : (u : Records) (gnb : Gnb) (a : Plain (CuCpRecord (Message Token) Token)) → Known K u → Has (CuCp gnb) (λ r. Unit {0}) a
-      → Answered (CuCp gnb) (stepped_with reading (with_cp u gnb) a)
+      → Answered (CuCp gnb) (stepped_with reading (with_cu_cp u gnb) a)
   by_cp u gnb (gives outputs r) p h = (with_cp_holds (known K) u gnb r p tt, h.1)
   by_cp u gnb (spent counter) p h = tt
 
   by_up : (u : Records) (gnb : Gnb) (number : ℕ) (a : Plain (CuUp (Message Token) Token)) → Known K u → Has (up_id gnb number) (up_knows K gnb number) a
-      → Answered (up_id gnb number) (stepped_with reading (with_up u gnb number) a)
+      → Answered (up_id gnb number) (stepped_with reading (with_cu_up u gnb number) a)
   by_up u gnb number (gives outputs r) p h = (with_up_holds (known K) u gnb number r p h.0, h.1)
   by_up u gnb number (spent counter) p h = tt
 
@@ -236,16 +236,16 @@ module _ (K : Knowledge) (reading : Reading) where
 
   abbrev pub InputHas : Records → NodeId → Input Token Pdu → Type 0
   InputHas u (CuCp gnb) input = Unit {0}
-  InputHas u (up_id gnb number) input = UpInputHas (of_packets (K (up_id gnb number))) (up_of u gnb number) input
+  InputHas u (up_id gnb number) input = UpInputHas (of_packets (K (up_id gnb number))) (cu_up_of u gnb number) input
   InputHas u (du_id gnb number) input = DuInputHas (of_packets (K (du_id gnb number))) (du_of u gnb number) input
   InputHas u (Ue ue) input = UeInputHas (of_packets (K (Ue ue))) (record { 0 = ue }) input
   InputHas u Core input = Unit {0}
 
   acted : (u : Records) (node : NodeId) (input : Input Token Pdu) → Known K u → InputHas u node input → Answered node (acts_on reading u node input)
-  acted u (CuCp gnb) input p brings = by_cp u gnb (cu_cp_acts plain_way (cp_of u gnb) input) p (cu_cp_has (of_packets (K (CuCp gnb))) (cp_of u gnb) input)
+  acted u (CuCp gnb) input p brings = by_cp u gnb (cu_cp_acts plain_way (cu_cp_of u gnb) input) p (cu_cp_has (of_packets (K (CuCp gnb))) (cu_cp_of u gnb) input)
   acted u (up_id gnb number) input p brings =
-      by_up u gnb number (cu_up_acts plain_way (up_of u gnb number) input) p
-      (cu_up_has (of_packets (K (up_id gnb number))) (up_of u gnb number) input (p.0 gnb number) brings)
+      by_up u gnb number (cu_up_acts plain_way (cu_up_of u gnb number) input) p
+      (cu_up_has (of_packets (K (up_id gnb number))) (cu_up_of u gnb number) input (p.0 gnb number) brings)
   acted u (du_id gnb number) input p brings =
       by_du u gnb number (du_acts plain_way (du_of u gnb number) input) p (du_has (of_packets (K (du_id gnb number))) (du_of u gnb number) input brings)
   acted u (Ue ue) input p brings = there (ue_of u (record { 0 = ue })) refl
@@ -322,7 +322,7 @@ module _ (K : Knowledge) (reading : Reading) where
   order_brings u Core order = tt
 
   given_brings : (u : Records) (node : NodeId) (given : PlainGiven) → GivenHas (K node) given → GivenOwn u node given → Brings u node (input_of reading given)
-  given_brings u node (letter_for from message) h own = control_brings u node from message
+  given_brings u node (control_message_for from message) h own = control_brings u node from message
   given_brings u node (item_for teid item) h own = item_brings u node teid item h own
   given_brings u node (carried_for item) h own = radio_brings u node item.key.ue item.key.bearer item.key.dir item.content.says h own
   given_brings u node (confirmed_for item) h own = confirm_brings u node item
@@ -358,7 +358,7 @@ module _ (K : Knowledge) (reading : Reading) where
   placed_known u plan p =
       units_set_up (known K) (λ gnb number r h. h) (λ gnb number r h. tt) (λ gnb r h. tt) u plan p
       (new_has (of_packets (K (Ue plan.ue.0))) plan.ue (placed (new_ue plan)) 1 plan.bearers refl refl)
-      (placed_has (of_packets (K (up_id plan.gnb plan.up))) (up_of u plan.gnb plan.up) plan (du_of u plan.gnb plan.du).next_teid (p.0 plan.gnb plan.up)) tt tt
+      (placed_has (of_packets (K (up_id plan.gnb plan.up))) (cu_up_of u plan.gnb plan.up) plan (du_of u plan.gnb plan.du).next_teid (p.0 plan.gnb plan.up)) tt tt
 
   pub first_known : Known K new_units
   first_known = first_hold (known K) (λ gnb number. tt) (λ gnb number. tt) (λ gnb. tt)
@@ -375,7 +375,7 @@ module _ (G : EntityKey → List ℕ → Type 0) (reading : Reading) where
   by_core lengths r (spent counter) h = tt
 
   core_answered : (lengths : Lengths) (r : CoreRecord (Message Token) Token) (given : PlainGiven) → CoreAnswered (plain_core reading lengths r given)
-  core_answered lengths r (letter_for from message) = by_core lengths r (core_acts plain_way r from message) (core_has (of_packets G) r from message)
+  core_answered lengths r (control_message_for from message) = by_core lengths r (core_acts plain_way r from message) (core_has (of_packets G) r from message)
   core_answered lengths r (item_for teid item) = (tt, tt)
   core_answered lengths r (carried_for item) = (tt, tt)
   core_answered lengths r (confirmed_for item) = (tt, tt)

@@ -16,7 +16,7 @@ use Rattle.run_defs.specs.Lines.{RunLine, put_item, delivers, lost_items, was_re
 use Rattle.run_defs.specs.States.{State, World, Stop, goes, stops, told_before, ◌next◌, goes_on, Within, entity, radio_of, with_radio}
 use Rattle.run_defs.specs.Steps.{first_outstanding, entities_of, checked_by, check_spans, noted, count_beside, item_of, on_tunnel, put_on_tunnel, put_on_connected, put_on_radio, put_control, opens, closes, lost_if, radio_lost, lose_each, lose_radios_of, lose_radios, radios_of, same_epoch, epoch_now, connect_in, reconnect, reconnect_node, put_out, put_out_all}
 use Rattle.intervals.proofs.Intervals.{all_append}
-use Rattle.proof_run_steps.specs.steps.Causes.{Cause, by_order, by_tick, by_octets, by_octets_on, by_attach, by_release, by_offer, by_item, by_air, by_ack, by_letter, node_of, count_of, first_of}
+use Rattle.proof_run_steps.specs.steps.Causes.{Cause, by_order, by_tick, by_octets, by_octets_on, by_attach, by_release, by_offer, by_item, by_air, by_ack, by_control_message, node_of, count_of, first_of}
 use Rattle.law_units_act_locally.specs.local_packets.Local.{OneOf}
 
 -- a line that neither puts an item nor delivers; no step refuses its event
@@ -178,7 +178,7 @@ module _ {M C L P : Type 0} (world : World M C L P) (Q : RunLine M → Type 0) (
   first_lines (by_item end item rest) s = (other _ tt, tt)
   first_lines (by_air key home item) s = (other _ tt, tt)
   first_lines (by_ack key home item rest) s = tt
-  first_lines (by_letter number l to) s = (other _ tt, tt)
+  first_lines (by_control_message number l to) s = (other _ tt, tt)
 
   -- a whole step
   pub step_lines : (cause : Cause M L P) (outputs : List (Put M L P)) (s : State M C L P) → AllByRecursion (PutShows (count_of cause)) outputs

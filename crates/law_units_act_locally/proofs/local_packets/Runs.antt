@@ -116,7 +116,7 @@ abbrev Nothing : Facts (Message Token) Token (Written (Load Pdu)) (Written Pdu)
 Nothing = record {
   units = λ u. Unit {0};
   core = λ r. Unit {0};
-  letter = λ l. Unit {0};
+  control_message = λ l. Unit {0};
   puts_on = λ node end item. Unit {0};
   puts_on_air = λ node key item. Unit {0};
   on_tunnel = λ end item. Unit {0};
@@ -158,7 +158,7 @@ unfolding at find
 nothing_first = record {
   units = tt;
   core = tt;
-  letters = tt;
+  control_messages = tt;
   tunnels = λ end items found. absurd cc;
   radios = λ key. tt;
   few = λ counted. absurd counted;

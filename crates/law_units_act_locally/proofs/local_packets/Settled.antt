@@ -10,7 +10,7 @@ use Rattle.run_defs.specs.Units.{Units, new_units}
 use Rattle.run_defs.specs.Written.{Written}
 use Rattle.run_defs.specs.States.{State, new_state, radio_of, World, goes, stops, Outcome}
 use Rattle.run_defs.specs.Runs.{Reading}
-use Rattle.proof_run_steps.specs.steps.Made.{Made}
+use Rattle.proof_run_steps.specs.steps.IsOutcome.{IsOutcome}
 use Rattle.proof_run_steps.proofs.steps.Frames.{Relates, made_relates}
 use Rattle.proof_run_steps.specs.teids.Given.{GiveOnce}
 use Rattle.proof_run_steps.proofs.teids.Runs.{give_same, give_then, placed_gives, answer_gives}
@@ -96,7 +96,7 @@ module _ (reading : Reading) (show_item : Written (Load Pdu) → List ℕ) (show
   Gives u (goes steps t) = GiveOnce u t.units
   Gives u (stops steps why) = Unit {0}
 
-  made_gives : (event : Event) (s : Here) (e : Happens) → Made TheWorld event s e → Gives s.units e
+  made_gives : (event : Event) (s : Here) (e : Happens) → IsOutcome TheWorld event s e → Gives s.units e
   made_gives event s e p =
       by e (made_relates TheWorld GiveOnce give_same give_then (λ lengths u v node given outputs is. answer_gives reading lengths u v node given outputs is)
       (λ u plan. give_same u) (λ u plan free room teids. placed_gives u plan teids) event s e p)
@@ -106,7 +106,7 @@ module _ (reading : Reading) (show_item : Written (Load Pdu) → List ℕ) (show
       by (goes steps t) q = q
       by (stops steps why) q = tt
 
-  pub made_settled : (event : Event) (s : Here) (e : Happens) → Made TheWorld event s e → Settled s → OutcomeSettled e
+  pub made_settled : (event : Event) (s : Here) (e : Happens) → IsOutcome TheWorld event s e → Settled s → OutcomeSettled e
   made_settled event s e p h =
       by e (made_gives event s e p) (λ w none l. made_later TheWorld (Named w none) (Later w) (kept_here w none) event s e p (h.1 w none l))
     where

@@ -15,18 +15,18 @@ use Rattle.scenario_text.specs.declared.event.Event.{Event}
 use Rattle.unit_defs.specs.Ways.{Message, Pdu, Load, Put, control, packet, radio, deliver, dropped, held, opened, closed, failed, no}
 use Rattle.unit_defs.specs.Messages.{teid_of}
 use Rattle.transport_defs.specs.declared.Item.{Item}
-use Rattle.transport_defs.specs.Links.{letter, landed}
+use Rattle.transport_defs.specs.Links.{control_message, landed}
 use Rattle.run_defs.specs.Lines.{RunLine, put_item, got_message, delivers, lost_items, lost_message, held_at, was_refused, tunnel_link, radio_link, shown}
 use Rattle.run_defs.specs.Local.{Act}
 use Rattle.run_defs.specs.Units.{Units}
 use Rattle.run_defs.specs.Written.{Written}
-use Rattle.run_defs.specs.States.{State, radio_of, World, RunStep, step_of, goes, stops, told_before, ◌next◌, Within, Outcome, as_step, entity, sn_of, stepped, letter_for, octets_from}
+use Rattle.run_defs.specs.States.{State, radio_of, World, RunStep, step_of, goes, stops, told_before, ◌next◌, Within, Outcome, as_step, entity, sn_of, stepped, control_message_for, octets_from}
 use Rattle.run_defs.specs.Steps.{check_spans, count_beside, put_on_tunnel, put_out_all, carried_out}
 use Rattle.run_defs.specs.Conditions.{receiver_by, receiver_of, epoch_of}
 use Rattle.run_defs.specs.Events.{landed_as, offered}
 use Rattle.run_defs.specs.Runs.{Reading}
-use Rattle.proof_run_steps.specs.steps.Causes.{Cause, by_order, by_tick, by_octets, by_octets_on, by_attach, by_release, by_offer, by_item, by_air, by_ack, by_letter, node_of, given_of, count_of, first_of, Stands}
-use Rattle.proof_run_steps.specs.steps.Made.{Made, stays, ends, then_made, sets_up, starts, acts, holds_item, holds_pdu, offers, core_takes, core_reads, lands, loses_letter, loses_item, remarks}
+use Rattle.proof_run_steps.specs.steps.Causes.{Cause, by_order, by_tick, by_octets, by_octets_on, by_attach, by_release, by_offer, by_item, by_air, by_ack, by_control_message, node_of, given_of, count_of, first_of, Stands}
+use Rattle.proof_run_steps.specs.steps.IsOutcome.{IsOutcome, stays, ends, then_made, sets_up, starts, acts, holds_item, holds_pdu, offers, core_takes, core_reads, lands, loses_control_message, loses_item, remarks}
 use Rattle.proof_run_steps.proofs.steps.Frames.{HasUnits, then_units, keep_checked, keep_put_on_tunnel, keep_put_all, units_by, act_units}
 use Rattle.proof_run_steps.specs.plans.Plans.{Plans, PlansStay}
 use Rattle.proof_run_steps.proofs.plans.Frames.{plans_by}
@@ -201,7 +201,7 @@ module _ (reading : Reading) (show_item : Written (Load Pdu) → List ℕ) (show
                 ((tells s.plans).radio key key _ item (nth_has ((facts s.plans).on_radio key) (radio_of s key).items (radio_of s key).carried item (h.radios key) at.1)),
           )))
       given_there past (by_ack key home item rest) outputs u s h at = tt
-      given_there past (by_letter number l to) outputs u s h at = tt
+      given_there past (by_control_message number l to) outputs u s h at = tt
 
       -- and it is the unit's own
       air_own : (key : EntityKey) (home : NodeId) (item : Item (Written Pdu)) → item.key ≡ key → item.key.dir ≡ Dl → IsFor (receiver_of key home) item.key.ue
@@ -224,7 +224,7 @@ module _ (reading : Reading) (show_item : Written (Load Pdu) → List ℕ) (show
       given_own (by_air key home item) s o at =
           air_own key home item (nth_has (λ (x : Item (Written Pdu)). x.key ≡ key) (radio_of s key).items (radio_of s key).carried item (settled_radios s o key) at.1)
       given_own (by_ack key home item rest) s o at = tt
-      given_own (by_letter number l to) s o at = tt
+      given_own (by_control_message number l to) s o at = tt
 
       units_known : (K : NodeId → EntityKey → List ℕ → Type 0) (cause : Cause (Message Token) (Written (Load Pdu)) (Written Pdu)) (u : Units (Message Token) Token) → Known K u
           → Known K (units_by TheWorld cause u)
@@ -238,7 +238,7 @@ module _ (reading : Reading) (show_item : Written (Load Pdu) → List ℕ) (show
       units_known K (by_item end item rest) u p = p
       units_known K (by_air key home item) u p = p
       units_known K (by_ack key home item rest) u p = p
-      units_known K (by_letter number l to) u p = p
+      units_known K (by_control_message number l to) u p = p
 
       act_local : (past : List Told) (cause : Cause (Message Token) (Written (Load Pdu)) (Written Pdu)) (outputs : Outputs) (u : Units (Message Token) Token) (s : Here)
           → Hold (facts s.plans) s → IsAllowed allowed event s.plans → Settled s → Stands event s cause
@@ -292,9 +292,9 @@ module _ (reading : Reading) (show_item : Written (Load Pdu) → List ℕ) (show
           by (stops further why) r = steps_both event refused past steps further p.0 r
       then_local past ps (stops steps why) more p h stay o q = p
 
-      pub made_local : (past : List Told) (s : Here) (e : Happens) → Made TheWorld event s e → Hold (facts s.plans) s → IsAllowed allowed event s.plans → Settled s
+      pub made_local : (past : List Told) (s : Here) (e : Happens) → IsOutcome TheWorld event s e → Hold (facts s.plans) s → IsAllowed allowed event s.plans → Settled s
           → Known (WasAt Says past) s.units → OutcomeLocal past e
-      unfolding letter
+      unfolding control_message
       made_local past s e (stays t) h may o p = (tt, p)
       made_local past s e (ends t why) h may o p = tt
       made_local past s e (then_made t d more a b) h may o p =
@@ -323,13 +323,13 @@ module _ (reading : Reading) (show_item : Written (Load Pdu) → List ℕ) (show
           (keep_put_on_tunnel TheWorld end item (offered TheWorld (entity ue bearer Dl) t)) (keep_checked TheWorld))
           (more_known past (act_of event refused (step_of (Some Core) (lines_of w))) t.units p)
       made_local past s e (core_takes t number l outputs core found at is few) h may o p =
-          let told = kept.core_answers t.plans t.core core (letter_for l.from l.message) outputs h.core (
+          let told = kept.core_answers t.plans t.core core (control_message_for l.from l.message) outputs h.core (
             l.ue,
-            subst (λ (n : NodeId). (facts t.plans).letter (record { from = l.from; to = n; ue = l.ue; message = l.message })) at
-                (found_has nat_cmp (facts t.plans).letter t.bag.letters number l h.letters found),
+            subst (λ (n : NodeId). (facts t.plans).control_message (record { from = l.from; to = n; ue = l.ue; message = l.message })) at
+                (found_has nat_cmp (facts t.plans).control_message t.bag.control_messages number l h.control_messages found),
           ) is in
           core_local past (landed_as TheWorld number l (record t { core = core })) outputs t refl told.1 (λ seen. (tt, tt))
-          (λ G. the_core_answers G reading (sn_of t) t.core core (letter_for l.from l.message) outputs is) p
+          (λ G. the_core_answers G reading (sn_of t) t.core core (control_message_for l.from l.message) outputs is) p
       made_local past s e (core_reads t from octets outputs core is) h may o p =
           let told = kept.core_answers t.plans t.core core (octets_from from octets) outputs h.core tt is in
           let w : Inside = put_out_all TheWorld Core None outputs (record t { core = core }) next check_spans in
@@ -344,7 +344,7 @@ module _ (reading : Reading) (show_item : Written (Load Pdu) → List ℕ) (show
           (keep_put_all TheWorld Core None outputs (record t { core = core })) (keep_checked TheWorld))
           (more_known past (act_of event refused (step_of (Some Core) (lines_of w))) t.units p)
       made_local past s e (lands t number l to found at) h may o p = quiet past (Some to) (got_message number l ∷ []) (record t { bag = landed t.bag number }) (tt, tt) p
-      made_local past s e (loses_letter t number) h may o p = quiet past None (lost_message number ∷ []) (record t { bag = landed t.bag number }) tt p
+      made_local past s e (loses_control_message t number) h may o p = quiet past None (lost_message number ∷ []) (record t { bag = landed t.bag number }) tt p
       made_local past s e (loses_item t end item rest found) h may o p =
           quiet past None (lost_items (tunnel_link end) 1 ∷ []) (record t { tunnels = put tunnel_cmp t.tunnels end rest }) tt p
       made_local past s e (remarks t lines plain) h may o p = quiet past None lines t tt p

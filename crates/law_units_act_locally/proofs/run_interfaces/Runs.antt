@@ -5,14 +5,14 @@ use Rattle.gnb_types.specs.declared.names.NodeId.{NodeId}
 use Rattle.gnb_types.specs.declared.names.NodeId.TheVariants.{CuCp, CuUp as up_id, Du as du_id, Core, Ue}
 use Rattle.message_types.specs.declared.rrc.Token.{Token}
 use Rattle.scenario_text.specs.declared.event.Event.{Event}
-use Rattle.transport_defs.specs.declared.Letter.{Letter}
+use Rattle.transport_defs.specs.declared.ControlMessage.{ControlMessage}
 use Rattle.unit_defs.specs.Ways.{Message, Pdu, Load, Put, control, packet, radio, deliver, dropped, held, opened, closed, failed, no, Input, control_input, packet_input, radio_input, confirm_input, offer_input, tick_input, order_input, Answer, gives, spent}
 use Rattle.unit_defs.specs.Ue.{UeNode, new_ue, placed, ue_acts}
 use Rattle.unit_defs.specs.CuUp.{cu_up_acts}
 use Rattle.unit_defs.specs.Du.{du_acts}
 use Rattle.unit_defs.specs.CuCp.{cu_cp_acts}
 use Rattle.unit_defs.specs.Core.{core_acts}
-use Rattle.unit_defs.specs.Static.{up_placed, du_placed, cp_placed}
+use Rattle.unit_defs.specs.Static.{cu_up_placed, du_placed, cu_cp_placed}
 use Rattle.run_defs.specs.Lines.{RunLine, put_item, got_item, put_message, got_message, delivers, lost_items, lost_message, drops_input, held_at, procedure_failed, is_quiet, is_busy, has_settled, has_not_settled, was_refused}
 use Rattle.run_defs.specs.Written.{Written}
 use Rattle.run_defs.specs.States.{State, new_state, World}
@@ -26,12 +26,12 @@ use Rattle.proof_run_steps.specs.facts.TellFacts.{Tells, TellsBy, StepTells}
 use Rattle.proof_run_steps.proofs.facts.Plain.{plain_kept, first_holds, plain_run_holds}
 use Rattle.proof_run_steps.proofs.facts.Tells.{EventTells, run_tells}
 use Rattle.proof_unit_steps.specs.tunnel_names.Names.{Names}
-use Rattle.proof_unit_steps.specs.tunnel_names.CuCps.{CpNames, CoreNames}
-use Rattle.proof_unit_steps.specs.tunnels.Units.{UpNames, DuNames}
+use Rattle.proof_unit_steps.specs.tunnel_names.CuCps.{CuCpNames, CoreNames}
+use Rattle.proof_unit_steps.specs.tunnels.Units.{CuUpNames, DuNames}
 use Rattle.proof_run_steps.proofs.answerers.Runs.{any, Any, AnyNames, any_kept}
-use Rattle.law_units_act_locally.specs.cp_interfaces.Ledgers.{SentOf, Keeps, Gives, GivenOf}
-use Rattle.law_units_act_locally.proofs.cp_interfaces.CuCps.{Fine, cu_cp_does}
-use Rattle.law_units_act_locally.specs.run_interfaces.Lines.{IsLetterOf, IsLineOf, IsStepOf, IsEventOf, AreOf}
+use Rattle.law_units_act_locally.specs.cu_cp_interfaces.Ledgers.{SentOf, Keeps, Gives, GivenOf}
+use Rattle.law_units_act_locally.proofs.cu_cp_interfaces.CuCps.{Invariant, cu_cp_does}
+use Rattle.law_units_act_locally.specs.run_interfaces.Lines.{IsControlMessageOf, IsLineOf, IsStepOf, IsEventOf, AreOf}
 use Rattle.law_units_act_locally.proofs.run_interfaces.Units.{du_does, cu_up_does, core_does}
 use Rattle.law_units_act_locally.proofs.run_interfaces.Terminals.{IsHome, terminal_does}
 
@@ -39,12 +39,12 @@ use Rattle.law_units_act_locally.proofs.run_interfaces.Terminals.{IsHome, termin
 
 abbrev pub Joined : UnitFacts
 Joined = record {
-  up = λ g n r. UpNames Any g n r × Keeps (up_id g n) r.transactions;
+  up = λ g n r. CuUpNames Any g n r × Keeps (up_id g n) r.transactions;
   du = λ g n r. DuNames Any g n r × Keeps (du_id g n) r.transactions;
-  cp = λ g r. CpNames Any g r × Fine g r;
+  cp = λ g r. CuCpNames Any g r × Invariant g r;
   ue = λ ue x. IsHome x;
   core = λ r. CoreNames Any r × Keeps Core r.transactions;
-  letter = λ l. Names any l.from l.message × IsLetterOf l;
+  control_message = λ l. Names any l.from l.message × IsControlMessageOf l;
   puts_on = λ node end item. Unit {0};
   puts_on_air = λ node key item. Unit {0};
   on_tunnel = λ end item. Unit {0};
@@ -105,10 +105,10 @@ one_fits Q S node taken (spent counter) p q = tt
 -- ---- all that is asked
 
 pub joined_kept : UnitsKeep Joined
-unfolding up_placed du_placed cp_placed new_ue placed
+unfolding cu_up_placed du_placed cu_cp_placed new_ue placed
 joined_kept = record {
   ups_act =
-      λ g n r taken input p fits. both_fit (UpNames Any g n) (λ s. Keeps (up_id g n) s.transactions) (up_id g n) taken
+      λ g n r taken input p fits. both_fit (CuUpNames Any g n) (λ s. Keeps (up_id g n) s.transactions) (up_id g n) taken
       (cu_up_acts plain_way r input)
       (any_kept.ups_act g n r taken input p.0 (given_any (up_id g n) taken input fits))
       (cu_up_does g n r p.0.own p.1 input (given_of (up_id g n) taken input fits));
@@ -117,7 +117,7 @@ joined_kept = record {
       (du_acts plain_way r input)
       (any_kept.dus_act g n r taken input p.0 (given_any (du_id g n) taken input fits))
       (du_does g n r p.0.own p.1 input (given_of (du_id g n) taken input fits));
-  cps_act = λ g r taken input p fits. both_fit (CpNames Any g) (Fine g) (CuCp g) taken (cu_cp_acts plain_way r input)
+  cps_act = λ g r taken input p fits. both_fit (CuCpNames Any g) (Invariant g) (CuCp g) taken (cu_cp_acts plain_way r input)
       (any_kept.cps_act g r taken input p.0 (given_any (CuCp g) taken input fits))
       (cu_cp_does g r input (given_of (CuCp g) taken input fits) p.1);
   ues_act = λ ue x taken input p fits. one_fits (λ (y : UeNode). Unit {0}) IsHome (Ue ue.0) taken (ue_acts plain_way x input)
@@ -193,8 +193,8 @@ module _ (reading : Reading) where
 -- all that were put, in each state that a run reaches
 pub all_are_of : (reading : Reading) (events : List Event) (t : State (Message Token) Token (Written (Load Pdu)) (Written Pdu))
     → reached (plain_world reading) events new_state ≡ Some t
-    → AllByRecursion (λ (e : ℕ × Letter (Message Token)). IsLetterOf e.1) t.bag.letters
+    → AllByRecursion (λ (e : ℕ × ControlMessage (Message Token)). IsControlMessageOf e.1) t.bag.control_messages
 all_are_of reading events t is =
-    map_all (λ (e : ℕ × Letter (Message Token)). Names any e.1.from e.1.message × IsLetterOf e.1)
-    (λ (e : ℕ × Letter (Message Token)). IsLetterOf e.1) t.bag.letters
-    (λ e p. p.1) (plain_run_holds Joined joined_kept reading events t is).letters
+    map_all (λ (e : ℕ × ControlMessage (Message Token)). Names any e.1.from e.1.message × IsControlMessageOf e.1)
+    (λ (e : ℕ × ControlMessage (Message Token)). IsControlMessageOf e.1) t.bag.control_messages
+    (λ e p. p.1) (plain_run_holds Joined joined_kept reading events t is).control_messages

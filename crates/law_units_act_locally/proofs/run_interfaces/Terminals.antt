@@ -24,8 +24,8 @@ use Rattle.unit_defs.specs.Ways.{rrc, report_pdu, Content, packet_content, repor
 use Rattle.unit_defs.specs.Ue.{UeBearer, UeNode, last_epoch, largest_packet, is_connected, is_accessing, may_return, on_air, data_output, unconfirmed_outputs, number_each, number_waiting, connect_bearer, with_bearer, with_bearers, connect_each, connect, of_bearer, at_bearer, said, says_it, may_obey, obey, arrived, arrive, returned, return_to, come_back, accepted_in, accept, fail, used_uplink, offered, offer, delivered, took_data, took, take, confirmed_if, confirmed, confirm, told, told_by, ue_acts}
 use Rattle.run_defs.specs.Runs.{plain_way}
 use Rattle.law_requests_act_once.specs.channel.Moves.{sent_by}
-use Rattle.law_units_act_locally.specs.cp_interfaces.Ledgers.{Said, Answered, SentOf, Gives}
-use Rattle.law_units_act_locally.proofs.cp_interfaces.Kept.{either, after}
+use Rattle.law_units_act_locally.specs.cu_cp_interfaces.Ledgers.{Said, Answered, SentOf, Gives}
+use Rattle.law_units_act_locally.proofs.cu_cp_interfaces.Kept.{either, after}
 
 abbrev pub IsDu : Option NodeId → Type 0
 IsDu None = Unit {0}

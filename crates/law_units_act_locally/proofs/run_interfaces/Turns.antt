@@ -11,9 +11,9 @@ use Rattle.message_types.specs.declared.xn.CoreMessage.TheVariants as cores
 use Rattle.unit_defs.specs.Ways.{f1, e1, xn, core}
 use Rattle.unit_defs.specs.Messages.{is_same_gnb, shares_interface}
 use Rattle.law_requests_act_once.specs.channel.Replies.{answers}
-use Rattle.law_units_act_locally.specs.cp_interfaces.Interfaces.{Interface, f1_c, e1_c, xn_c, to_core, on_radio, interface_of, Joins, IsOf}
-use Rattle.law_units_act_locally.specs.cp_interfaces.Ledgers.{Said}
-use Rattle.law_units_act_locally.proofs.cp_interfaces.CuCps.{apart_back}
+use Rattle.law_units_act_locally.specs.cu_cp_interfaces.Interfaces.{Interface, f1_c, e1_c, xn_c, to_core, on_radio, interface_of, Joins, IsOf}
+use Rattle.law_units_act_locally.specs.cu_cp_interfaces.Ledgers.{Said}
+use Rattle.law_units_act_locally.proofs.cu_cp_interfaces.CuCps.{apart_back}
 
 turn_f1 : (from to : NodeId) → Joins f1_c from to → Joins f1_c to from
 turn_f1 (CuCp g) (Du h n) p = p

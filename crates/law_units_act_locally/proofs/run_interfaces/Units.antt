@@ -23,9 +23,9 @@ use Rattle.transaction_defs.specs.Callers.{close, due, Due, repeats, expires}
 use Rattle.unit_defs.specs.Ways.{f1, e1, core, rrc, uplink, packet, Pdu, Input, control_input, packet_input, radio_input, confirm_input, tick_input, order_input, gives, spent, ◌then◌, nothing, puts, drops}
 use Rattle.unit_defs.specs.Messages.{channel, is_same_gnb}
 use Rattle.unit_defs.specs.Transactions.{Kind, request, reply, transfer, kind_of, no_instance, ask, advance, replied}
-use Rattle.unit_defs.specs.Du.{Du, DuContext, du_node, context_of, with_transactions, asked, relayed_down, relay_down, relayed_up, relay_up, token_ue, transferred, of_terminal, set_up, of_cp, control_came, start, take, confirmed, pass_up, confirm, due_output, tick, du_acts}
-use Rattle.unit_defs.specs.UpRecords.{CuUp}
-use Rattle.unit_defs.specs.CuUp.{with_transactions as up_with, up_node, asked as up_asked, set_up as up_set_up, control_by, ue_in, is_own_cp, control_came as up_control, start as up_start, take as up_take, poll, due_output as up_due, tick as up_tick, cu_up_acts}
+use Rattle.unit_defs.specs.Du.{Du, DuContext, du_node, context_of, with_transactions, asked, relayed_down, relay_down, relayed_up, relay_up, token_ue, transferred, of_terminal, set_up, of_cu_cp, control_received, start, take, confirmed, pass_up, confirm, due_output, tick, du_acts}
+use Rattle.unit_defs.specs.CuUpRecords.{CuUp}
+use Rattle.unit_defs.specs.CuUp.{with_transactions as up_with, up_node, asked as up_asked, set_up as up_set_up, control_by, ue_in, is_own_cu_cp, control_received as up_control, start as up_start, take as up_take, poll, due_output as up_due, tick as up_tick, cu_up_acts}
 use Rattle.unit_defs.specs.Core.{CoreRecord, CorePath, end_of, old_ends, moved, asked as core_asked, came, core_acts, switch_path}
 use Rattle.run_defs.specs.Runs.{plain_way}
 use Rattle.law_requests_act_once.specs.channel.Replies.{answers, overtakes, Talk}
@@ -33,9 +33,9 @@ use Rattle.law_requests_act_once.specs.channel.Moves.{sent_by}
 use Rattle.law_requests_act_once.proofs.channel_rows.Requests.{Leaves, Replies}
 use Rattle.law_requests_act_once.proofs.channel_rows.Dus.{kept, asked_replies, take_leaves, context_leaves, confirmed_leaves}
 use Rattle.law_requests_act_once.proofs.channel_rows.CuUps.{kept as up_kept, asked_replies as up_replies, take_leaves as up_take_leaves, poll_leaves}
-use Rattle.law_units_act_locally.specs.cp_interfaces.Interfaces.{IsOf}
-use Rattle.law_units_act_locally.specs.cp_interfaces.Ledgers.{Said, Ledger, Answered, SentOf, Of, Keeps, Asks, Gives, GivenOf}
-use Rattle.law_units_act_locally.proofs.cp_interfaces.Kept.{either, after, closed_keeps, ask_gives, advance_gives, reply_keeps, replied_gives, request_taken, reply_taken, DueOf, due_are, ticked_keeps}
+use Rattle.law_units_act_locally.specs.cu_cp_interfaces.Interfaces.{IsOf}
+use Rattle.law_units_act_locally.specs.cu_cp_interfaces.Ledgers.{Said, Ledger, Answered, SentOf, Of, Keeps, Asks, Gives, GivenOf}
+use Rattle.law_units_act_locally.proofs.cu_cp_interfaces.Kept.{either, after, closed_keeps, ask_gives, advance_gives, reply_keeps, replied_gives, request_taken, reply_taken, DueOf, due_are, ticked_keeps}
 use Rattle.law_units_act_locally.proofs.run_interfaces.Turns.{back}
 
 -- messages are what they say
@@ -64,11 +64,11 @@ module _ {R : Type 0} (kept_of : R → Ledger) (node : NodeId) where
 -- ---- a DU
 
 module _ (g : Gnb) (n : ℕ) (r : Du Said Token) (own : r.gnb ≡ g) (p : Keeps (du_id g n) r.transactions) where
-  abbrev DuFine : Du Said Token → Type 0
-  DuFine s = Keeps (du_id g n) s.transactions
+  abbrev DuInvariant : Du Said Token → Type 0
+  DuInvariant s = Keeps (du_id g n) s.transactions
 
   abbrev DuDoes : Answered (Du Said Token) → Type 0
-  DuDoes a = Gives (du_id g n) DuFine a
+  DuDoes a = Gives (du_id g n) DuInvariant a
 
   leaves_does : (a : Answered (Du Said Token)) → Leaves talk (du_id g n) (kept talk (du_id g n)) r.transactions a → DuDoes a
   leaves_does a leaves = leaves_stay (kept talk (du_id g n)) (du_id g n) r.transactions a leaves p
@@ -96,27 +96,27 @@ module _ (g : Gnb) (n : ℕ) (r : Du Said Token) (own : r.gnb ≡ g) (p : Keeps 
   set_up_does : (ch : Channel) → DuDoes (set_up plain_way ch r)
   unfolding set_up
   set_up_does ch =
-      after (du_id g n) (Asks (du_id g n)) DuFine (advance plain_way (record r.transactions { caller = close r.transactions.caller ch }) ch)
+      after (du_id g n) (Asks (du_id g n)) DuInvariant (advance plain_way (record r.transactions { caller = close r.transactions.caller ch }) ch)
       (λ a. nothing (record r { is_set_up = true; transactions = a.transactions }))
       (advance_gives (du_id g n) (record r.transactions { caller = close r.transactions.caller ch }) ch
       (closed_keeps (du_id g n) r.transactions ch p))
       (λ a k. (k, tt))
 
-  of_cp_does : (from : NodeId) (m : Said) → IsOf from (du_id g n) m → (k : Kind) → kind_of m ≡ k → DuDoes (of_cp plain_way from m r k)
+  of_cp_does : (from : NodeId) (m : Said) → IsOf from (du_id g n) m → (k : Kind) → kind_of m ≡ k → DuDoes (of_cu_cp plain_way from m r k)
   of_cp_does from m is (request ue i) e =
-      request_taken (du_id g n) DuFine r r.transactions (channel ue from) i
+      request_taken (du_id g n) DuInvariant r r.transactions (channel ue from) i
       (λ t. asked plain_way (channel ue from) m (with_transactions r t)) p p
       (λ t k. replies_stay (kept talk (du_id g n)) (du_id g n) t (channel ue from) m i _
       (asked_replies talk (du_id g n) r t from m ue i e) is k)
   of_cp_does from m is (reply ue i) e =
-      reply_taken (du_id g n) DuFine r r.transactions (channel ue from) i (set_up plain_way (channel ue from) r) p
+      reply_taken (du_id g n) DuInvariant r r.transactions (channel ue from) i (set_up plain_way (channel ue from) r) p
       (set_up_does (channel ue from))
   of_cp_does from m is (transfer ue) e = transferred_does m
 
-  control_does : (from : NodeId) (m : Said) → IsOf from (du_id g n) m → DuDoes (control_came plain_way from m r)
-  unfolding control_came
+  control_does : (from : NodeId) (m : Said) → IsOf from (du_id g n) m → DuDoes (control_received plain_way from m r)
+  unfolding control_received
   control_does (CuCp h) m is =
-      either (du_id g n) DuFine (is_same_gnb h r.gnb) (of_cp plain_way (CuCp h) m r (kind_of m)) (drops Unexpected r)
+      either (du_id g n) DuInvariant (is_same_gnb h r.gnb) (of_cu_cp plain_way (CuCp h) m r (kind_of m)) (drops Unexpected r)
       (of_cp_does (CuCp h) m is (kind_of m) refl) (p, tt)
   control_does (Ue ue) m is = terminal_does ue m
   control_does from m is = (p, tt)
@@ -124,8 +124,8 @@ module _ (g : Gnb) (n : ℕ) (r : Du Said Token) (own : r.gnb ≡ g) (p : Keeps 
   start_does : DuDoes (start plain_way r)
   unfolding start
   start_does =
-      either (du_id g n) DuFine r.is_set_up (nothing r) _ (p, tt)
-      (after (du_id g n) (Asks (du_id g n)) DuFine (ask plain_way r.transactions (channel 0 (CuCp r.gnb))
+      either (du_id g n) DuInvariant r.is_set_up (nothing r) _ (p, tt)
+      (after (du_id g n) (Asks (du_id g n)) DuInvariant (ask plain_way r.transactions (channel 0 (CuCp r.gnb))
       (record { message = f1 (f1s.F1SetupRequest no_instance (node_text (du_node r))); deadline = None; awaited = false }))
       (λ a. nothing (with_transactions r a.transactions))
       (ask_gives (du_id g n) r.transactions (channel 0 (CuCp r.gnb))
@@ -158,11 +158,11 @@ module _ (g : Gnb) (n : ℕ) (r : Du Said Token) (own : r.gnb ≡ g) (p : Keeps 
 -- ---- a CU-UP
 
 module _ (g : Gnb) (n : ℕ) (r : CuUp Said Token) (own : r.gnb ≡ g) (p : Keeps (up_id g n) r.transactions) where
-  abbrev UpFine : CuUp Said Token → Type 0
-  UpFine s = Keeps (up_id g n) s.transactions
+  abbrev CuUpInvariant : CuUp Said Token → Type 0
+  CuUpInvariant s = Keeps (up_id g n) s.transactions
 
   abbrev UpDoes : Answered (CuUp Said Token) → Type 0
-  UpDoes a = Gives (up_id g n) UpFine a
+  UpDoes a = Gives (up_id g n) CuUpInvariant a
 
   up_leaves_does : (a : Answered (CuUp Said Token)) → Leaves talk (up_id g n) (up_kept talk (up_id g n)) r.transactions a → UpDoes a
   up_leaves_does a leaves = leaves_stay (up_kept talk (up_id g n)) (up_id g n) r.transactions a leaves p
@@ -170,7 +170,7 @@ module _ (g : Gnb) (n : ℕ) (r : CuUp Said Token) (own : r.gnb ≡ g) (p : Keep
   up_set_up_does : (ch : Channel) → UpDoes (up_set_up plain_way ch r)
   unfolding up_set_up
   up_set_up_does ch =
-      after (up_id g n) (Asks (up_id g n)) UpFine (advance plain_way (record r.transactions { caller = close r.transactions.caller ch }) ch)
+      after (up_id g n) (Asks (up_id g n)) CuUpInvariant (advance plain_way (record r.transactions { caller = close r.transactions.caller ch }) ch)
       (λ a. nothing (record r { is_set_up = true; transactions = a.transactions }))
       (advance_gives (up_id g n) (record r.transactions { caller = close r.transactions.caller ch }) ch
       (closed_keeps (up_id g n) r.transactions ch p))
@@ -179,26 +179,26 @@ module _ (g : Gnb) (n : ℕ) (r : CuUp Said Token) (own : r.gnb ≡ g) (p : Keep
   by_kind_does : (from : NodeId) (m : Said) → IsOf from (up_id g n) m → (k : Kind) → kind_of m ≡ k
       → UpDoes (control_by plain_way (channel (ue_in plain_way k) from) m r k)
   by_kind_does from m is (request ue i) e =
-      request_taken (up_id g n) UpFine r r.transactions (channel ue from) i (λ t. up_asked plain_way (channel ue from) m (up_with r t)) p p
+      request_taken (up_id g n) CuUpInvariant r r.transactions (channel ue from) i (λ t. up_asked plain_way (channel ue from) m (up_with r t)) p p
       (λ t k. replies_stay (up_kept talk (up_id g n)) (up_id g n) t (channel ue from) m i _
       (up_replies talk (up_id g n) r t from m ue i e) is k)
   by_kind_does from m is (reply ue i) e =
-      reply_taken (up_id g n) UpFine r r.transactions (channel ue from) i (up_set_up plain_way (channel ue from) r) p
+      reply_taken (up_id g n) CuUpInvariant r r.transactions (channel ue from) i (up_set_up plain_way (channel ue from) r) p
       (up_set_up_does (channel ue from))
   by_kind_does from m is (transfer ue) e = (p, tt)
 
   up_control_does : (from : NodeId) (m : Said) → IsOf from (up_id g n) m → UpDoes (up_control plain_way from m r)
   unfolding up_control
   up_control_does from m is =
-      either (up_id g n) UpFine (is_own_cp plain_way r.gnb from)
+      either (up_id g n) CuUpInvariant (is_own_cu_cp plain_way r.gnb from)
       (control_by plain_way (channel (ue_in plain_way (kind_of m)) from) m r (kind_of m)) (drops Unexpected r)
       (by_kind_does from m is (kind_of m) refl) (p, tt)
 
   up_start_does : UpDoes (up_start plain_way r)
   unfolding up_start
   up_start_does =
-      either (up_id g n) UpFine r.is_set_up (nothing r) _ (p, tt)
-      (after (up_id g n) (Asks (up_id g n)) UpFine (ask plain_way r.transactions (channel 0 (CuCp r.gnb))
+      either (up_id g n) CuUpInvariant r.is_set_up (nothing r) _ (p, tt)
+      (after (up_id g n) (Asks (up_id g n)) CuUpInvariant (ask plain_way r.transactions (channel 0 (CuCp r.gnb))
       (record { message = e1 (e1s.E1SetupRequest no_instance (node_text (up_node r))); deadline = None; awaited = false }))
       (λ a. nothing (up_with r a.transactions))
       (ask_gives (up_id g n) r.transactions (channel 0 (CuCp r.gnb))
@@ -227,11 +227,11 @@ module _ (g : Gnb) (n : ℕ) (r : CuUp Said Token) (own : r.gnb ≡ g) (p : Keep
 
 -- ---- the core
 
-abbrev CoreFine : CoreRecord Said Token → Type 0
-CoreFine s = Keeps Core s.transactions
+abbrev CoreInvariant : CoreRecord Said Token → Type 0
+CoreInvariant s = Keeps Core s.transactions
 
 abbrev CoreDoes : Answered (CoreRecord Said Token) → Type 0
-CoreDoes a = Gives Core CoreFine a
+CoreDoes a = Gives Core CoreInvariant a
 
 ends_sent : (ue : UeId) (up : NodeId) (ts : List Tunnel) → SentOf (sent_by Core (map (end_of plain_way ue up) ts))
 ends_sent ue up [] = tt
@@ -241,24 +241,24 @@ old_sent : (ue : UeId) (o : Option CorePath) → SentOf (sent_by Core (old_ends 
 old_sent ue None = tt
 old_sent ue (Some path) = ends_sent ue path.up path.n3
 
-core_asked_does : (h : Gnb) (ue : ℕ) (m : Said) (r : CoreRecord Said Token) → CoreFine r
+core_asked_does : (h : Gnb) (ue : ℕ) (m : Said) (r : CoreRecord Said Token) → CoreInvariant r
     → CoreDoes (core_asked plain_way (channel ue (CuCp h)) m r)
 unfolding switch_path
 core_asked_does h ue (core (cores.PathSwitchRequest owner instance peer paths)) r p =
-    after Core (Keeps Core) CoreFine (replied plain_way r.transactions (channel ue (CuCp h))
+    after Core (Keeps Core) CoreInvariant (replied plain_way r.transactions (channel ue (CuCp h))
     (core (cores.PathSwitchAcknowledge owner instance)))
     (λ t. moved plain_way owner peer paths (record r { transactions = t }))
     (replied_gives Core r.transactions (channel ue (CuCp h)) (core (cores.PathSwitchAcknowledge owner instance)) p tt)
     (λ t k. (k, old_sent owner (find ue_cmp r.paths owner)))
 core_asked_does h ue m r p = (p, tt)
 
-pub core_does : (r : CoreRecord Said Token) (from : NodeId) (m : Said) → CoreFine r → CoreDoes (core_acts plain_way r from m)
+pub core_does : (r : CoreRecord Said Token) (from : NodeId) (m : Said) → CoreInvariant r → CoreDoes (core_acts plain_way r from m)
 unfolding core_acts
 core_does r (CuCp h) m p = by (kind_of m)
   where
     by : (k : Kind) → CoreDoes (came plain_way (CuCp h) m r k)
     by (request ue i) =
-        request_taken Core CoreFine r r.transactions (channel ue (CuCp h)) i
+        request_taken Core CoreInvariant r r.transactions (channel ue (CuCp h)) i
         (λ t. core_asked plain_way (channel ue (CuCp h)) m (record r { transactions = t })) p p
         (λ t k. core_asked_does h ue m (record r { transactions = t }) k)
     by (reply ue i) = (p, tt)

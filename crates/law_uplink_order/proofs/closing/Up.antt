@@ -1,12 +1,12 @@
 -- Up: from what holds after every list of orders.
 use Rattle.std.proofs.Common.{◌≡◌, ℕ, Bool, true, false, not, ◌||◌, List, [], ◌∷◌, Option, Some, None, refl, ◌∙◌, sym}
-use Rattle.unit_defs.specs.UpRecords.{SourceHop}
-use Rattle.unit_defs.specs.UpBearers.{is_one_of, no_uplink}
+use Rattle.unit_defs.specs.CuUpRecords.{SourceHop}
+use Rattle.unit_defs.specs.CuUpBearers.{is_one_of, no_uplink}
 use Rattle.law_downlink_order.proofs.chain.Frames.{apart}
 use Rattle.law_downlink_order.proofs.chain.Runs.{stream, agrees}
-use Rattle.bearer_defs.specs.uplink_defs.Parts.{Part, start}
-use Rattle.bearer_defs.specs.uplink_defs.Orders.{Order, closes, is_hop_up_done, run, offers_in}
-use Rattle.bearer_defs.specs.uplink_defs.Guards.{IsReady, AreKept}
+use Rattle.bearer_defs.specs.uplink_defs.Models.{Model, initial}
+use Rattle.bearer_defs.specs.uplink_defs.Orders.{ModelStep, closes, is_hop_up_done, run, offers_in}
+use Rattle.bearer_defs.specs.uplink_defs.Assumptions.{IsReady, AreKept}
 use Rattle.law_uplink_order.proofs.facts.Items.{no_data-stands}
 use Rattle.law_uplink_order.proofs.facts.Facts.{is_ended, Kept, Good}
 use Rattle.law_uplink_order.proofs.uplink.Runs.{kept_run, good_start}
@@ -24,7 +24,7 @@ same_end : (o : Option SourceHop) → is_ended o ≡ has_ended_up o
 same_end None = refl
 same_end (Some hop) = refl
 
-module _ (p : ℕ → List ℕ) (s : Part) (done : ℕ) (k : (g : _) × Kept p s done g) where
+module _ (p : ℕ → List ℕ) (s : Model) (done : ℕ) (k : (g : _) × Kept p s done g) where
   pub ends_up : (x : ℕ) → (s.members x).is_there ≡ true → IsReady s (closes x) → EndsUp s x
   unfolding IsReady
   ends_up x there (released, closed, over) = record {
@@ -44,10 +44,10 @@ module _ (p : ℕ → List ℕ) (s : Part) (done : ℕ) (k : (g : _) × Kept p s
           let l = (k.1.links y x).link (is, frozen, leads) there in
           apart (done_up (s.members x).flags.target (s.members x).bearer.up_ended l.target over) (l.open_ e).0
 
-pub ends_after : (first teid : ℕ) (os : List Order) → AreKept (start first teid) os → (x : ℕ)
-    → ((run (start first teid) os).members x).is_there ≡ true → IsReady (run (start first teid) os) (closes x) → EndsUp (run (start first teid) os) x
-unfolding start
+pub ends_after : (first teid : ℕ) (os : List ModelStep) → AreKept (initial first teid) os → (x : ℕ)
+    → ((run (initial first teid) os).members x).is_there ≡ true → IsReady (run (initial first teid) os) (closes x) → EndsUp (run (initial first teid) os) x
+unfolding initial
 ends_after first teid os kept x there ready =
     let p : ℕ → List ℕ = stream (offers_in os) in
-    let good : Good p (run (start first teid) os) = kept_run p (start first teid) os (good_start p first teid) kept (agrees (offers_in os)) in
-    ends_up p (run (start first teid) os) good.0 (good.1, good.2) x there ready
+    let good : Good p (run (initial first teid) os) = kept_run p (initial first teid) os (good_start p first teid) kept (agrees (offers_in os)) in
+    ends_up p (run (initial first teid) os) good.0 (good.1, good.2) x there ready

@@ -6,13 +6,13 @@ use Rattle.std.specs.List.{AllByRecursion}
 use Rattle.gnb_types.specs.declared.plans.SnStatus.{SnStatus}
 use Rattle.intervals.proofs.Intervals.{all_append}
 use Rattle.tables.specs.Tables.{find}
-use Rattle.unit_defs.specs.UpBearers.{made, is_one_of, no_uplink, released}
-use Rattle.bearer_defs.specs.chain_defs.Parts.{set}
+use Rattle.unit_defs.specs.CuUpBearers.{made, is_one_of, no_uplink, released}
+use Rattle.bearer_defs.specs.chain_defs.Models.{set}
 use Rattle.bearer_defs.specs.chain_defs.Orders.{known}
 use Rattle.law_downlink_order.proofs.chain.Frames.{apart, set_here}
-use Rattle.bearer_defs.specs.uplink_defs.Parts.{Item, end_marker, Member, Part, new_member, no_member}
+use Rattle.bearer_defs.specs.uplink_defs.Models.{Item, end_marker, Member, Model, new_member, no_member}
 use Rattle.bearer_defs.specs.uplink_defs.Orders.{marks, makes, adds, knows, releases, closes, discards, is_hop_up_done, after}
-use Rattle.bearer_defs.specs.uplink_defs.Guards.{Feeds, IsUnfed}
+use Rattle.bearer_defs.specs.uplink_defs.Assumptions.{Feeds, IsUnfed}
 use Rattle.bearer_defs.specs.uplink_defs.Places.{Stands, IsAt}
 use Rattle.law_uplink_order.proofs.facts.Items.{IsRightItem, NoData, EndsLast, ends_last-end, no_data-stands, stands-left}
 use Rattle.law_uplink_order.proofs.facts.Receivers.{Rises}
@@ -34,7 +34,7 @@ still_open uplinks t teid one =
 pub not_done : (target up_ended : Bool) → target ≡ true → up_ended ≡ false → (not target || up_ended) ≡ true → ⊥
 not_done target up_ended t e h = true≢false (sym (rw (t, e) at h))
 
-module _ (p : ℕ → List ℕ) (s : Part) (d : ℕ) (g : ℕ → Ghost) (k : Kept p s d g) (x : ℕ) where
+module _ (p : ℕ → List ℕ) (s : Model) (d : ℕ) (g : ℕ → Ghost) (k : Kept p s d g) (x : ℕ) where
   abbrev m : Member
   m = s.members x
 

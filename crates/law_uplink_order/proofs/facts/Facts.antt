@@ -2,13 +2,13 @@
 -- stands on the way: on a tunnel of a context that the terminal was at, or stored where it is.
 use Rattle.std.specs.Prelude.{◌≡◌, ◌≢◌, ◌⊎◌, ℕ, ◌+◌, ◌<◌, ◌≤◌, Bool, true, false, List, [], ◌++◌, Option, Some, None}
 use Rattle.std.specs.List.{AllByRecursion}
-use Rattle.unit_defs.specs.UpRecords.{SourceHop}
-use Rattle.unit_defs.specs.UpBearers.{no_uplink}
+use Rattle.unit_defs.specs.CuUpRecords.{SourceHop}
+use Rattle.unit_defs.specs.CuUpBearers.{no_uplink}
 use Rattle.intervals.specs.Intervals.{upto, HasNoGap, reach}
 use Rattle.law_downlink_order.proofs.chain.Facts.{pairs}
-use Rattle.bearer_defs.specs.uplink_defs.Parts.{Item, Member, Part}
+use Rattle.bearer_defs.specs.uplink_defs.Models.{Item, Member, Model}
 use Rattle.bearer_defs.specs.uplink_defs.Orders.{is_hop_up_done}
-use Rattle.bearer_defs.specs.uplink_defs.Guards.{Feeds, NoEnd}
+use Rattle.bearer_defs.specs.uplink_defs.Assumptions.{Feeds, NoEnd}
 use Rattle.bearer_defs.specs.uplink_defs.Places.{has, Stands, IsAt}
 use Rattle.law_uplink_order.proofs.facts.Items.{IsRight, IsRightItem, NoData, EndsLast}
 use Rattle.law_uplink_order.proofs.facts.Receivers.{Rises}
@@ -18,13 +18,13 @@ pub record Ghost : Type 0 where
   pub rank : ℕ
   pub from : ℕ
 
--- of the part, what the facts of a context are about: how many packets were delivered, and were carried up
+-- of the model, what the facts of a context are about: how many packets were delivered, and were carried up
 pub record View : Type 0 where
   pub station : ℕ
   pub done : ℕ
   pub reached : ℕ
 
-abbrev pub view : Part → ℕ → View
+abbrev pub view : Model → ℕ → View
 view s done = record { station = s.station; done = done; reached = s.reached }
 
 -- the End Marker was put on the tunnel to the target
@@ -77,7 +77,7 @@ pub record IsStation (is_there is_released is_known : Bool) (deliv promised rank
 abbrev pub StationIs : ℕ → Member → ℕ → Type 0
 StationIs done m rank = IsStation m.is_there m.flags.released m.flags.may_serve m.bearer.receiver.deliv m.promised rank done
 
-pub record Fine (p : ℕ → List ℕ) (b : View) (q : ℕ) (m : Member) (rank : ℕ) : Type 0 where
+pub record MemberInvariant (p : ℕ → List ℕ) (b : View) (q : ℕ) (m : Member) (rank : ℕ) : Type 0 where
   pub own : m.is_there ≡ true → Own p b q m rank
   pub station : q ≡ b.station → StationIs b.done m rank
 
@@ -169,18 +169,18 @@ pub record Radio (p : ℕ → List ℕ) (reached next : ℕ) (is_connected : Boo
   pub packets : AllByRecursion (λ (e : ℕ × List ℕ). e.1 ≡ p e.0) air
   pub carried_are : AllByRecursion (λ (c : ℕ). c < reached) carried
 
-pub record Terminal (p : ℕ → List ℕ) (s : Part) (done : ℕ) : Type 0 where
+pub record Terminal (p : ℕ → List ℕ) (s : Model) (done : ℕ) : Type 0 where
   pub sends : Sends p s.reached s.terminal.sender.next s.offered s.terminal.sender.unconfirmed s.terminal.waiting
   pub radio : Radio p s.reached s.terminal.sender.next s.connected s.air s.carried
   pub delivered_are : s.delivered ≡ upto (pairs p) 0 done
   pub done_reached : done ≤ s.reached
 
-pub record Kept (p : ℕ → List ℕ) (s : Part) (done : ℕ) (g : ℕ → Ghost) : Type 0 where
-  pub each : (q : ℕ) → Fine p (view s done) q (s.members q) (g q).rank
+pub record Kept (p : ℕ → List ℕ) (s : Model) (done : ℕ) (g : ℕ → Ghost) : Type 0 where
+  pub each : (q : ℕ) → MemberInvariant p (view s done) q (s.members q) (g q).rank
   pub links : (x y : ℕ) → Linked (view s done) x (s.members x) (g x) y (s.members y) (g y)
   pub net : (i : ℕ) → i < s.reached → Beyond (view s done) s.members g 1 i
   pub passed : (q : ℕ) → Passed (view s done) s.members g q (s.members q) (g q).rank
   pub terminal : Terminal p s done
 
-abbrev pub Good : (ℕ → List ℕ) → Part → Type 0
+abbrev pub Good : (ℕ → List ℕ) → Model → Type 0
 Good p s = (done : ℕ) × (g : ℕ → Ghost) × Kept p s done g

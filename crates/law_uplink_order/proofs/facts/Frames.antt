@@ -1,12 +1,12 @@
 -- One context changes; all others stay, also while more is delivered and carried up.
 use Rattle.std.proofs.Common.{inl, inr, ◌≡◌, ◌≢◌, ◌⊎◌, ℕ, ◌+◌, ◌<◌, ◌≤◌, ◌==◌, nat_lt, Bool, true, false, List, refl, sym, subst, ◌∙◌, eqb-true, arith}
-use Rattle.bearer_defs.specs.chain_defs.Parts.{set}
+use Rattle.bearer_defs.specs.chain_defs.Models.{set}
 use Rattle.law_downlink_order.proofs.chain.Frames.{apart, same, set_here, set_far, put_each, put_pairs}
-use Rattle.bearer_defs.specs.uplink_defs.Parts.{Item, Member, Part}
-use Rattle.bearer_defs.specs.uplink_defs.Guards.{Feeds, IsUnfed}
+use Rattle.bearer_defs.specs.uplink_defs.Models.{Item, Member, Model}
+use Rattle.bearer_defs.specs.uplink_defs.Assumptions.{Feeds, IsUnfed}
 use Rattle.bearer_defs.specs.uplink_defs.Places.{has, IsAt}
 use Rattle.law_uplink_order.proofs.facts.Items.{right_later, items_later}
-use Rattle.law_uplink_order.proofs.facts.Facts.{Ghost, View, view, is_ended, Tunnels, Holds, Own, StationIs, Fine, into, Link, Linked, Ahead, Beyond, Passed, Sends, Radio, Terminal, Kept}
+use Rattle.law_uplink_order.proofs.facts.Facts.{Ghost, View, view, is_ended, Tunnels, Holds, Own, StationIs, MemberInvariant, into, Link, Linked, Ahead, Beyond, Passed, Sends, Radio, Terminal, Kept}
 
 pub either : (q x : ℕ) → (q ≡ x) ⊎ (q ≢ x)
 either q x = by (q == x) refl
@@ -48,7 +48,7 @@ module _ (station d e m n : ℕ) (more : d ≤ e) (on : m ≤ n) where
     unknown = h.unknown;
   }
 
-  pub fine_later : (p : ℕ → List ℕ) (q : ℕ) (c : Member) (rank : ℕ) → (q ≡ station → d ≡ e) → Fine p old q c rank → Fine p new q c rank
+  pub fine_later : (p : ℕ → List ℕ) (q : ℕ) (c : Member) (rank : ℕ) → (q ≡ station → d ≡ e) → MemberInvariant p old q c rank → MemberInvariant p new q c rank
   fine_later p q c rank agree f = record {
     own = λ there. (let o = f.own there in record {
       tunnels = tunnels_later p c.uplink c.forwarded _ o.tunnels;
@@ -102,15 +102,15 @@ module _ (station d e m n : ℕ) (more : d ≤ e) (on : m ≤ n) where
 
 -- ---- one context changes
 
-pub record Later (s t : Part) (d e x : ℕ) : Type 0 where
+pub record Later (s t : Model) (d e x : ℕ) : Type 0 where
   pub done : d ≤ e
   pub reached : s.reached ≤ t.reached
   pub others : (q : ℕ) → q ≢ x → q ≡ s.station → d ≡ e
 
-pub later_same : (s : Part) (d x : ℕ) → Later s s d d x
+pub later_same : (s : Model) (d x : ℕ) → Later s s d d x
 later_same s d x = record { done = omega arith; reached = omega arith; others = λ _ _ _. refl }
 
-module _ (p : ℕ → List ℕ) (s t : Part) (d e : ℕ) (g : ℕ → Ghost) (x : ℕ) (m : Member) where
+module _ (p : ℕ → List ℕ) (s t : Model) (d e : ℕ) (g : ℕ → Ghost) (x : ℕ) (m : Member) where
   abbrev now : View
   now = record { station = s.station; done = e; reached = t.reached }
 
@@ -118,7 +118,7 @@ module _ (p : ℕ → List ℕ) (s t : Part) (d e : ℕ) (g : ℕ → Ghost) (x 
   cs = set s.members x m
 
   pub kept_one : Kept p s d g → Later s t d e x
-      → Fine p now x m (g x).rank
+      → MemberInvariant p now x m (g x).rank
       → (Feeds m x → ⊥)
       → ((y : ℕ) → y ≢ x → Linked now x m (g x) y (s.members y) (g y))
       → ((z : ℕ) → z ≢ x → Linked now z (s.members z) (g z) x m (g x))
@@ -130,7 +130,7 @@ module _ (p : ℕ → List ℕ) (s t : Part) (d e : ℕ) (g : ℕ → Ghost) (x 
       → Kept p (record t { members = cs; station = s.station }) e g
   unfolding Passed
   kept_one k l here self from to moved passed new terminal = record {
-    each = put_one (λ q c. Fine p now q c (g q).rank) s.members x m here
+    each = put_one (λ q c. MemberInvariant p now q c (g q).rank) s.members x m here
         (λ q far. fine_later s.station d e s.reached t.reached l.done l.reached p q (s.members q) (g q).rank (l.others q far) (k.each q));
     links = put_pairs (λ q c _ r u _. Linked now q c (g q) r u (g r)) s.members s.members x m m
         (λ q r far _. linked_later s.station d e s.reached t.reached l.done l.reached q (s.members q) (g q) r (s.members r) (g r)
@@ -157,7 +157,7 @@ module _ (p : ℕ → List ℕ) (s t : Part) (d e : ℕ) (g : ℕ → Ghost) (x 
       net_by i below false h = new i (grind arith) below
 
 -- the rest changes, and no context
-pub kept_rest : (p : ℕ → List ℕ) (s t : Part) (d : ℕ) (g : ℕ → Ghost) → Kept p s d g → t.reached ≡ s.reached → Terminal p t d
+pub kept_rest : (p : ℕ → List ℕ) (s t : Model) (d : ℕ) (g : ℕ → Ghost) → Kept p s d g → t.reached ≡ s.reached → Terminal p t d
     → Kept p (record t { members = s.members; station = s.station; reached = s.reached }) d g
 kept_rest p s t d g k same_reached terminal = record {
   each = k.each;
@@ -175,7 +175,7 @@ kept_rest p s t d g k same_reached terminal = record {
 
 -- ---- what is known of a context changes, and nothing else: of one that isn't there, or who feeds it
 
-module _ (p : ℕ → List ℕ) (s : Part) (d : ℕ) (g : ℕ → Ghost) (y : ℕ) (h : Ghost)
+module _ (p : ℕ → List ℕ) (s : Model) (d : ℕ) (g : ℕ → Ghost) (y : ℕ) (h : Ghost)
     (agree : (s.members y).is_there ≡ true → h.rank ≡ (g y).rank) where
   rank_same : (q : ℕ) → (s.members q).is_there ≡ true → (set g y h q).rank ≡ (g q).rank
   rank_same q = put_one (λ r f. (s.members r).is_there ≡ true → f.rank ≡ (g r).rank) g y h agree (λ _ _ _. refl) q
@@ -188,7 +188,7 @@ module _ (p : ℕ → List ℕ) (s : Part) (d : ℕ) (g : ℕ → Ghost) (y : �
   pub kept_ghost : Kept p s d g → IsUnfed s y → Kept p s d (set g y h)
   unfolding Passed
   kept_ghost k unfed = record {
-    each = put_one (λ q f. Fine p (view s d) q (s.members q) f.rank) g y h
+    each = put_one (λ q f. MemberInvariant p (view s d) q (s.members q) f.rank) g y h
         (record {
           own = λ u. subst (λ n. Own p (view s d) y (s.members y) n) (sym (agree u)) ((k.each y).own u);
           station = λ is.

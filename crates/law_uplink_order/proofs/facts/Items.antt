@@ -5,8 +5,8 @@ use Rattle.std.specs.List.{AllByRecursion}
 use Rattle.std.specs.declared.cmp.Ordering.TheVariants.{Less, Equal, Greater}
 use Rattle.std.specs.Ordering.{nat_cmp, is_eq}
 use Rattle.tables.specs.Tables.{find}
-use Rattle.bearer_defs.specs.uplink_defs.Parts.{Item, numbered, end_marker}
-use Rattle.bearer_defs.specs.uplink_defs.Guards.{NoEnd}
+use Rattle.bearer_defs.specs.uplink_defs.Models.{Item, numbered, end_marker}
+use Rattle.bearer_defs.specs.uplink_defs.Assumptions.{NoEnd}
 use Rattle.bearer_defs.specs.uplink_defs.Places.{has, Stands}
 
 -- End Markers alone

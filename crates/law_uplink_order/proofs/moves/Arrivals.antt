@@ -3,14 +3,14 @@ use Rattle.std.proofs.Common.{inl, inr, ◌≡◌, ◌≢◌, ◌⊎◌, ℕ, �
 use Rattle.std.specs.List.{AllByRecursion}
 use Rattle.intervals.specs.Intervals.{HasNoGap, reach}
 use Rattle.intervals.proofs.Intervals.{all_append, reach-le}
-use Rattle.bearer_defs.specs.chain_defs.Parts.{set}
+use Rattle.bearer_defs.specs.chain_defs.Models.{set}
 use Rattle.law_downlink_order.proofs.chain.Frames.{set_here, set_far, put_pairs}
-use Rattle.bearer_defs.specs.uplink_defs.Parts.{Item, numbered, uplink_tunnel, Member, Part}
+use Rattle.bearer_defs.specs.uplink_defs.Models.{Item, numbered, uplink_tunnel, Member, Model}
 use Rattle.bearer_defs.specs.uplink_defs.Orders.{carries, arrives, after}
-use Rattle.bearer_defs.specs.uplink_defs.Guards.{IsOpen, Feeds, NoEnd}
+use Rattle.bearer_defs.specs.uplink_defs.Assumptions.{IsOpen, Feeds, NoEnd}
 use Rattle.bearer_defs.specs.uplink_defs.Places.{has, Stands, IsAt}
 use Rattle.law_uplink_order.proofs.facts.Items.{IsRightItem, EndsLast, ends_last-put, stands-left, stands-right, stands-first}
-use Rattle.law_uplink_order.proofs.facts.Facts.{Ghost, View, view, Own, StationIs, Fine, Link, into, out, Linked, Ahead, Beyond, Passed, Radio, Kept, Good}
+use Rattle.law_uplink_order.proofs.facts.Facts.{Ghost, View, view, Own, StationIs, MemberInvariant, Link, into, out, Linked, Ahead, Beyond, Passed, Radio, Kept, Good}
 use Rattle.law_uplink_order.proofs.facts.Frames.{either, put_one, tunnels_later, holds_later, kept_one, at_here}
 use Rattle.law_uplink_order.proofs.facts.Contexts.{feeds_not}
 use Rattle.law_uplink_order.proofs.moves.Terminals.{sends_on, no_air}
@@ -19,7 +19,7 @@ counts_later : (a b : ℕ) → a ≤ b → (cs : List ℕ) → AllByRecursion (�
 counts_later a b l [] h = tt
 counts_later a b l (c ∷ cs) h = ((let k = h.0 in omega arith), counts_later a b l cs h.1)
 
-module _ (p : ℕ → List ℕ) (s : Part) (d : ℕ) (g : ℕ → Ghost) (k : Kept p s d g) where
+module _ (p : ℕ → List ℕ) (s : Model) (d : ℕ) (g : ℕ → Ghost) (k : Kept p s d g) where
   abbrev m : Member
   m = s.members s.station
 
@@ -90,7 +90,7 @@ module _ (p : ℕ → List ℕ) (s : Part) (d : ℕ) (g : ℕ → Ghost) (k : Ke
       c : Member
       c = record m { uplink = set m.uplink teid (m.uplink teid ++ numbered count packet ∷ []) }
 
-      t : Part
+      t : Model
       t = record s { air = rest; carried = s.carried ++ count ∷ []; reached = max s.reached (count + 1) }
 
       more : s.reached ≤ max s.reached (count + 1)
@@ -140,7 +140,7 @@ module _ (p : ℕ → List ℕ) (s : Part) (d : ℕ) (g : ℕ → Ghost) (k : Ke
 
 -- ---- the terminal comes to the context that the one where it is sends on to
 
-module _ (p : ℕ → List ℕ) (s : Part) (d : ℕ) (g : ℕ → Ghost) (k : Kept p s d g) (y : ℕ) (feeds : Feeds (s.members s.station) y)
+module _ (p : ℕ → List ℕ) (s : Model) (d : ℕ) (g : ℕ → Ghost) (k : Kept p s d g) (y : ℕ) (feeds : Feeds (s.members s.station) y)
     (u : (s.members y).is_there ≡ true) where
   abbrev x : ℕ
   x = s.station
@@ -169,8 +169,8 @@ module _ (p : ℕ → List ℕ) (s : Part) (d : ℕ) (g : ℕ → Ghost) (k : Ke
   rank_here : (h y).rank ≡ (g s.station).rank + 1
   rank_here = ap (λ (f : Ghost). f.rank) (set_here g y (record (g y) { rank = (g s.station).rank + 1 }))
 
-  fine : (q : ℕ) → Fine p c q (s.members q) (h q).rank
-  fine = put_one (λ q f. Fine p c q (s.members q) f.rank) g y (record (g y) { rank = (g s.station).rank + 1 })
+  fine : (q : ℕ) → MemberInvariant p c q (s.members q) (h q).rank
+  fine = put_one (λ q f. MemberInvariant p c q (s.members q) f.rank) g y (record (g y) { rank = (g s.station).rank + 1 })
       (record {
         own = λ there. (let o = (k.each y).own there in record {
           tunnels = o.tunnels;

@@ -1,13 +1,13 @@
 -- A handover keeps all: the context that the terminal is at freezes, and the terminal comes to the next one.
 use Rattle.std.proofs.Common.{inl, inr, ◌≡◌, ◌≢◌, ℕ, zero, suc, ◌<◌, true, false, List, ◌++◌, refl, sym, subst, ◌∙◌, true≢false, arith}
 use Rattle.intervals.proofs.Intervals.{all_append}
-use Rattle.unit_defs.specs.UpRecords.{SourceHop}
-use Rattle.bearer_defs.specs.chain_defs.Parts.{set}
+use Rattle.unit_defs.specs.CuUpRecords.{SourceHop}
+use Rattle.bearer_defs.specs.chain_defs.Models.{set}
 use Rattle.bearer_defs.specs.chain_defs.Orders.{frozen}
 use Rattle.law_downlink_order.proofs.chain.Frames.{apart, set_here, set_far}
-use Rattle.bearer_defs.specs.uplink_defs.Parts.{Member, Part}
+use Rattle.bearer_defs.specs.uplink_defs.Models.{Member, Model}
 use Rattle.bearer_defs.specs.uplink_defs.Orders.{freezes, late, after}
-use Rattle.bearer_defs.specs.uplink_defs.Guards.{IsUnfed, IsUntouched, NoEnd}
+use Rattle.bearer_defs.specs.uplink_defs.Assumptions.{IsUnfed, IsUntouched, NoEnd}
 use Rattle.bearer_defs.specs.uplink_defs.Places.{has, Stands, IsAt}
 use Rattle.law_uplink_order.proofs.facts.Items.{IsRightItem, late_right, late_no_end, late_stands, no_end-ends_last, ends_last-put, no_end-put, stands-left, stands-right}
 use Rattle.law_uplink_order.proofs.facts.Facts.{Ghost, View, view, Own, StationIs, out, into, Link, Passed, Kept, Good}
@@ -34,7 +34,7 @@ pub record Awaits (x deliv : ℕ) (stored : List (ℕ × List ℕ)) (t : Member)
   pub promised : t.promised ≡ deliv
   pub forwarded : (j : ℕ) → has stored j ≡ true → Stands j t.forwarded
 
-module _ (p : ℕ → List ℕ) (s : Part) (d : ℕ) (g : ℕ → Ghost) (k : Kept p s d g) (x : ℕ) (is : x ≡ s.station) where
+module _ (p : ℕ → List ℕ) (s : Model) (d : ℕ) (g : ℕ → Ghost) (k : Kept p s d g) (x : ℕ) (is : x ≡ s.station) where
   abbrev source : Member
   source = s.members x
 
@@ -92,7 +92,7 @@ module _ (p : ℕ → List ℕ) (s : Part) (d : ℕ) (g : ℕ → Ghost) (k : Ke
       (λ i l o. absurd (let a = l in omega arith))
       k.terminal
 
-module _ (p : ℕ → List ℕ) (s : Part) (d : ℕ) (g : ℕ → Ghost) (k : Kept p s d g) (x : ℕ) (is : x ≡ s.station) where
+module _ (p : ℕ → List ℕ) (s : Model) (d : ℕ) (g : ℕ → Ghost) (k : Kept p s d g) (x : ℕ) (is : x ≡ s.station) where
   abbrev m : Member
   m = s.members x
 
@@ -179,7 +179,7 @@ module _ (p : ℕ → List ℕ) (s : Part) (d : ℕ) (g : ℕ → Ghost) (k : Ke
       far : y ≢ x
       far e = apart (subst (λ q. (s.members q).flags.may_serve ≡ true) (sym e) known) u.status
 
-      s1 : Part
+      s1 : Model
       s1 = record s { members = set s.members y (forwarded_to y) }
 
       here : set s.members y (forwarded_to y) x ≡ m

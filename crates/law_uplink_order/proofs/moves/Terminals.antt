@@ -8,7 +8,7 @@ use Rattle.intervals.proofs.Intervals.{all_append, all_filter, all_upto, upto-sn
 use Rattle.pdcp_defs.specs.Senders.{numbered as with_next, confirmed_to, confirmed_by, is_reported}
 use Rattle.law_downlink_order.proofs.chain.Facts.{pairs}
 use Rattle.law_downlink_order.proofs.chain.Frames.{apart}
-use Rattle.bearer_defs.specs.uplink_defs.Parts.{Part}
+use Rattle.bearer_defs.specs.uplink_defs.Models.{Model}
 use Rattle.bearer_defs.specs.uplink_defs.Orders.{offers, numbers, connects, leaves, acknowledges, reports, after}
 use Rattle.law_uplink_order.proofs.facts.Items.{IsRight, right_later}
 use Rattle.law_uplink_order.proofs.facts.Facts.{Ghost, Sends, Radio, Terminal, Kept, Good}
@@ -67,8 +67,8 @@ no_air p reached next is_connected l off = record {
   carried_are = tt;
 }
 
-module _ (p : ℕ → List ℕ) (s : Part) (d : ℕ) (g : ℕ → Ghost) (k : Kept p s d g) where
-  kept_terminal : (t : Part) → t.reached ≡ s.reached → Terminal p t d
+module _ (p : ℕ → List ℕ) (s : Model) (d : ℕ) (g : ℕ → Ghost) (k : Kept p s d g) where
+  kept_terminal : (t : Model) → t.reached ≡ s.reached → Terminal p t d
       → Good p (record t { members = s.members; station = s.station; reached = s.reached })
   kept_terminal t same terminal = (d, g, kept_rest p s t d g k same terminal)
 

@@ -1,13 +1,13 @@
 -- The End Markers of the uplink tunnels and of the hop keep all: nothing stands after one, and the one that goes on comes last.
 use Rattle.std.proofs.Common.{inl, inr, ◌≡◌, ◌≢◌, ◌⊎◌, ℕ, Bool, true, false, not, ◌&&◌, ◌||◌, ◌==◌, List, [], ◌∷◌, filter, cond, Option, Some, None, refl, sym, ap, subst, ◌∙◌, true≢false, eqb-true, arith}
 use Rattle.std.specs.List.{AllByRecursion}
-use Rattle.unit_defs.specs.UpRecords.{SourceHop}
-use Rattle.unit_defs.specs.UpBearers.{is_one_of, no_uplink}
-use Rattle.bearer_defs.specs.chain_defs.Parts.{set}
+use Rattle.unit_defs.specs.CuUpRecords.{SourceHop}
+use Rattle.unit_defs.specs.CuUpBearers.{is_one_of, no_uplink}
+use Rattle.bearer_defs.specs.chain_defs.Models.{set}
 use Rattle.law_downlink_order.proofs.chain.Frames.{apart, set_here, set_far}
-use Rattle.bearer_defs.specs.uplink_defs.Parts.{Item, end_marker, uplink_tunnel, forwarding, Member, Part}
+use Rattle.bearer_defs.specs.uplink_defs.Models.{Item, end_marker, uplink_tunnel, forwarding, Member, Model}
 use Rattle.bearer_defs.specs.uplink_defs.Orders.{ends_uplink, ends_hop, is_up_over, ended_if, ended_at, put_on, passed, after}
-use Rattle.bearer_defs.specs.uplink_defs.Guards.{IsTaken, NoEnd}
+use Rattle.bearer_defs.specs.uplink_defs.Assumptions.{IsTaken, NoEnd}
 use Rattle.bearer_defs.specs.uplink_defs.Places.{Stands, IsOnTunnel, IsAt}
 use Rattle.law_uplink_order.proofs.facts.Items.{IsRightItem, NoData, EndsLast, no_data-put, no_data-stands, no_data-ends_last, ends_last-end, rest_no_data, rest_right, end_is_there, stands-end}
 use Rattle.law_uplink_order.proofs.facts.Facts.{Ghost, View, view, is_ended, Tunnels, Own, Passed, Kept, Good}
@@ -33,7 +33,7 @@ none_after : (uplinks : List ℕ) (teid : ℕ) → no_uplink uplinks ≡ true �
 none_after [] teid h = h
 none_after (u ∷ us) teid h = absurd (true≢false (sym h))
 
-module _ (p : ℕ → List ℕ) (s : Part) (d : ℕ) (g : ℕ → Ghost) (k : Kept p s d g) (x : ℕ) where
+module _ (p : ℕ → List ℕ) (s : Model) (d : ℕ) (g : ℕ → Ghost) (k : Kept p s d g) (x : ℕ) where
   abbrev m : Member
   m = s.members x
 
@@ -113,7 +113,7 @@ module _ (p : ℕ → List ℕ) (s : Part) (d : ℕ) (g : ℕ → Ghost) (k : Ke
       more i (there, inr h) = (there, inr h)
 
 -- the End Marker goes on, after all else
-module _ (p : ℕ → List ℕ) (s : Part) (d : ℕ) (g : ℕ → Ghost) (k : Kept p s d g) (x : ℕ) where
+module _ (p : ℕ → List ℕ) (s : Model) (d : ℕ) (g : ℕ → Ghost) (k : Kept p s d g) (x : ℕ) where
   put_end : (s.members x).is_there ≡ true → (s.members x).flags.frozen ≡ true → is_ended (s.members x).bearer.hop ≡ true
       → Kept p (put_on s (s.members x).next_hop (end_marker ∷ [])) d g
   put_end there frozen ended = kept_put p s d g k (s.members x).next_hop (end_marker ∷ []) (tt, tt)
@@ -124,7 +124,7 @@ module _ (p : ℕ → List ℕ) (s : Part) (d : ℕ) (g : ℕ → Ghost) (k : Ke
       ∙ ((k.links z (s.members x).next_hop).link f u).from) ended) ∙ e)))
 
 -- both, where all has ended
-module _ (p : ℕ → List ℕ) (s : Part) (d : ℕ) (g : ℕ → Ghost) (k : Kept p s d g) (x : ℕ) (uplink : ℕ → List Item) (forwarded : List Item)
+module _ (p : ℕ → List ℕ) (s : Model) (d : ℕ) (g : ℕ → Ghost) (k : Kept p s d g) (x : ℕ) (uplink : ℕ → List Item) (forwarded : List Item)
     (uplinks : List ℕ) (up_ended : Bool) where
   abbrev now : Option SourceHop → Member
   now hop = closer p s d g k x uplink forwarded uplinks up_ended hop
@@ -178,7 +178,7 @@ module _ (p : ℕ → List ℕ) (s : Part) (d : ℕ) (g : ℕ → Ghost) (k : Ke
       by None is c = (d, g, kept_closer p s d g k x uplink forwarded uplinks up_ended None c)
       by (Some hop) is c = if_over hop is c (is_up_over (now (Some hop)) hop) refl
 
-module _ (p : ℕ → List ℕ) (s : Part) (d : ℕ) (g : ℕ → Ghost) (k : Kept p s d g) (x : ℕ) where
+module _ (p : ℕ → List ℕ) (s : Model) (d : ℕ) (g : ℕ → Ghost) (k : Kept p s d g) (x : ℕ) where
   abbrev c : Member
   c = s.members x
 

@@ -7,13 +7,13 @@ use Rattle.tables.specs.Tables.{put}
 use Rattle.intervals.specs.Intervals.{upto}
 use Rattle.intervals.proofs.Intervals.{upto-join}
 use Rattle.pdcp_defs.specs.Receivers.{Receiver, Delivery, is_duplicate, stored, deliver, deliver_from}
-use Rattle.unit_defs.specs.UpBearers.{thawed, no_uplink}
-use Rattle.bearer_defs.specs.chain_defs.Parts.{set}
+use Rattle.unit_defs.specs.CuUpBearers.{thawed, no_uplink}
+use Rattle.bearer_defs.specs.chain_defs.Models.{set}
 use Rattle.law_downlink_order.proofs.chain.Facts.{pairs}
 use Rattle.law_downlink_order.proofs.chain.Frames.{apart}
-use Rattle.bearer_defs.specs.uplink_defs.Parts.{Item, numbered, Source, uplink_tunnel, forwarding, Member, Part, items_at, forwarded_left, with_rest}
+use Rattle.bearer_defs.specs.uplink_defs.Models.{Item, numbered, Source, uplink_tunnel, forwarding, Member, Model, items_at, forwarded_left, with_rest}
 use Rattle.bearer_defs.specs.uplink_defs.Orders.{switches, resumes, stores, is_hop_up_done, handed, after}
-use Rattle.bearer_defs.specs.uplink_defs.Guards.{IsTaken, NoEnd}
+use Rattle.bearer_defs.specs.uplink_defs.Assumptions.{IsTaken, NoEnd}
 use Rattle.bearer_defs.specs.uplink_defs.Places.{has, IsOnTunnel, IsAt}
 use Rattle.law_uplink_order.proofs.facts.Items.{IsRight, rest_no_end}
 use Rattle.law_uplink_order.proofs.facts.Receivers.{Rises, rises_less, rises_put, right_put, has_more, has_new, is_new, hands}
@@ -72,7 +72,7 @@ hands_up p reached done delivered promised r below are rises right false is none
       },
     )
 
-module _ (p : ℕ → List ℕ) (s : Part) (d : ℕ) (g : ℕ → Ghost) (k : Kept p s d g) (x : ℕ) (is : x ≡ s.station) where
+module _ (p : ℕ → List ℕ) (s : Model) (d : ℕ) (g : ℕ → Ghost) (k : Kept p s d g) (x : ℕ) (is : x ≡ s.station) where
   abbrev m : Member
   m = s.members x
 
@@ -169,7 +169,7 @@ module _ (p : ℕ → List ℕ) (s : Part) (d : ℕ) (g : ℕ → Ghost) (k : Ke
       h : Delivers p s.reached d s.delivered c.flags.may_serve c.promised c.bearer.receiver.stored (deliver c.bearer.receiver) both.0
       h = both.1
 
-      t : Part
+      t : Model
       t = record s { delivered = s.delivered ++ (deliver c.bearer.receiver).packets }
 
       after_it : Member

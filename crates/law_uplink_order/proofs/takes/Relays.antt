@@ -3,11 +3,11 @@ use Rattle.std.proofs.Common.{inl, inr, ◌≡◌, ◌≢◌, ◌⊎◌, ℕ, �
 use Rattle.std.specs.Ordering.{nat_cmp}
 use Rattle.tables.specs.Tables.{put}
 use Rattle.pdcp_defs.specs.Receivers.{is_duplicate, stored}
-use Rattle.bearer_defs.specs.chain_defs.Parts.{set}
+use Rattle.bearer_defs.specs.chain_defs.Models.{set}
 use Rattle.law_downlink_order.proofs.chain.Frames.{apart, set_here, set_far}
-use Rattle.bearer_defs.specs.uplink_defs.Parts.{Item, numbered, Source, Member, Part, with_rest}
+use Rattle.bearer_defs.specs.uplink_defs.Models.{Item, numbered, Source, Member, Model, with_rest}
 use Rattle.bearer_defs.specs.uplink_defs.Orders.{stores, is_hop_up_done, put_on, passed}
-use Rattle.bearer_defs.specs.uplink_defs.Guards.{IsTaken, Feeds, NoEnd}
+use Rattle.bearer_defs.specs.uplink_defs.Assumptions.{IsTaken, Feeds, NoEnd}
 use Rattle.bearer_defs.specs.uplink_defs.Places.{has, Stands}
 use Rattle.law_uplink_order.proofs.facts.Items.{EndsLast, ends_last-put, no_end-put, stands-left, stands-right, stands-first}
 use Rattle.law_uplink_order.proofs.facts.Receivers.{rises_put, right_put, has_more, has_new, has_either, is_new}
@@ -35,7 +35,7 @@ put_first : (f : ℕ → Member) (x : ℕ) (a : Member) (y : ℕ) (items : List 
 put_first f x a y items far =
     sym (ap (λ c. set (set f x a) y (with_more c items)) (set_far f x a y far) ∙ set_swap f x a y (with_more (f y) items) far)
 
-module _ (p : ℕ → List ℕ) (s : Part) (d : ℕ) (g : ℕ → Ghost) (k : Kept p s d g) (x : ℕ) (from : Source) (count : ℕ) (packet : List ℕ)
+module _ (p : ℕ → List ℕ) (s : Model) (d : ℕ) (g : ℕ → Ghost) (k : Kept p s d g) (x : ℕ) (from : Source) (count : ℕ) (packet : List ℕ)
     (rest : List Item) (taken : IsTaken (s.members x) from (numbered count packet) rest) (frozen : (s.members x).flags.frozen ≡ true) where
   abbrev m : Member
   m = s.members x
@@ -52,7 +52,7 @@ module _ (p : ℕ → List ℕ) (s : Part) (d : ℕ) (g : ℕ → Ghost) (k : Ke
   abbrev items : List Item
   items = numbered count packet ∷ []
 
-  abbrev s1 : Part
+  abbrev s1 : Model
   s1 = put_on s m.next_hop items
 
   o : Own p b x m (g x).rank

@@ -4,13 +4,13 @@ use Rattle.std.proofs.Common.{inl, inr, ◌≡◌, ◌≢◌, ◌⊎◌, ℕ, �
 use Rattle.std.specs.List.{AllByRecursion}
 use Rattle.intervals.proofs.Intervals.{all_append}
 use Rattle.gnb_types.specs.declared.reasons.HeldReason.TheVariants.{NoStatus, NotArrived, Early}
-use Rattle.unit_defs.specs.UpBearers.{no_uplink}
-use Rattle.unit_defs.specs.UpItems.{first_held, held_as_target}
-use Rattle.bearer_defs.specs.chain_defs.Parts.{set}
+use Rattle.unit_defs.specs.CuUpBearers.{no_uplink}
+use Rattle.unit_defs.specs.CuUpItems.{first_held, held_as_target}
+use Rattle.bearer_defs.specs.chain_defs.Models.{set}
 use Rattle.law_downlink_order.proofs.chain.Frames.{apart}
-use Rattle.bearer_defs.specs.uplink_defs.Parts.{Item, numbered, Source, uplink_tunnel, forwarding, Member, Part, items_at, standing, uplink_left, forwarded_left, with_rest}
+use Rattle.bearer_defs.specs.uplink_defs.Models.{Item, numbered, Source, uplink_tunnel, forwarding, Member, Model, items_at, standing, uplink_left, forwarded_left, with_rest}
 use Rattle.bearer_defs.specs.uplink_defs.Orders.{is_hop_up_done, changed, put_on}
-use Rattle.bearer_defs.specs.uplink_defs.Guards.{IsOpen, IsTaken, Feeds, NoEnd, kind_of}
+use Rattle.bearer_defs.specs.uplink_defs.Assumptions.{IsOpen, IsTaken, Feeds, NoEnd, kind_of}
 use Rattle.bearer_defs.specs.uplink_defs.Places.{has, Stands, IsOnTunnel, IsAt}
 use Rattle.law_uplink_order.proofs.facts.Items.{IsRightItem, NoData, EndsLast, rest_ends_last, rest_no_end, data_is_there, first_right, stands-left, stands-one}
 use Rattle.law_uplink_order.proofs.facts.Facts.{Ghost, View, view, is_ended, Tunnels, Holds, Own, Beyond, Passed, Kept}
@@ -22,7 +22,7 @@ use Rattle.law_uplink_order.proofs.facts.Contexts.{feeds_not, stays, none_open}
 abbrev pub with_more : Member → List Item → Member
 with_more t items = record t { forwarded = t.forwarded ++ items }
 
-module _ (p : ℕ → List ℕ) (s : Part) (d : ℕ) (g : ℕ → Ghost) (k : Kept p s d g) (y : ℕ) (items : List Item) where
+module _ (p : ℕ → List ℕ) (s : Model) (d : ℕ) (g : ℕ → Ghost) (k : Kept p s d g) (y : ℕ) (items : List Item) where
   abbrev t : Member
   t = s.members y
 
@@ -162,7 +162,7 @@ abbrev pub left : Source → List Item → Member → List (ℕ × List ℕ) →
 left from rest c es =
     record (with_rest c from rest) { bearer = record c.bearer { receiver = record c.bearer.receiver { stored = es } } }
 
-module _ (p : ℕ → List ℕ) (s : Part) (d : ℕ) (g : ℕ → Ghost) (k : Kept p s d g) (x : ℕ) (from : Source) (count : ℕ) (packet : List ℕ)
+module _ (p : ℕ → List ℕ) (s : Model) (d : ℕ) (g : ℕ → Ghost) (k : Kept p s d g) (x : ℕ) (from : Source) (count : ℕ) (packet : List ℕ)
     (rest : List Item) where
   abbrev m : Member
   m = s.members x

@@ -14,9 +14,9 @@ use Rattle.law_downlink_order.proofs.chain.Facts.{pairs}
 use Rattle.law_downlink_order.proofs.chain.Frames.{apart}
 use Rattle.law_downlink_order.proofs.chain.Runs.{stream, agrees}
 use Rattle.law_downlink_order.proofs.chain.Laws.{stream_at, first_ones}
-use Rattle.bearer_defs.specs.uplink_defs.Parts.{Item, numbered, end_marker, Part, start}
-use Rattle.bearer_defs.specs.uplink_defs.Orders.{Order, run, offers_in}
-use Rattle.bearer_defs.specs.uplink_defs.Guards.{AreKept}
+use Rattle.bearer_defs.specs.uplink_defs.Models.{Item, numbered, end_marker, Model, initial}
+use Rattle.bearer_defs.specs.uplink_defs.Orders.{ModelStep, run, offers_in}
+use Rattle.bearer_defs.specs.uplink_defs.Assumptions.{AreKept}
 use Rattle.bearer_defs.specs.uplink_defs.Places.{has, IsAt}
 use Rattle.law_uplink_order.specs.uplink.Words.{DeliversInOrder, IsItemInPlace, CountsArePlaces, IsUnderWay, LosesNone, IsQuiet, HasDeliveredAll}
 use Rattle.law_uplink_order.proofs.facts.Items.{IsRight, IsRightItem, stands-none}
@@ -55,23 +55,23 @@ has_upto : (p : ℕ → List ℕ) (i a b : ℕ) → a ≤ i → i < b → has (u
 unfolding upto
 has_upto p i a b l o = has_segment p i a (b - a) l (omega arith)
 
-module _ (x teid : ℕ) (os : List Order) (kept : AreKept (start x teid) os) where
+module _ (x teid : ℕ) (os : List ModelStep) (kept : AreKept (initial x teid) os) where
   p : ℕ → List ℕ
   p = stream (offers_in os)
 
-  s : Part
-  s = run (start x teid) os
+  s : Model
+  s = run (initial x teid) os
 
   good : Good p s
-  unfolding start p s
-  good = kept_run p (start x teid) os (good_start p x teid) kept (agrees (offers_in os))
+  unfolding initial p s
+  good = kept_run p (initial x teid) os (good_start p x teid) kept (agrees (offers_in os))
 
   k : Kept p s good.0 good.1
   k = good.2
 
   offered : s.offered ≡ length (offers_in os)
-  unfolding start s
-  offered = all_offered (start x teid) os ∙ omega arith
+  unfolding initial s
+  offered = all_offered (initial x teid) os ∙ omega arith
 
   few : good.0 ≤ length (offers_in os)
   few =
@@ -90,7 +90,7 @@ module _ (x teid : ℕ) (os : List Order) (kept : AreKept (start x teid) os) whe
       let same : good.0 - 0 ≡ good.0 = omega arith in
       k.terminal.delivered_are ∙ ap (segment (pairs p) 0) same ∙ first_ones p (offers_in os) 0 good.0 from few
 
-  pub delivers_in_order : DeliversInOrder (offers_in os) (run (start x teid) os)
+  pub delivers_in_order : DeliversInOrder (offers_in os) (run (initial x teid) os)
   unfolding DeliversInOrder s
   delivers_in_order = first_delivered ∙ ap (λ n. enumerate_from 0 (take n (offers_in os))) (sym as_many)
 
@@ -122,7 +122,7 @@ module _ (x teid : ℕ) (os : List Order) (kept : AreKept (start x teid) os) whe
       let below : e.0 < s.offered = (let a = reach-le (max n (e.0 + 1)) es in omega arith) in
       (in_place e.0 below ∙ ap (λ y. Some y) (sym h.0), air_places (max n (e.0 + 1)) es h.1 l)
 
-  pub counts_are_places : CountsArePlaces (offers_in os) (run (start x teid) os)
+  pub counts_are_places : CountsArePlaces (offers_in os) (run (initial x teid) os)
   unfolding s
   counts_are_places = record {
     unconfirmed =
@@ -141,7 +141,7 @@ module _ (x teid : ℕ) (os : List Order) (kept : AreKept (start x teid) os) whe
 
   -- ---- none is lost
 
-  pub loses_none : LosesNone (run (start x teid) os)
+  pub loses_none : LosesNone (run (initial x teid) os)
   unfolding LosesNone IsUnderWay Beyond s
   loses_none i below none = by (nat_lt i s.reached) refl
     where
@@ -211,7 +211,7 @@ module _ (x teid : ℕ) (os : List Order) (kept : AreKept (start x teid) os) whe
       by true t = absurd (next_one (k.net good.0 (grind arith)))
       by false t = grind arith
 
-  pub delivers_all : IsQuiet (run (start x teid) os) → HasDeliveredAll (offers_in os) (run (start x teid) os)
+  pub delivers_all : IsQuiet (run (initial x teid) os) → HasDeliveredAll (offers_in os) (run (initial x teid) os)
   unfolding HasDeliveredAll s
   delivers_all quiet =
       let a = all_done quiet in

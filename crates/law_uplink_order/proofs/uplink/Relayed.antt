@@ -3,12 +3,12 @@ use Rattle.std.proofs.Common.{◌≡◌, ◌≢◌, ℕ, ◌<◌, ◌≤◌, ◌
 use Rattle.tables.specs.Tables.{find, put}
 use Rattle.pdcp_defs.specs.Senders.{numbered as with_next, confirmed_to, confirmed_by, is_set, is_reported}
 use Rattle.pdcp_defs.specs.Receivers.{is_duplicate, stored, deliver}
-use Rattle.unit_defs.specs.UpBearers.{made}
+use Rattle.unit_defs.specs.CuUpBearers.{made}
 use Rattle.law_downlink_order.specs.chain.Relay.{a, b, c, d}
 use Rattle.law_downlink_order.proofs.chain.Frames.{same, apart}
-use Rattle.bearer_defs.specs.uplink_defs.Parts.{Member, start}
-use Rattle.bearer_defs.specs.uplink_defs.Orders.{Order, after, run}
-use Rattle.bearer_defs.specs.uplink_defs.Guards.{Feeds, IsUnfed, NoEnd, IsReady, IsOwed, AreKept}
+use Rattle.bearer_defs.specs.uplink_defs.Models.{Member, initial}
+use Rattle.bearer_defs.specs.uplink_defs.Orders.{ModelStep, after, run}
+use Rattle.bearer_defs.specs.uplink_defs.Assumptions.{Feeds, IsUnfed, NoEnd, IsReady, IsAssumed, AreKept}
 use Rattle.law_uplink_order.specs.uplink.Relay.{relay, cancelled}
 
 -- ---- nobody sends on to a context
@@ -35,8 +35,8 @@ idle_if false m n y h k = k
 apart_numbers : (a b : ℕ) → (a == b) ≡ false → a ≢ b
 apart_numbers a b h e = apart (same a b e) h
 
-unfed : (orders : List Order) (n y : ℕ) → ((x : ℕ) → Idle ((run (start 1 10) (take n orders)).members x) y)
-    → IsUnfed (run (start 1 10) (take n orders)) y
+unfed : (orders : List ModelStep) (n y : ℕ) → ((x : ℕ) → Idle ((run (initial 1 10) (take n orders)).members x) y)
+    → IsUnfed (run (initial 1 10) (take n orders)) y
 unfed orders n y h x f = (h x).no_hop f
 
 -- ---- a report without bits
@@ -52,8 +52,8 @@ reported fmc reached l i h = by (nat_lt i fmc) (nat_lt fmc i) refl h
     by false true t h = absurd (true≢false (sym h))
     by false false t h = absurd (true≢false (sym h))
 
-pub relay_kept : AreKept (start 1 10) relay
-unfolding relay start run AreKept IsReady IsOwed after made
+pub relay_kept : AreKept (initial 1 10) relay
+unfolding relay initial run AreKept IsReady IsAssumed after made
     with_next confirmed_to confirmed_by is_duplicate stored deliver find put NoEnd feeds
 relay_kept =
     -- offers a
@@ -395,12 +395,12 @@ relay_kept =
       ),
     )
 
-pub relay_delivers : (run (start 1 10) relay).delivered ≡ (0, a) ∷ (1, b) ∷ (2, c) ∷ (3, d) ∷ []
-unfolding relay start run after made with_next confirmed_to confirmed_by is_duplicate stored deliver find put
+pub relay_delivers : (run (initial 1 10) relay).delivered ≡ (0, a) ∷ (1, b) ∷ (2, c) ∷ (3, d) ∷ []
+unfolding relay initial run after made with_next confirmed_to confirmed_by is_duplicate stored deliver find put
 relay_delivers = refl
 
-pub cancelled_kept : AreKept (start 1 10) cancelled
-unfolding cancelled start run AreKept IsReady IsOwed after made
+pub cancelled_kept : AreKept (initial 1 10) cancelled
+unfolding cancelled initial run AreKept IsReady IsAssumed after made
     with_next confirmed_to confirmed_by is_duplicate stored deliver find put NoEnd feeds
 cancelled_kept =
     -- offers a
@@ -506,6 +506,6 @@ cancelled_kept =
       ),
     )
 
-pub cancelled_delivers : (run (start 1 10) cancelled).delivered ≡ (0, a) ∷ (1, b) ∷ []
-unfolding cancelled start run after made with_next confirmed_to confirmed_by is_duplicate stored deliver find put
+pub cancelled_delivers : (run (initial 1 10) cancelled).delivered ≡ (0, a) ∷ (1, b) ∷ []
+unfolding cancelled initial run after made with_next confirmed_to confirmed_by is_duplicate stored deliver find put
 cancelled_delivers = refl

@@ -4,10 +4,10 @@ use Rattle.std.specs.Prelude.{replicate}
 use Rattle.std.specs.List.{AllByRecursion}
 use Rattle.pdcp_defs.specs.Senders.{is_set, is_reported}
 use Rattle.pdcp_defs.specs.Receivers.{bits_from, received_bits, is_duplicate}
-use Rattle.unit_defs.specs.UpRecords.{SourceHop}
-use Rattle.bearer_defs.specs.uplink_defs.Parts.{uplink_tunnel, forwarding, Member, Part, start, with_rest}
-use Rattle.bearer_defs.specs.uplink_defs.Orders.{Order, carries, takes, ends_uplink, ends_hop, after, run, stored_at, new_at, late_at, taken_at, ended_if, ended_at, is_up_over, without_uplink, offers_in}
-use Rattle.bearer_defs.specs.uplink_defs.Guards.{AreKept}
+use Rattle.unit_defs.specs.CuUpRecords.{SourceHop}
+use Rattle.bearer_defs.specs.uplink_defs.Models.{uplink_tunnel, forwarding, Member, Model, initial, with_rest}
+use Rattle.bearer_defs.specs.uplink_defs.Orders.{ModelStep, carries, takes, ends_uplink, ends_hop, after, run, stored_at, new_at, late_at, taken_at, ended_if, ended_at, is_up_over, without_uplink, offers_in}
+use Rattle.bearer_defs.specs.uplink_defs.Assumptions.{AreKept}
 use Rattle.law_downlink_order.proofs.chain.Runs.{stream, agrees}
 use Rattle.law_uplink_order.specs.uplink.Words.{Reports}
 use Rattle.law_uplink_order.proofs.facts.Items.{IsRight}
@@ -51,7 +51,7 @@ reported_below fmc reached bits l k i h = by (nat_lt i fmc) (nat_lt fmc i) refl 
 
 -- ---- what was carried up stays so
 
-module _ (s : Part) (x : ℕ) (m : Member) where
+module _ (s : Model) (x : ℕ) (m : Member) where
   ended_reached : (hop : Option SourceHop) → (ended_at s x m hop).reached ≡ s.reached
   ended_reached None = refl
   ended_reached (Some hop) = by (is_up_over m hop)
@@ -79,7 +79,7 @@ module _ (s : Part) (x : ℕ) (m : Member) where
 same_or_more : (a b : ℕ) → b ≡ a → a ≤ b
 same_or_more a b e = omega arith
 
-grows : (s : Part) (o : Order) → s.reached ≤ (after s o).reached
+grows : (s : Model) (o : ModelStep) → s.reached ≤ (after s o).reached
 unfolding after
 grows s (carries teid count packet rest) = omega arith
 grows s (takes x from count packet rest) = same_or_more s.reached (after s (takes x from count packet rest)).reached
@@ -93,12 +93,12 @@ grows s (ends_hop x rest) =
     (ended_reached s x (record m { bearer = record m.bearer { up_ended = true } }) m.bearer.hop)
 grows s o = omega arith
 
-run_grows : (s : Part) (os : List Order) → s.reached ≤ (run s os).reached
+run_grows : (s : Model) (os : List ModelStep) → s.reached ≤ (run s os).reached
 unfolding run
 run_grows s [] = omega arith
 run_grows s (o ∷ os) = let l = grows s o in let k = run_grows (after s o) os in omega arith
 
-reports_now : (p : ℕ → List ℕ) (s : Part) → Good p s → (i : ℕ) → Reports s i → i < s.reached
+reports_now : (p : ℕ → List ℕ) (s : Model) → Good p s → (i : ℕ) → Reports s i → i < s.reached
 unfolding Reports received_bits
 reports_now p s (d, g, k) i said =
     let m : Member = s.members s.station in
@@ -109,11 +109,11 @@ reports_now p s (d, g, k) i said =
     reported_below m.bearer.receiver.deliv s.reached (bits_from (m.bearer.receiver.deliv + 1) m.bearer.receiver.stored) (omega arith)
     (bits_below p s.reached (m.bearer.receiver.deliv + 1) m.bearer.receiver.stored o.holds.right) i said.1
 
-pub reports_carried : (x teid : ℕ) (os more : List Order) (i : ℕ) → AreKept (start x teid) os → Reports (run (start x teid) os) i
-    → i < (run (run (start x teid) os) more).reached
-unfolding start
+pub reports_carried : (x teid : ℕ) (os more : List ModelStep) (i : ℕ) → AreKept (initial x teid) os → Reports (run (initial x teid) os) i
+    → i < (run (run (initial x teid) os) more).reached
+unfolding initial
 reports_carried x teid os more i kept said =
     let p : ℕ → List ℕ = stream (offers_in os) in
-    let good = kept_run p (start x teid) os (good_start p x teid) kept (agrees (offers_in os)) in
-    let l = reports_now p (run (start x teid) os) good i said in
-    let k = run_grows (run (start x teid) os) more in omega arith
+    let good = kept_run p (initial x teid) os (good_start p x teid) kept (agrees (offers_in os)) in
+    let l = reports_now p (run (initial x teid) os) good i said in
+    let k = run_grows (run (initial x teid) os) more in omega arith

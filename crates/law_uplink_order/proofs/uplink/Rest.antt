@@ -4,20 +4,20 @@ use Rattle.std.specs.Prelude.{⊤}
 use Rattle.tables.specs.Tables.{find, put}
 use Rattle.pdcp_defs.specs.Senders.{numbered as with_next, confirmed_to, confirmed_by}
 use Rattle.pdcp_defs.specs.Receivers.{is_duplicate, stored, deliver}
-use Rattle.unit_defs.specs.UpRecords.{SourceHop}
-use Rattle.unit_defs.specs.UpBearers.{made, released, thawed, is_one_of}
-use Rattle.bearer_defs.specs.chain_defs.Parts.{set}
+use Rattle.unit_defs.specs.CuUpRecords.{SourceHop}
+use Rattle.unit_defs.specs.CuUpBearers.{made, released, thawed, is_one_of}
+use Rattle.bearer_defs.specs.chain_defs.Models.{set}
 use Rattle.bearer_defs.specs.chain_defs.Orders.{frozen, known}
 use Rattle.law_downlink_order.proofs.chain.Frames.{apart}
-use Rattle.bearer_defs.specs.uplink_defs.Parts.{Item, numbered, end_marker, Member, Part, start, new_member, no_member, uplink_tunnel, forwarding, with_rest}
-use Rattle.bearer_defs.specs.uplink_defs.Orders.{Order, carries, marks, makes, adds, freezes, knows, switches, resumes, releases, closes, discards, takes, ends_uplink, ends_hop, late, stores, without_uplink, passed, stored_at, new_at, late_at, taken_at, is_up_over, with_ended, ended_if, ended_at, after, run}
-use Rattle.bearer_defs.specs.uplink_defs.Guards.{IsOpen}
+use Rattle.bearer_defs.specs.uplink_defs.Models.{Item, numbered, end_marker, Member, Model, initial, new_member, no_member, uplink_tunnel, forwarding, with_rest}
+use Rattle.bearer_defs.specs.uplink_defs.Orders.{ModelStep, carries, marks, makes, adds, freezes, knows, switches, resumes, releases, closes, discards, takes, ends_uplink, ends_hop, late, stores, without_uplink, passed, stored_at, new_at, late_at, taken_at, is_up_over, with_ended, ended_if, ended_at, after, run}
+use Rattle.bearer_defs.specs.uplink_defs.Assumptions.{IsOpen}
 use Rattle.law_uplink_order.specs.uplink.Relay.{relay}
 use Rattle.law_uplink_order.specs.uplink.Words.{IsQuiet}
 
 -- ---- a context that no order makes is never there
 
-unfoldable NotMade : ℕ → List Order → Type 0
+unfoldable NotMade : ℕ → List ModelStep → Type 0
 NotMade q [] = ⊤
 NotMade q (makes x teid ∷ os) = ((q == x) ≡ false) × NotMade q os
 NotMade q (o ∷ os) = NotMade q os
@@ -31,7 +31,7 @@ same_there f k m x e = by (x == k) refl
     by false at = refl
 
 module _ (q : ℕ) where
-  abbrev Gone : Part → Type 0
+  abbrev Gone : Model → Type 0
   Gone s = (s.members q).is_there ≡ false
 
   keeps : (f : ℕ → Member) (k : ℕ) (m : Member) → m.is_there ≡ (f k).is_there → (f q).is_there ≡ false → (set f k m q).is_there ≡ false
@@ -42,13 +42,13 @@ module _ (q : ℕ) where
   set_away f k m true e h = e refl
   set_away f k m false e h = h
 
-  passes : (s : Part) (x : ℕ) (m : Member) (items : List Item) → m.is_there ≡ (s.members x).is_there → Gone s → Gone (passed s x m items)
+  passes : (s : Model) (x : ℕ) (m : Member) (items : List Item) → m.is_there ≡ (s.members x).is_there → Gone s → Gone (passed s x m items)
   passes s x m items e h =
       let f = set s.members x m in
       let t = f m.next_hop in
       keeps f m.next_hop (record t { forwarded = t.forwarded ++ items }) refl (keeps s.members x m e h)
 
-  module _ (s : Part) (x : ℕ) (h : Gone s) where
+  module _ (s : Model) (x : ℕ) (h : Gone s) where
     module _ (m : Member) (e : m.is_there ≡ (s.members x).is_there) where
       ended_if_by : (hop : SourceHop) (t : Bool) → Gone (ended_if s x m hop t)
       ended_if_by hop true = passes s x (with_ended m hop) (end_marker ∷ []) e h
@@ -77,7 +77,7 @@ module _ (q : ℕ) where
         taken_by true = late_by (nat_lt count m.bearer.receiver.deliv)
         taken_by false = new_by (is_duplicate m.bearer.receiver count)
 
-  stays_gone : (s : Part) (o : Order) (os : List Order) → Gone s → NotMade q (o ∷ os) → Gone (after s o) × NotMade q os
+  stays_gone : (s : Model) (o : ModelStep) (os : List ModelStep) → Gone s → NotMade q (o ∷ os) → Gone (after s o) × NotMade q os
   unfolding after NotMade
   stays_gone s (carries teid count packet rest) os h n =
       let m = s.members s.station in
@@ -137,15 +137,15 @@ module _ (q : ℕ) where
       (ended_by s x h (record m { bearer = record m.bearer { up_ended = true } }) refl m.bearer.hop, n)
   stays_gone s _ os h n = (h, n)
 
-  never_there : (s : Part) (os : List Order) → Gone s → NotMade q os → Gone (run s os)
+  never_there : (s : Model) (os : List ModelStep) → Gone s → NotMade q os → Gone (run s os)
   unfolding run
   never_there s [] h n = h
   never_there s (o ∷ os) h n = let e = stays_gone s o os h n in never_there (after s o) os e.0 e.1
 
 -- ---- the worked run
 
-abbrev at_rest : Part
-at_rest = run (start 1 10) relay
+abbrev at_rest : Model
+at_rest = run (initial 1 10) relay
 
 -- nothing stands at a context
 record Empty (m : Member) : Type 0 where
@@ -166,24 +166,24 @@ empty_one m k uplinks none none_forwarded = record {
   forwarded = λ there. none_forwarded;
 }
 
-start_gone : (q : ℕ) → (q == 1) ≡ false → ((start 1 10).members q).is_there ≡ false
-unfolding start
+start_gone : (q : ℕ) → (q == 1) ≡ false → ((initial 1 10).members q).is_there ≡ false
+unfolding initial
 start_gone q one = set_away q (λ x. no_member) 1 (new_member false 10) (q == 1) (λ at. absurd (true≢false (sym at ∙ one))) refl
 
 others : (q : ℕ) → (q == 1) ≡ false → (q == 2) ≡ false → (q == 3) ≡ false → (at_rest.members q).is_there ≡ false
 unfolding relay NotMade
-others q one two three = never_there q (start 1 10) relay (start_gone q one) (two, (three, tt))
+others q one two three = never_there q (initial 1 10) relay (start_gone q one) (two, (three, tt))
 
 first : (at_rest.members 1).is_there ≡ false
-unfolding relay start run after made with_next confirmed_to confirmed_by is_duplicate stored deliver find put
+unfolding relay initial run after made with_next confirmed_to confirmed_by is_duplicate stored deliver find put
 first = refl
 
 second : (at_rest.members 2).is_there ≡ false
-unfolding relay start run after made with_next confirmed_to confirmed_by is_duplicate stored deliver find put
+unfolding relay initial run after made with_next confirmed_to confirmed_by is_duplicate stored deliver find put
 second = refl
 
 third : Empty (at_rest.members 3)
-unfolding relay start run after made with_next confirmed_to confirmed_by is_duplicate stored deliver find put
+unfolding relay initial run after made with_next confirmed_to confirmed_by is_duplicate stored deliver find put
 third = empty_one (at_rest.members 3) 31 refl refl refl
 
 each : (q : ℕ) → Empty (at_rest.members q)
@@ -199,18 +199,18 @@ each q = by (q == 1) (q == 2) (q == 3) refl refl refl
     by false false false e f g = empty_gone (at_rest.members q) (others q e f g)
 
 unconfirmed : at_rest.terminal.sender.unconfirmed ≡ []
-unfolding relay start run after made with_next confirmed_to confirmed_by is_duplicate stored deliver find put
+unfolding relay initial run after made with_next confirmed_to confirmed_by is_duplicate stored deliver find put
 unconfirmed = refl
 
 waiting : at_rest.terminal.waiting ≡ []
-unfolding relay start run after made with_next confirmed_to confirmed_by is_duplicate stored deliver find put
+unfolding relay initial run after made with_next confirmed_to confirmed_by is_duplicate stored deliver find put
 waiting = refl
 
 serves : (at_rest.members at_rest.station).flags.frozen ≡ false
-unfolding relay start run after made with_next confirmed_to confirmed_by is_duplicate stored deliver find put
+unfolding relay initial run after made with_next confirmed_to confirmed_by is_duplicate stored deliver find put
 serves = refl
 
-pub relay_rests : IsQuiet (run (start 1 10) relay)
+pub relay_rests : IsQuiet (run (initial 1 10) relay)
 relay_rests = record {
   uplink = λ q teid there open_. (each q).uplink teid there open_;
   forwarded = λ q there. (each q).forwarded there;

@@ -3,17 +3,17 @@ use Rattle.std.proofs.Common.{◌≡◌, ℕ, ◌+◌, ◌<◌, Bool, true, fals
 use Rattle.std.specs.Prelude.{⊤}
 use Rattle.intervals.specs.Intervals.{segment, upto, HasNoGap, reach}
 use Rattle.pdcp_defs.specs.Receivers.{is_duplicate}
-use Rattle.unit_defs.specs.UpRecords.{SourceHop}
-use Rattle.unit_defs.specs.UpBearers.{made}
-use Rattle.bearer_defs.specs.chain_defs.Parts.{set}
+use Rattle.unit_defs.specs.CuUpRecords.{SourceHop}
+use Rattle.unit_defs.specs.CuUpBearers.{made}
+use Rattle.bearer_defs.specs.chain_defs.Models.{set}
 use Rattle.law_downlink_order.proofs.chain.Frames.{apart}
 use Rattle.law_downlink_order.proofs.chain.Runs.{Agrees}
-use Rattle.bearer_defs.specs.uplink_defs.Parts.{Item, numbered, Source, forwarding, uplink_tunnel, Member, Part, start, new_member, no_member, with_rest}
-use Rattle.bearer_defs.specs.uplink_defs.Orders.{Order, offers, numbers, connects, leaves, arrives, carries, acknowledges, reports, marks, makes, adds, freezes, knows, switches, resumes, releases, closes, discards, takes, ends_uplink, ends_hop, after, stored_at, new_at, late_at, taken_at, ended_if, ended_at, is_up_over, without_uplink, run, offers_in}
-use Rattle.bearer_defs.specs.uplink_defs.Guards.{IsTaken, IsReady, IsOwed, AreKept}
+use Rattle.bearer_defs.specs.uplink_defs.Models.{Item, numbered, Source, forwarding, uplink_tunnel, Member, Model, initial, new_member, no_member, with_rest}
+use Rattle.bearer_defs.specs.uplink_defs.Orders.{ModelStep, offers, numbers, connects, leaves, arrives, carries, acknowledges, reports, marks, makes, adds, freezes, knows, switches, resumes, releases, closes, discards, takes, ends_uplink, ends_hop, after, stored_at, new_at, late_at, taken_at, ended_if, ended_at, is_up_over, without_uplink, run, offers_in}
+use Rattle.bearer_defs.specs.uplink_defs.Assumptions.{IsTaken, IsReady, IsAssumed, AreKept}
 use Rattle.law_uplink_order.proofs.facts.Items.{NoData, EndsLast}
 use Rattle.law_uplink_order.proofs.facts.Receivers.{Rises, is_old}
-use Rattle.law_uplink_order.proofs.facts.Facts.{Ghost, view, Fine, Passed, Kept, Good}
+use Rattle.law_uplink_order.proofs.facts.Facts.{Ghost, view, MemberInvariant, Passed, Kept, Good}
 use Rattle.law_uplink_order.proofs.facts.Frames.{either, put_one}
 use Rattle.law_uplink_order.proofs.moves.Terminals.{kept_offers, kept_numbers, kept_connects, kept_leaves, kept_acknowledges, kept_reports}
 use Rattle.law_uplink_order.proofs.facts.Contexts.{kept_marks, kept_makes, kept_adds, kept_knows, kept_releases, kept_closes, kept_discards}
@@ -24,11 +24,11 @@ use Rattle.law_uplink_order.proofs.moves.Moves.{kept_freezes}
 use Rattle.law_uplink_order.proofs.moves.Arrivals.{kept_carries, kept_arrives}
 use Rattle.law_uplink_order.proofs.takes.Ends.{kept_ends_uplink, kept_ends_hop}
 
-OfferIs : (ℕ → List ℕ) → Part → Order → Type 0
+OfferIs : (ℕ → List ℕ) → Model → ModelStep → Type 0
 OfferIs p s (offers packet) = packet ≡ p s.offered
 OfferIs p s o = ⊤
 
-module _ (p : ℕ → List ℕ) (s : Part) (d : ℕ) (g : ℕ → Ghost) (k : Kept p s d g) where
+module _ (p : ℕ → List ℕ) (s : Model) (d : ℕ) (g : ℕ → Ghost) (k : Kept p s d g) where
   -- ---- a packet is taken, by what the context is
 
   module _ (x : ℕ) (from : Source) (count : ℕ) (packet : List ℕ) (rest : List Item)
@@ -75,8 +75,8 @@ module _ (p : ℕ → List ℕ) (s : Part) (d : ℕ) (g : ℕ → Ghost) (k : Ke
 
   -- ---- each order
 
-  kept_order : (o : Order) → IsReady s o → IsOwed s o → OfferIs p s o → Good p (after s o)
-  unfolding IsReady IsOwed OfferIs
+  kept_order : (o : ModelStep) → IsReady s o → IsAssumed s o → OfferIs p s o → Good p (after s o)
+  unfolding IsReady IsAssumed OfferIs
   kept_order (offers packet) r w is = kept_offers p s d g k packet is
   kept_order (numbers packet rest) r w is = kept_numbers p s d g k packet rest r.0 r.1
   kept_order connects r w is = kept_connects p s d g k
@@ -102,7 +102,7 @@ module _ (p : ℕ → List ℕ) (s : Part) (d : ℕ) (g : ℕ → Ghost) (k : Ke
 -- ---- lists of orders
 
 -- no order but an offer changes what was offered
-module _ (s : Part) (x : ℕ) (m : Member) where
+module _ (s : Model) (x : ℕ) (m : Member) where
   ended_same : (hop : Option SourceHop) → (ended_at s x m hop).offered ≡ s.offered
   ended_same None = refl
   ended_same (Some hop) = by (is_up_over m hop)
@@ -127,11 +127,11 @@ module _ (s : Part) (x : ℕ) (m : Member) where
       by true = refl
       by false = stored_by m.flags.frozen
 
-Counts : Part → Order → ℕ → Type 0
+Counts : Model → ModelStep → ℕ → Type 0
 Counts s (offers packet) n = n ≡ s.offered + 1
 Counts s o n = n ≡ s.offered
 
-counts : (s : Part) (o : Order) → Counts s o (after s o).offered
+counts : (s : Model) (o : ModelStep) → Counts s o (after s o).offered
 unfolding after Counts
 counts s (offers packet) = refl
 counts s (takes x from count packet rest) =
@@ -143,24 +143,24 @@ counts s (ends_hop x rest) =
     ended_same s x (record m { bearer = record m.bearer { up_ended = true } }) m.bearer.hop
 counts s o = refl
 
-offers_after : (p : ℕ → List ℕ) (s : Part) (o : Order) (os : List Order) (n : ℕ) → Counts s o n → Agrees p s.offered (offers_in (o ∷ os))
+offers_after : (p : ℕ → List ℕ) (s : Model) (o : ModelStep) (os : List ModelStep) (n : ℕ) → Counts s o n → Agrees p s.offered (offers_in (o ∷ os))
     → OfferIs p s o × Agrees p n (offers_in os)
 unfolding offers_in Agrees OfferIs Counts
 offers_after p s (offers packet) os n e h = (h.0, subst (λ m. Agrees p m (offers_in os)) (sym e) h.1)
 offers_after p s o os n e h = (tt, subst (λ m. Agrees p m (offers_in os)) (sym e) h)
 
-counts_after : (s : Part) (o : Order) (os : List Order) (n : ℕ) → Counts s o n
+counts_after : (s : Model) (o : ModelStep) (os : List ModelStep) (n : ℕ) → Counts s o n
     → n + length (offers_in os) ≡ s.offered + length (offers_in (o ∷ os))
 unfolding offers_in Counts
 counts_after s (offers packet) os n e = omega arith
 counts_after s o os n e = ap (λ m. m + length (offers_in os)) e
 
-pub all_offered : (s : Part) (os : List Order) → (run s os).offered ≡ s.offered + length (offers_in os)
+pub all_offered : (s : Model) (os : List ModelStep) → (run s os).offered ≡ s.offered + length (offers_in os)
 unfolding run offers_in
 all_offered s [] = omega arith
 all_offered s (o ∷ os) = all_offered (after s o) os ∙ counts_after s o os (after s o).offered (counts s o)
 
-pub kept_run : (p : ℕ → List ℕ) (s : Part) (os : List Order) → Good p s → AreKept s os → Agrees p s.offered (offers_in os)
+pub kept_run : (p : ℕ → List ℕ) (s : Model) (os : List ModelStep) → Good p s → AreKept s os → Agrees p s.offered (offers_in os)
     → Good p (run s os)
 unfolding run AreKept
 kept_run p s [] k w h = k
@@ -170,13 +170,13 @@ kept_run p s (o ∷ os) k w h =
 
 -- ---- the start
 
-pub good_start : (p : ℕ → List ℕ) (x teid : ℕ) → Good p (start x teid)
-unfolding start made HasNoGap reach upto segment Rises EndsLast NoData Passed
+pub good_start : (p : ℕ → List ℕ) (x teid : ℕ) → Good p (initial x teid)
+unfolding initial made HasNoGap reach upto segment Rises EndsLast NoData Passed
 good_start p x teid = (
   0,
   (λ _. record { rank = 1; from = 0 }),
   record {
-    each = put_one (λ q m. Fine p (view (start x teid) 0) q m 1) (λ _. no_member) x (new_member false teid)
+    each = put_one (λ q m. MemberInvariant p (view (initial x teid) 0) q m 1) (λ _. no_member) x (new_member false teid)
         (record {
           own = λ _. record {
             tunnels = record { uplink_right = λ _. tt; uplink_last = λ _. tt; right = tt; last = tt; over = λ _. tt };

@@ -2,14 +2,14 @@
 use Rattle.std.specs.Prelude.{ℕ, List, [], ◌∷◌, None}
 use Rattle.gnb_types.specs.declared.plans.SnStatus.{SnStatus}
 use Rattle.law_downlink_order.specs.chain.Relay.{a, b, c, d, hop_to}
-use Rattle.bearer_defs.specs.uplink_defs.Parts.{numbered, end_marker, uplink_tunnel, forwarding}
-use Rattle.bearer_defs.specs.uplink_defs.Orders.{Order, offers, numbers, connects, leaves, arrives, carries, acknowledges, reports, marks, makes, adds, freezes, knows, switches, resumes, releases, closes, discards, takes, ends_uplink, ends_hop}
+use Rattle.bearer_defs.specs.uplink_defs.Models.{numbered, end_marker, uplink_tunnel, forwarding}
+use Rattle.bearer_defs.specs.uplink_defs.Orders.{ModelStep, offers, numbers, connects, leaves, arrives, carries, acknowledges, reports, marks, makes, adds, freezes, knows, switches, resumes, releases, closes, discards, takes, ends_uplink, ends_hop}
 
 abbrev pub first_is : ℕ → SnStatus
 first_is count = record { bearer = record { 0 = 1 }; dl_next = 0; ul_first = count; ul_received = None }
 
 -- the second handover begins before the first hop is done; each context ends once all has come
-unfoldable pub relay : List Order
+unfoldable pub relay : List ModelStep
 relay =
     -- three packets at the first context, one of them delivered and confirmed, one on its tunnel, one on the radio
     offers a ∷ numbers a [] ∷ offers b ∷ numbers b [] ∷ offers c ∷ numbers c [] ∷ carries 11 0 a ((1, b) ∷ (2, c) ∷ [])
@@ -32,7 +32,7 @@ relay =
     ∷ []
 
 -- the source goes on, and delivers what came meanwhile
-unfoldable pub cancelled : List Order
+unfoldable pub cancelled : List ModelStep
 cancelled =
     -- a packet comes while its context is frozen: it is stored, and forwarded
     offers a ∷ numbers a [] ∷ offers b ∷ numbers b [] ∷ carries 11 0 a ((1, b) ∷ []) ∷ makes 2 20 ∷ freezes 1 2 (hop_to 2 22)

@@ -7,20 +7,20 @@ use Rattle.pdcp_defs.specs.Counts.{near_count, count_below}
 use Rattle.pdcp_defs.specs.Receivers.{is_duplicate, is_ahead, stored, deliver, received_bits}
 use Rattle.pdcp_defs.specs.Senders.{first, has_room, numbered, may_restore, restored, confirmed_to, confirmed_by}
 use Rattle.unit_defs.specs.Core.{switch_path, core_acts}
-use Rattle.unit_defs.specs.CpRecords.{say_one, say_all, carry_out}
-use Rattle.unit_defs.specs.CpRows.{attach, attach_has_tunnels, attach_is_placed, attach_fails, move_begins, move_has_uplinks, move_is_placed, handover_begins, handover, handover_is_acknowledged, handover_is_declined, handover_expires, handover_is_frozen, handover_is_not_frozen, command, cancel, release, handed_over, offer, offer_has_tunnels, offer_is_declined, offer_is_placed, status, xn_cancelled, xn_released, place_is_renewed, is_switched, path_is_switched, completes, completes_again, returns as returns_2, arrives, arrives_again}
-use Rattle.unit_defs.specs.CuCp.{answer, reply_came, token_came, control_came, tick, cu_cp_acts}
-use Rattle.unit_defs.specs.CuUp.{ended, end_where_over, makes, fits, setup, add_uplinks, switch, freeze, take_status, resume, release as release_2, start, set_up, control_came as control_came_2, take, poll, tick as tick_2, cu_up_acts}
-use Rattle.unit_defs.specs.Du.{replaces, setup as setup_2, modify, release as release_3, relay_down, relay_up, start as start_2, set_up as set_up_2, control_came as control_came_3, take as take_2, pass_up, confirm, tick as tick_3, du_acts}
-use Rattle.unit_defs.specs.Static.{up_placed, du_placed, cp_placed}
+use Rattle.unit_defs.specs.CuCpRecords.{act_one, act_all, carry_out}
+use Rattle.unit_defs.specs.CuCpRows.{attach, attach_has_tunnels, attach_is_placed, attach_fails, move_begins, move_has_uplinks, move_is_placed, handover_begins, handover, handover_is_acknowledged, handover_is_declined, handover_expires, handover_is_frozen, handover_is_not_frozen, command, cancel, release, handed_over, offer, offer_has_tunnels, offer_is_declined, offer_is_placed, status, xn_cancelled, xn_released, place_is_renewed, is_switched, path_is_switched, completes, completes_again, returns as returns_2, arrives, arrives_again}
+use Rattle.unit_defs.specs.CuCp.{answer, reply_received, token_received, control_received, tick, cu_cp_acts}
+use Rattle.unit_defs.specs.CuUp.{ended, end_where_over, makes, fits, setup, add_uplinks, switch, freeze, take_status, resume, release as release_2, start, set_up, control_received as control_came_2, take, poll, tick as tick_2, cu_up_acts}
+use Rattle.unit_defs.specs.Du.{replaces, setup as setup_2, modify, release as release_3, relay_down, relay_up, start as start_2, set_up as set_up_2, control_received as control_came_3, take as take_2, pass_up, confirm, tick as tick_3, du_acts}
+use Rattle.unit_defs.specs.Static.{cu_up_placed, du_placed, cu_cp_placed}
 use Rattle.unit_defs.specs.Transactions.{kind_of, with_instance, waits_at, with_waiting, terminal_rests, begin_request, ask, advance, ask_at_once, replied, replied_late, on_request, on_reply}
 use Rattle.unit_defs.specs.Ue.{new_ue, placed, number_each, number_waiting, connect_bearer, obey, arrive, come_back, accept, fail, offer as offer_2, take as take_3, confirm as confirm_2, ue_acts}
-use Rattle.unit_defs.specs.UpBearers.{made, framed, sent, sent_again, number_each as number_each_2, number_waiting as number_waiting_2, deliver_stored, forwarded_down, forwarded_up, with_uplink, begin_downlink, switched, frozen_to, with_status, resumed}
-use Rattle.unit_defs.specs.UpItems.{held_reason, took_fresh, took_numbered, took_uplink, took_report, took_delivery_status, uplink_ended, up_ended, took}
-use Rattle.unit_defs.specs.UpRecords.{reserved}
+use Rattle.unit_defs.specs.CuUpBearers.{made, framed, sent, sent_again, number_each as number_each_2, number_waiting as number_waiting_2, deliver_stored, forwarded_down, forwarded_up, with_uplink, begin_downlink, switched, frozen_to, with_status, resumed}
+use Rattle.unit_defs.specs.CuUpItems.{held_reason, took_fresh, took_numbered, took_uplink, took_report, took_delivery_status, uplink_ended, up_ended, took}
+use Rattle.unit_defs.specs.CuUpRecords.{reserved}
 use Rattle.unit_defs.specs.octet_defs.Reading.{read_at_cu_cp, read_at_cu_up, read_at_du, read_at_ue}
 use Rattle.unit_defs.specs.octet_defs.Units.{cu_cp_steps, cu_up_steps, du_steps, ue_steps, core_steps}
-use Rattle.transport_defs.specs.Links.{put_letter, letter, landed, in_flight_of}
+use Rattle.transport_defs.specs.Links.{put_control_message, control_message, landed, in_flight_of}
 use Rattle.run_defs.specs.Conditions.{rests as rests_2}
 use Rattle.run_defs.specs.Events.{static, start as start_3, attach as attach_2, offer as offer_3, get, air, ack, give, lose_message, lose_item, pump, tick as tick_4, poll as poll_2, fail as fail_2, arrive as arrive_2, come_back as come_back_2, handover as handover_2, cancel as cancel_2, release as release_4, ask as ask_2, inject_message, inject_item}
 use Rattle.run_defs.specs.Home.{reach, fits as fits_2, is_at_home}
@@ -37,5 +37,5 @@ use Rattle.pdcp.specs.Pdus.{radio_data, bitmap}
 use Rattle.law_worked_runs.proofs.worked_octet_runs.Goals as goal
 
 pub returns : goal.returns
-unfolding seen find put without entry_after first_entry at map_values kept_at newest verdict taken kept_reply keep keep_for opened_at is_open begin keep_request is_awaited close due after_tick rests near_count count_below is_duplicate is_ahead stored deliver received_bits first has_room numbered may_restore restored confirmed_to confirmed_by switch_path core_acts say_one say_all carry_out attach attach_has_tunnels attach_is_placed attach_fails move_begins move_has_uplinks move_is_placed handover_begins handover handover_is_acknowledged handover_is_declined handover_expires handover_is_frozen handover_is_not_frozen command cancel release handed_over offer offer_has_tunnels offer_is_declined offer_is_placed status xn_cancelled xn_released place_is_renewed is_switched path_is_switched completes completes_again returns_2 arrives arrives_again answer reply_came token_came control_came tick cu_cp_acts ended end_where_over makes fits setup add_uplinks switch freeze take_status resume release_2 start set_up control_came_2 take poll tick_2 cu_up_acts replaces setup_2 modify release_3 relay_down relay_up start_2 set_up_2 control_came_3 take_2 pass_up confirm tick_3 du_acts up_placed du_placed cp_placed kind_of with_instance waits_at with_waiting terminal_rests begin_request ask advance ask_at_once replied replied_late on_request on_reply new_ue placed number_each number_waiting connect_bearer obey arrive come_back accept fail offer_2 take_3 confirm_2 ue_acts made framed sent sent_again number_each_2 number_waiting_2 deliver_stored forwarded_down forwarded_up with_uplink begin_downlink switched frozen_to with_status resumed held_reason took_fresh took_numbered took_uplink took_report took_delivery_status uplink_ended up_ended took reserved read_at_cu_cp read_at_cu_up read_at_du read_at_ue cu_cp_steps cu_up_steps du_steps ue_steps core_steps put_letter letter landed in_flight_of rests_2 static start_3 attach_2 offer_3 get air ack give lose_message lose_item pump tick_4 poll_2 fail_2 arrive_2 come_back_2 handover_2 cancel_2 release_4 ask_2 inject_message inject_item reach fits_2 is_at_home happens run_from run Run round settle span check_spans put_on_tunnel put_on_radio put_control opens closes lose_radios put_out_all does step UnitRun tables f1u_downlink_packet f1u_downlink_report f1u_downlink_poll f1u_uplink_pdu delivery_status forwarded_numbered forwarded_fresh end_marker n3_downlink f1u_downlink_data Gtpu gtpu_octets IsRefusal filled radio_data bitmap
+unfolding seen find put without entry_after first_entry at map_values kept_at newest verdict taken kept_reply keep keep_for opened_at is_open begin keep_request is_awaited close due after_tick rests near_count count_below is_duplicate is_ahead stored deliver received_bits first has_room numbered may_restore restored confirmed_to confirmed_by switch_path core_acts act_one act_all carry_out attach attach_has_tunnels attach_is_placed attach_fails move_begins move_has_uplinks move_is_placed handover_begins handover handover_is_acknowledged handover_is_declined handover_expires handover_is_frozen handover_is_not_frozen command cancel release handed_over offer offer_has_tunnels offer_is_declined offer_is_placed status xn_cancelled xn_released place_is_renewed is_switched path_is_switched completes completes_again returns_2 arrives arrives_again answer reply_received token_received control_received tick cu_cp_acts ended end_where_over makes fits setup add_uplinks switch freeze take_status resume release_2 start set_up control_came_2 take poll tick_2 cu_up_acts replaces setup_2 modify release_3 relay_down relay_up start_2 set_up_2 control_came_3 take_2 pass_up confirm tick_3 du_acts cu_up_placed du_placed cu_cp_placed kind_of with_instance waits_at with_waiting terminal_rests begin_request ask advance ask_at_once replied replied_late on_request on_reply new_ue placed number_each number_waiting connect_bearer obey arrive come_back accept fail offer_2 take_3 confirm_2 ue_acts made framed sent sent_again number_each_2 number_waiting_2 deliver_stored forwarded_down forwarded_up with_uplink begin_downlink switched frozen_to with_status resumed held_reason took_fresh took_numbered took_uplink took_report took_delivery_status uplink_ended up_ended took reserved read_at_cu_cp read_at_cu_up read_at_du read_at_ue cu_cp_steps cu_up_steps du_steps ue_steps core_steps put_control_message control_message landed in_flight_of rests_2 static start_3 attach_2 offer_3 get air ack give lose_message lose_item pump tick_4 poll_2 fail_2 arrive_2 come_back_2 handover_2 cancel_2 release_4 ask_2 inject_message inject_item reach fits_2 is_at_home happens run_from run Run round settle span check_spans put_on_tunnel put_on_radio put_control opens closes lose_radios put_out_all does step UnitRun tables f1u_downlink_packet f1u_downlink_report f1u_downlink_poll f1u_uplink_pdu delivery_status forwarded_numbered forwarded_fresh end_marker n3_downlink f1u_downlink_data Gtpu gtpu_octets IsRefusal filled radio_data bitmap
 returns c = refl

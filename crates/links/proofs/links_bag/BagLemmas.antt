@@ -17,8 +17,8 @@ use Rattle.gnb_types.proofs.Choices.{by_test}
 use Rattle.tables.specs.Tables.{find, put, without, at, first_entry, IsSorted}
 use Rattle.tables.specs.Queues.{first_item}
 use Rattle.tables.proofs.TableLaws.{at-put, sorted-put, sorted-without, sum-without}
-use Rattle.transport_defs.specs.declared.Letter.{Letter}
-use Rattle.transport_defs.specs.Links.{Bag, most_letters, put_letter, letter, landed, is_in, is_of, in_flight_of, nth}
+use Rattle.transport_defs.specs.declared.ControlMessage.{ControlMessage}
+use Rattle.transport_defs.specs.Links.{Bag, most_control_messages, put_control_message, control_message, landed, is_in, is_of, in_flight_of, nth}
 use Rattle.links.specs.link_tallies.Tied.{one_if}
 use Rattle.links.specs.link_tallies.Tallies.{key_in}
 use Rattle.links.specs.declared.links_bag.error.LinkError.TheVariants as errors
@@ -90,40 +90,40 @@ module _ {X : Type 0} where
 
 -- ---- how many more may be put
 
-pub room_left : {M : Type 0} (xs : List (Letter M)) (flight : List ℕ) (bag : Bag M) (n more left : ℕ)
-    → ◌≡◌ {A = Bag M} (record { letters = numbered 1 xs; flight = flight }) bag → n ≡ length xs → length xs ≤ most_letters → left ≡ most_letters - n
-    → nat_le more left ≡ not (nat_lt most_letters (length bag.letters + more))
+pub room_left : {M : Type 0} (xs : List (ControlMessage M)) (flight : List ℕ) (bag : Bag M) (n more left : ℕ)
+    → ◌≡◌ {A = Bag M} (record { control_messages = numbered 1 xs; flight = flight }) bag → n ≡ length xs → length xs ≤ most_control_messages → left ≡ most_control_messages - n
+    → nat_le more left ≡ not (nat_lt most_control_messages (length bag.control_messages + more))
 room_left {M = M} xs flight bag n more left view is few room =
-    by (nat_le more left) (nat_lt most_letters (length bag.letters + more)) refl refl
+    by (nat_le more left) (nat_lt most_control_messages (length bag.control_messages + more)) refl refl
   where
-    seen : length bag.letters ≡ length xs
-    seen = ap (λ (b : Bag M). length b.letters) (sym view) ∙ numbered-length xs 1
+    seen : length bag.control_messages ≡ length xs
+    seen = ap (λ (b : Bag M). length b.control_messages) (sym view) ∙ numbered-length xs 1
 
-    by : (a b : Bool) → nat_le more left ≡ a → nat_lt most_letters (length bag.letters + more) ≡ b → a ≡ not b
+    by : (a b : Bool) → nat_le more left ≡ a → nat_lt most_control_messages (length bag.control_messages + more) ≡ b → a ≡ not b
     by true false p q = refl
     by false true p q = refl
     by true true p q =
         let low : more ≤ left = grind (arith, nat_tests) in
-        let high : most_letters < length bag.letters + more = grind (arith, nat_tests) in
+        let high : most_control_messages < length bag.control_messages + more = grind (arith, nat_tests) in
         absurd (omega (arith, seen, is, few, room))
     by false false p q =
         let high : left < more = grind (arith, nat_tests) in
-        let low : length bag.letters + more ≤ most_letters = grind (arith, nat_tests) in
+        let low : length bag.control_messages + more ≤ most_control_messages = grind (arith, nat_tests) in
         absurd (omega (arith, seen, is, few, room))
 
 -- ---- a letter, by its number
 
 module _ {M : Type 0} where
-  pub letter_found : (xs : List (Letter M)) (flight : List ℕ) (bag : Bag M) (i n : ℕ) (r : Option (Letter M))
-      → ◌≡◌ {A = Bag M} (record { letters = numbered 1 xs; flight = flight }) bag → n ≡ i + 1 → r ≡ slice_get xs i → r ≡ letter bag n
-  unfolding letter
-  letter_found xs flight bag i n r view is found =
-      found ∙ sym (nth_is_get xs i) ∙ sym (found_number xs 1 i n (omega arith)) ∙ ap (λ (b : Bag M). find nat_cmp b.letters n) view
+  pub control_message_found : (xs : List (ControlMessage M)) (flight : List ℕ) (bag : Bag M) (i n : ℕ) (r : Option (ControlMessage M))
+      → ◌≡◌ {A = Bag M} (record { control_messages = numbered 1 xs; flight = flight }) bag → n ≡ i + 1 → r ≡ slice_get xs i → r ≡ control_message bag n
+  unfolding control_message
+  control_message_found xs flight bag i n r view is found =
+      found ∙ sym (nth_is_get xs i) ∙ sym (found_number xs 1 i n (omega arith)) ∙ ap (λ (b : Bag M). find nat_cmp b.control_messages n) view
 
-  pub letter_zero : (xs : List (Letter M)) (flight : List ℕ) (bag : Bag M) (n : ℕ)
-      → ◌≡◌ {A = Bag M} (record { letters = numbered 1 xs; flight = flight }) bag → n ≡ 0 → None ≡ letter bag n
-  unfolding letter
-  letter_zero xs flight bag n view is = sym (none_before xs 1 n (omega arith)) ∙ ap (λ (b : Bag M). find nat_cmp b.letters n) view
+  pub control_message_zero : (xs : List (ControlMessage M)) (flight : List ℕ) (bag : Bag M) (n : ℕ)
+      → ◌≡◌ {A = Bag M} (record { control_messages = numbered 1 xs; flight = flight }) bag → n ≡ 0 → None ≡ control_message bag n
+  unfolding control_message
+  control_message_zero xs flight bag n view is = sym (none_before xs 1 n (omega arith)) ∙ ap (λ (b : Bag M). find nat_cmp b.control_messages n) view
 
 -- ---- the messages in flight
 
@@ -173,36 +173,36 @@ none-below [] n all = refl
 none-below (e ∷ es) n all =
     ap (λ (r : Ordering). cond (is_eq r) (Some e.1) (lookup (is_at (nat_cmp n)) es)) (nat_greater n e.0 all.0) ∙ none-below es n all.1
 
-module _ {M : Type 0} (letters : List (Letter M)) where
-  known_below : (e : ℕ × ℕ) → terminal_of letters e.0 ≡ Some e.1 → e.0 < length letters + 1
-  known_below e known = by_test (e.0 < length letters + 1) (nat_lt e.0 (length letters + 1)) (λ t. grind (arith, nat_tests)) after
+module _ {M : Type 0} (control_messages : List (ControlMessage M)) where
+  known_below : (e : ℕ × ℕ) → terminal_of control_messages e.0 ≡ Some e.1 → e.0 < length control_messages + 1
+  known_below e known = by_test (e.0 < length control_messages + 1) (nat_lt e.0 (length control_messages + 1)) (λ t. grind (arith, nat_tests)) after
     where
-      after : nat_lt e.0 (length letters + 1) ≡ false → e.0 < length letters + 1
+      after : nat_lt e.0 (length control_messages + 1) ≡ false → e.0 < length control_messages + 1
       after f =
-          let past : 1 + length letters ≤ e.0 = grind (arith, nat_tests) in
-          let none = none_after letters 1 e.0 past in
-          let nothing : None ≡ Some e.1 = sym (ap (λ (o : Option (Letter M)). option_map (λ l. l.ue) o) none) ∙ known in
+          let past : 1 + length control_messages ≤ e.0 = grind (arith, nat_tests) in
+          let none = none_after control_messages 1 e.0 past in
+          let nothing : None ≡ Some e.1 = sym (ap (λ (o : Option (ControlMessage M)). option_map (λ l. l.ue) o) none) ∙ known in
           absurd cc
 
-  known_more : (l : Letter M) (e : ℕ × ℕ) → terminal_of letters e.0 ≡ Some e.1 → terminal_of (letters ++ l ∷ []) e.0 ≡ Some e.1
-  known_more l e known = by (find nat_cmp (numbered 1 letters) e.0) refl known
+  known_more : (l : ControlMessage M) (e : ℕ × ℕ) → terminal_of control_messages e.0 ≡ Some e.1 → terminal_of (control_messages ++ l ∷ []) e.0 ≡ Some e.1
+  known_more l e known = by (find nat_cmp (numbered 1 control_messages) e.0) refl known
     where
-      by : (o : Option (Letter M)) → find nat_cmp (numbered 1 letters) e.0 ≡ o → option_map (λ l. l.ue) o ≡ Some e.1
-          → terminal_of (letters ++ l ∷ []) e.0 ≡ Some e.1
+      by : (o : Option (ControlMessage M)) → find nat_cmp (numbered 1 control_messages) e.0 ≡ o → option_map (λ l. l.ue) o ≡ Some e.1
+          → terminal_of (control_messages ++ l ∷ []) e.0 ≡ Some e.1
       by None is known = absurd cc
       by (Some x) is known =
-          ap (λ (m : List (ℕ × Letter M)). option_map (λ l. l.ue) (find nat_cmp m e.0)) (numbered-push letters l 1)
-          ∙ ap (λ (o : Option (Letter M)). option_map (λ l. l.ue) o) (find_more (numbered 1 letters) (1 + length letters, l) e.0 x is)
+          ap (λ (m : List (ℕ × ControlMessage M)). option_map (λ l. l.ue) (find nat_cmp m e.0)) (numbered-push control_messages l 1)
+          ∙ ap (λ (o : Option (ControlMessage M)). option_map (λ l. l.ue) o) (find_more (numbered 1 control_messages) (1 + length control_messages, l) e.0 x is)
           ∙ known
 
 nth_last : {X : Type 0} (xs : List X) (x : X) → nth (xs ++ x ∷ []) (length xs) ≡ Some x
 nth_last [] x = refl
 nth_last (y ∷ xs) x = nth_next y (xs ++ x ∷ []) (length xs) ∙ nth_last xs x
 
-known_last : {M : Type 0} (letters : List (Letter M)) (l : Letter M) (n : ℕ) → n ≡ length letters + 1 → terminal_of (letters ++ l ∷ []) n ≡ Some l.ue
-known_last {M = M} letters l n is =
-    ap (λ (o : Option (Letter M)). option_map (λ l. l.ue) o)
-    (found_number (letters ++ l ∷ []) 1 (length letters) n (omega arith) ∙ nth_last letters l)
+known_last : {M : Type 0} (control_messages : List (ControlMessage M)) (l : ControlMessage M) (n : ℕ) → n ≡ length control_messages + 1 → terminal_of (control_messages ++ l ∷ []) n ≡ Some l.ue
+known_last {M = M} control_messages l n is =
+    ap (λ (o : Option (ControlMessage M)). option_map (λ l. l.ue) o)
+    (found_number (control_messages ++ l ∷ []) 1 (length control_messages) n (omega arith) ∙ nth_last control_messages l)
 
 one_equal : (u : ℕ) → is_terminal u u ≡ 1
 one_equal u = ap one_if (eq-eqb u u refl)
@@ -264,44 +264,44 @@ terminals_le u (v ∷ vs) =
     omega arith
 
 -- the messages of a terminal in flight, by their letters and by what stands beside their numbers
-in_flight_counts : {M : Type 0} (letters : List (Letter M)) (flight : List (ℕ × ℕ)) (ue : ℕ)
-    → AllByRecursion (λ e. terminal_of letters e.0 ≡ Some e.1) flight
-    → sum_by (is_terminal ue) (values_of flight) ≡ count_by (λ n. is_of ue (find nat_cmp (numbered 1 letters) n)) (keys_of flight)
-in_flight_counts letters [] ue all = refl
-in_flight_counts {M = M} letters (e ∷ es) ue all =
+in_flight_counts : {M : Type 0} (control_messages : List (ControlMessage M)) (flight : List (ℕ × ℕ)) (ue : ℕ)
+    → AllByRecursion (λ e. terminal_of control_messages e.0 ≡ Some e.1) flight
+    → sum_by (is_terminal ue) (values_of flight) ≡ count_by (λ n. is_of ue (find nat_cmp (numbered 1 control_messages) n)) (keys_of flight)
+in_flight_counts control_messages [] ue all = refl
+in_flight_counts {M = M} control_messages (e ∷ es) ue all =
     let first = sum_by-cons (is_terminal ue) e.1 (values_of es) in
-    let other = sum_by-cons (λ n. cond (is_of ue (find nat_cmp (numbered 1 letters) n)) 1 0) e.0 (keys_of es) in
-    let rest = in_flight_counts letters es ue all.1 in
-    let here : is_terminal ue e.1 ≡ cond (is_of ue (find nat_cmp (numbered 1 letters) e.0)) 1 0 = by (find nat_cmp (numbered 1 letters) e.0) all.0 in
+    let other = sum_by-cons (λ n. cond (is_of ue (find nat_cmp (numbered 1 control_messages) n)) 1 0) e.0 (keys_of es) in
+    let rest = in_flight_counts control_messages es ue all.1 in
+    let here : is_terminal ue e.1 ≡ cond (is_of ue (find nat_cmp (numbered 1 control_messages) e.0)) 1 0 = by (find nat_cmp (numbered 1 control_messages) e.0) all.0 in
     omega arith
   where
-    by : (o : Option (Letter M)) → option_map (λ l. l.ue) o ≡ Some e.1 → is_terminal ue e.1 ≡ cond (is_of ue o) 1 0
+    by : (o : Option (ControlMessage M)) → option_map (λ l. l.ue) o ≡ Some e.1 → is_terminal ue e.1 ≡ cond (is_of ue o) 1 0
     by None known = absurd cc
     by (Some l) known = let same : l.ue ≡ e.1 = cc in ap (λ (k : ℕ). one_if (k == ue)) (sym same)
 
-module _ {M : Type 0} {letters : List (Letter M)} {flight counts : List (ℕ × ℕ)} (kept : BagIsKept letters flight counts) where
-  pub all_below : AllByRecursion (λ e. e.0 < length letters + 1) flight
-  all_below = all-map (λ e. terminal_of letters e.0 ≡ Some e.1) (λ e. e.0 < length letters + 1) flight (known_below letters) kept.terminals
+module _ {M : Type 0} {control_messages : List (ControlMessage M)} {flight counts : List (ℕ × ℕ)} (kept : BagIsKept control_messages flight counts) where
+  pub all_below : AllByRecursion (λ e. e.0 < length control_messages + 1) flight
+  all_below = all-map (λ e. terminal_of control_messages e.0 ≡ Some e.1) (λ e. e.0 < length control_messages + 1) flight (known_below control_messages) kept.terminals
 
   -- the next message is put
-  pub bag-put : (l : Letter M) (letters2 : List (Letter M)) (flight2 counts2 : List (ℕ × ℕ)) (n : ℕ) → length letters < most_letters
-      → n ≡ length letters + 1 → letters2 ≡ letters ++ l ∷ [] → flight2 ≡ put nat_cmp flight n l.ue
+  pub bag-put : (l : ControlMessage M) (letters2 : List (ControlMessage M)) (flight2 counts2 : List (ℕ × ℕ)) (n : ℕ) → length control_messages < most_control_messages
+      → n ≡ length control_messages + 1 → letters2 ≡ control_messages ++ l ∷ [] → flight2 ≡ put nat_cmp flight n l.ue
       → counts2 ≡ put nat_cmp counts l.ue (at nat_cmp 0 counts l.ue + 1) → BagIsKept letters2 flight2 counts2
-  bag-put l letters2 flight2 counts2 n room is is_letters is_flight is_counts =
+  bag-put l letters2 flight2 counts2 n room is is_control_messages is_flight is_counts =
       let below : AllByRecursion (λ e. e.0 < n) flight = subst (λ (k : ℕ). AllByRecursion (λ e. e.0 < k) flight) (sym is) all_below in
       let pushed : flight2 ≡ flight ++ (n, l.ue) ∷ [] = is_flight ∙ put-end flight n l.ue below in
-      let longer : length letters2 ≡ length letters + 1 = ap length is_letters ∙ length-append letters (l ∷ []) in
+      let longer : length letters2 ≡ length control_messages + 1 = ap length is_control_messages ∙ length-append control_messages (l ∷ []) in
       let more : length flight2 ≡ length flight + 1 = ap length pushed ∙ length-append flight ((n, l.ue) ∷ []) in
       let fewer_now : length flight2 ≤ length letters2 = omega (arith, kept.fewer) in
-      let few_now : length letters2 ≤ most_letters = omega arith in
+      let few_now : length letters2 ≤ most_control_messages = omega arith in
       record {
         sorted = subst (λ (m : List (ℕ × ℕ)). IsSorted nat_cmp m) (sym is_flight) (sorted-put nat_cmp_total flight n l.ue kept.sorted);
         terminals =
             subst (λ (m : List (ℕ × ℕ)). AllByRecursion (λ e. terminal_of letters2 e.0 ≡ Some e.1) m) (sym pushed)
-            (subst (λ (xs : List (Letter M)). AllByRecursion (λ e. terminal_of xs e.0 ≡ Some e.1) (flight ++ (n, l.ue) ∷ [])) (sym is_letters)
-            (all-push (λ e. terminal_of (letters ++ l ∷ []) e.0 ≡ Some e.1) flight (n, l.ue)
-            (all-map (λ e. terminal_of letters e.0 ≡ Some e.1) (λ e. terminal_of (letters ++ l ∷ []) e.0 ≡ Some e.1) flight (known_more letters l) kept.terminals)
-            (known_last letters l n is)));
+            (subst (λ (xs : List (ControlMessage M)). AllByRecursion (λ e. terminal_of xs e.0 ≡ Some e.1) (flight ++ (n, l.ue) ∷ [])) (sym is_control_messages)
+            (all-push (λ e. terminal_of (control_messages ++ l ∷ []) e.0 ≡ Some e.1) flight (n, l.ue)
+            (all-map (λ e. terminal_of control_messages e.0 ≡ Some e.1) (λ e. terminal_of (control_messages ++ l ∷ []) e.0 ≡ Some e.1) flight (known_more control_messages l) kept.terminals)
+            (known_last control_messages l n is)));
         counted = λ u.
             ap (λ (m : List (ℕ × ℕ)). at nat_cmp 0 m u) is_counts
             ∙ counted-more counts l.ue u (sum_by (is_terminal u) (values_of flight)) (kept.counted u)
@@ -314,16 +314,16 @@ module _ {M : Type 0} {letters : List (Letter M)} {flight counts : List (ℕ × 
 
   -- a message in flight is given, or lost
   pub bag-land : (flight2 counts2 : List (ℕ × ℕ)) (n ue : ℕ) → find nat_cmp flight n ≡ Some ue → flight2 ≡ without nat_cmp flight n
-      → counts2 ≡ fewer_of counts ue (find nat_cmp counts ue) → BagIsKept letters flight2 counts2
+      → counts2 ≡ fewer_of counts ue (find nat_cmp counts ue) → BagIsKept control_messages flight2 counts2
   unfolding without
   bag-land flight2 counts2 n ue found is_flight is_counts =
-      let shorter : length flight2 ≤ length letters =
+      let shorter : length flight2 ≤ length control_messages =
       omega (arith, ap length is_flight, filter-shorter (λ e. not (is_at (nat_cmp n) e.0)) flight, kept.fewer) in
       record {
         sorted = subst (λ (m : List (ℕ × ℕ)). IsSorted nat_cmp m) (sym is_flight) (sorted-without nat_cmp_total flight n kept.sorted);
         terminals =
-            subst (λ (m : List (ℕ × ℕ)). AllByRecursion (λ e. terminal_of letters e.0 ≡ Some e.1) m) (sym is_flight)
-            (all-filter (λ e. terminal_of letters e.0 ≡ Some e.1) (λ e. not (is_at (nat_cmp n) e.0)) flight kept.terminals);
+            subst (λ (m : List (ℕ × ℕ)). AllByRecursion (λ e. terminal_of control_messages e.0 ≡ Some e.1) m) (sym is_flight)
+            (all-filter (λ e. terminal_of control_messages e.0 ≡ Some e.1) (λ e. not (is_at (nat_cmp n) e.0)) flight kept.terminals);
         counted = λ u.
             let gone : sum_by (is_terminal u) (values_of (without nat_cmp flight n)) + is_terminal u ue ≡ sum_by (is_terminal u) (values_of flight) =
             ap (λ (o : Option ℕ). sum_by (is_terminal u) (values_of (without nat_cmp flight n)) + unwrap_or (option_map (is_terminal u) o) 0) (sym found)
@@ -339,17 +339,17 @@ module _ {M : Type 0} {letters : List (Letter M)} {flight counts : List (ℕ × 
       }
 
   -- a message that couldn't be put
-  pub bag-undone : (letters2 : List (Letter M)) (flight2 flight3 counts2 : List (ℕ × ℕ)) (n ue : ℕ) → n ≡ length letters + 1
-      → letters2 ≡ letters → flight2 ≡ put nat_cmp flight n ue → flight3 ≡ without nat_cmp flight2 n → counts2 ≡ counts
+  pub bag-undone : (letters2 : List (ControlMessage M)) (flight2 flight3 counts2 : List (ℕ × ℕ)) (n ue : ℕ) → n ≡ length control_messages + 1
+      → letters2 ≡ control_messages → flight2 ≡ put nat_cmp flight n ue → flight3 ≡ without nat_cmp flight2 n → counts2 ≡ counts
       → (flight3 ≡ flight) × BagIsKept letters2 flight3 counts2
-  bag-undone letters2 flight2 flight3 counts2 n ue is same_letters is_put is_taken same_counts =
+  bag-undone letters2 flight2 flight3 counts2 n ue is same_control_messages is_put is_taken same_counts =
       let below : AllByRecursion (λ e. e.0 < n) flight = subst (λ (k : ℕ). AllByRecursion (λ e. e.0 < k) flight) (sym is) all_below in
       let same_flight : flight3 ≡ flight =
       is_taken ∙ ap (λ (m : List (ℕ × ℕ)). without nat_cmp m n) is_put ∙ without-put nat_cmp nat_cmp_total flight n ue (none-below flight n below) in (
         same_flight,
-        subst (λ (xs : List (Letter M)). BagIsKept xs flight3 counts2) (sym same_letters)
-            (subst (λ (m : List (ℕ × ℕ)). BagIsKept letters m counts2) (sym same_flight)
-            (subst (λ (m : List (ℕ × ℕ)). BagIsKept letters flight m) (sym same_counts) kept)),
+        subst (λ (xs : List (ControlMessage M)). BagIsKept xs flight3 counts2) (sym same_control_messages)
+            (subst (λ (m : List (ℕ × ℕ)). BagIsKept control_messages m counts2) (sym same_flight)
+            (subst (λ (m : List (ℕ × ℕ)). BagIsKept control_messages flight m) (sym same_counts) kept)),
       )
 
   -- each count is below the number of messages
@@ -362,15 +362,15 @@ module _ {M : Type 0} {letters : List (Letter M)} {flight counts : List (ℕ × 
   pub bag-number : length flight < 2 ^ 32
   bag-number = omega (arith, kept.fewer, kept.few)
 
-  pub bag-terminal : (ue : ℕ) → at nat_cmp 0 counts ue ≡ in_flight_of (record { letters = numbered 1 letters; flight = keys_of flight }) ue
-  unfolding in_flight_of letter
-  bag-terminal ue = kept.counted ue ∙ in_flight_counts letters flight ue kept.terminals
+  pub bag-terminal : (ue : ℕ) → at nat_cmp 0 counts ue ≡ in_flight_of (record { control_messages = numbered 1 control_messages; flight = keys_of flight }) ue
+  unfolding in_flight_of control_message
+  bag-terminal ue = kept.counted ue ∙ in_flight_counts control_messages flight ue kept.terminals
 
-pub bag-none : {M : Type 0} (letters : List (Letter M)) (flight counts : List (ℕ × ℕ)) → letters ≡ [] → flight ≡ [] → counts ≡ []
-    → BagIsKept letters flight counts
+pub bag-none : {M : Type 0} (control_messages : List (ControlMessage M)) (flight counts : List (ℕ × ℕ)) → control_messages ≡ [] → flight ≡ [] → counts ≡ []
+    → BagIsKept control_messages flight counts
 unfolding at find
-bag-none {M = M} letters flight counts no_letter no_flight no_count =
-    subst (λ (xs : List (Letter M)). BagIsKept xs flight counts) (sym no_letter)
+bag-none {M = M} control_messages flight counts no_control_message no_flight no_count =
+    subst (λ (xs : List (ControlMessage M)). BagIsKept xs flight counts) (sym no_control_message)
     (subst (λ (m : List (ℕ × ℕ)). BagIsKept {M = M} [] m counts) (sym no_flight)
     (subst (λ (m : List (ℕ × ℕ)). BagIsKept {M = M} [] [] m) (sym no_count) (record {
       sorted = let empty : ◌≡◌ {A = List (ℕ × ℕ)} [] [] = refl in sorted_none nat_cmp_total 0 [] empty;
@@ -413,16 +413,16 @@ in_keys (e ∷ es) n = by (is_at (nat_cmp n) e.0) (e.0 == n) (ties n e.0) (in_ke
     by true false same rest = absurd cc
     by false true same rest = absurd cc
 
-module _ {M : Type 0} (letters : List (Letter M)) (flight : List (ℕ × ℕ)) (bag : Bag M)
-    (view : ◌≡◌ {A = Bag M} (record { letters = numbered 1 letters; flight = keys_of flight }) bag) where
+module _ {M : Type 0} (control_messages : List (ControlMessage M)) (flight : List (ℕ × ℕ)) (bag : Bag M)
+    (view : ◌≡◌ {A = Bag M} (record { control_messages = numbered 1 control_messages; flight = keys_of flight }) bag) where
   pub seen_in : (n : ℕ) (r : Option ℕ) → r ≡ find nat_cmp flight n → is_some r ≡ is_in n bag.flight
   seen_in n r is = ap is_some is ∙ in_keys flight n ∙ ap (λ (b : Bag M). is_in n b.flight) view
 
   pub seen_landed : (n : ℕ) (flight2 : List (ℕ × ℕ)) → flight2 ≡ without nat_cmp flight n
-      → ◌≡◌ {A = Bag M} (record { letters = numbered 1 letters; flight = keys_of flight2 }) (landed bag n)
+      → ◌≡◌ {A = Bag M} (record { control_messages = numbered 1 control_messages; flight = keys_of flight2 }) (landed bag n)
   unfolding landed
   seen_landed n flight2 is =
-      let bag_of : List ℕ → Bag M = λ ks. record { letters = numbered 1 letters; flight = ks } in
+      let bag_of : List ℕ → Bag M = λ ks. record { control_messages = numbered 1 control_messages; flight = ks } in
       ap bag_of (ap keys_of is ∙ keys-without flight n) ∙ ap (λ (b : Bag M). record b { flight = filter (λ k. not (k == n)) b.flight }) view
 
   pub seen_first : (r : Option ℕ) → r ≡ key_in (first_entry flight) → r ≡ first_item bag.flight
@@ -433,40 +433,40 @@ module _ {M : Type 0} (letters : List (Letter M)) (flight : List (ℕ × ℕ)) (
       first_key [] = refl
       first_key (e ∷ es) = refl
 
-  pub seen_full : (l : Letter M) (before : ℕ) → before ≡ length letters → most_letters ≤ before → put_message bag l ≡ refuses errors.Spent
+  pub seen_full : (l : ControlMessage M) (before : ℕ) → before ≡ length control_messages → most_control_messages ≤ before → put_message bag l ≡ refuses errors.Spent
   seen_full l before is full =
-      let lengths = numbered-length letters 1 in
-      let none : nat_lt (length (numbered 1 letters)) most_letters ≡ false = grind (arith, nat_tests) in
+      let lengths = numbered-length control_messages 1 in
+      let none : nat_lt (length (numbered 1 control_messages)) most_control_messages ≡ false = grind (arith, nat_tests) in
       ap (λ (b : Bag M). put_message b l) (sym view)
-      ∙ ap (λ (t : Bool). cond t (gives (length (numbered 1 letters) + 1) (put_letter (record { letters = numbered 1 letters; flight = keys_of flight }) l)) (refuses errors.Spent)) none
+      ∙ ap (λ (t : Bool). cond t (gives (length (numbered 1 control_messages) + 1) (put_control_message (record { control_messages = numbered 1 control_messages; flight = keys_of flight }) l)) (refuses errors.Spent)) none
 
-  pub seen_put : (counts : List (ℕ × ℕ)) (l : Letter M) (before : ℕ) (letters2 : List (Letter M)) (flight2 : List (ℕ × ℕ)) → BagIsKept letters flight counts
-      → before ≡ length letters → before < most_letters → letters2 ≡ letters ++ l ∷ [] → flight2 ≡ put nat_cmp flight (before + 1) l.ue
-      → put_message bag l ≡ gives (before + 1) (record { letters = numbered 1 letters2; flight = keys_of flight2 })
-  unfolding put_letter
-  seen_put counts l before letters2 flight2 kept is room is_letters is_flight =
-      let lengths = numbered-length letters 1 in
-      let some : nat_lt (length (numbered 1 letters)) most_letters ≡ true = grind (arith, nat_tests) in
-      let number : length (numbered 1 letters) + 1 ≡ before + 1 = omega arith in
-      let next : before + 1 ≡ 1 + length letters = omega arith in
+  pub seen_put : (counts : List (ℕ × ℕ)) (l : ControlMessage M) (before : ℕ) (letters2 : List (ControlMessage M)) (flight2 : List (ℕ × ℕ)) → BagIsKept control_messages flight counts
+      → before ≡ length control_messages → before < most_control_messages → letters2 ≡ control_messages ++ l ∷ [] → flight2 ≡ put nat_cmp flight (before + 1) l.ue
+      → put_message bag l ≡ gives (before + 1) (record { control_messages = numbered 1 letters2; flight = keys_of flight2 })
+  unfolding put_control_message
+  seen_put counts l before letters2 flight2 kept is room is_control_messages is_flight =
+      let lengths = numbered-length control_messages 1 in
+      let some : nat_lt (length (numbered 1 control_messages)) most_control_messages ≡ true = grind (arith, nat_tests) in
+      let number : length (numbered 1 control_messages) + 1 ≡ before + 1 = omega arith in
+      let next : before + 1 ≡ 1 + length control_messages = omega arith in
       let below : AllByRecursion (λ e. e.0 < before + 1) flight =
       subst (λ (k : ℕ). AllByRecursion (λ e. e.0 < k + 1) flight) (sym is) (all_below kept) in
-      let bag_of : List (ℕ × Letter M) → List ℕ → Bag M = λ xs ks. record { letters = xs; flight = ks } in
-      let is_numbered : numbered 1 letters ++ (before + 1, l) ∷ [] ≡ numbered 1 letters2 =
-      ap (λ (k : ℕ). numbered 1 letters ++ (k, l) ∷ []) next ∙ sym (numbered-push letters l 1) ∙ ap (numbered 1) (sym is_letters) in
+      let bag_of : List (ℕ × ControlMessage M) → List ℕ → Bag M = λ xs ks. record { control_messages = xs; flight = ks } in
+      let is_numbered : numbered 1 control_messages ++ (before + 1, l) ∷ [] ≡ numbered 1 letters2 =
+      ap (λ (k : ℕ). numbered 1 control_messages ++ (k, l) ∷ []) next ∙ sym (numbered-push control_messages l 1) ∙ ap (numbered 1) (sym is_control_messages) in
       let is_keys : keys_of flight ++ (before + 1) ∷ [] ≡ keys_of flight2 =
       sym (keys-push flight (before + 1, l.ue)) ∙ ap keys_of (sym (is_flight ∙ put-end flight (before + 1) l.ue below)) in
       ap (λ (b : Bag M). put_message b l) (sym view)
-      ∙ ap (λ (t : Bool). cond t (gives (length (numbered 1 letters) + 1) (put_letter (record { letters = numbered 1 letters; flight = keys_of flight }) l)) (refuses errors.Spent)) some
-      ∙ ap (λ (k : ℕ). gives k (bag_of (numbered 1 letters ++ (k, l) ∷ []) (keys_of flight ++ k ∷ []))) number
-      ∙ ap (λ (xs : List (ℕ × Letter M)). gives (before + 1) (bag_of xs (keys_of flight ++ (before + 1) ∷ []))) is_numbered
+      ∙ ap (λ (t : Bool). cond t (gives (length (numbered 1 control_messages) + 1) (put_control_message (record { control_messages = numbered 1 control_messages; flight = keys_of flight }) l)) (refuses errors.Spent)) some
+      ∙ ap (λ (k : ℕ). gives k (bag_of (numbered 1 control_messages ++ (k, l) ∷ []) (keys_of flight ++ k ∷ []))) number
+      ∙ ap (λ (xs : List (ℕ × ControlMessage M)). gives (before + 1) (bag_of xs (keys_of flight ++ (before + 1) ∷ []))) is_numbered
       ∙ ap (λ (ks : List ℕ). gives (before + 1) (bag_of (numbered 1 letters2) ks)) is_keys
 
-  pub seen_same : (letters2 : List (Letter M)) (flight2 : List (ℕ × ℕ)) → letters2 ≡ letters → flight2 ≡ flight
-      → ◌≡◌ {A = Bag M} (record { letters = numbered 1 letters2; flight = keys_of flight2 }) bag
-  seen_same letters2 flight2 same_letters same_flight =
-      let bag_of : List (Letter M) → List (ℕ × ℕ) → Bag M = λ xs m. record { letters = numbered 1 xs; flight = keys_of m } in
-      ap (λ (xs : List (Letter M)). bag_of xs flight2) same_letters ∙ ap (bag_of letters) same_flight ∙ view
+  pub seen_same : (letters2 : List (ControlMessage M)) (flight2 : List (ℕ × ℕ)) → letters2 ≡ control_messages → flight2 ≡ flight
+      → ◌≡◌ {A = Bag M} (record { control_messages = numbered 1 letters2; flight = keys_of flight2 }) bag
+  seen_same letters2 flight2 same_control_messages same_flight =
+      let bag_of : List (ControlMessage M) → List (ℕ × ℕ) → Bag M = λ xs m. record { control_messages = numbered 1 xs; flight = keys_of m } in
+      ap (λ (xs : List (ControlMessage M)). bag_of xs flight2) same_control_messages ∙ ap (bag_of control_messages) same_flight ∙ view
 
-  pub seen_terminal : (counts : List (ℕ × ℕ)) (ue n : ℕ) → BagIsKept letters flight counts → n ≡ at nat_cmp 0 counts ue → n ≡ in_flight_of bag ue
+  pub seen_terminal : (counts : List (ℕ × ℕ)) (ue n : ℕ) → BagIsKept control_messages flight counts → n ≡ at nat_cmp 0 counts ue → n ≡ in_flight_of bag ue
   seen_terminal counts ue n kept is = is ∙ bag-terminal kept ue ∙ ap (λ (b : Bag M). in_flight_of b ue) view

@@ -1,34 +1,34 @@
 -- The control messages that were ever put, and what the calls of their bag give. Message n is the n-th that was put.
 use Rattle.std.specs.Prelude.{ℕ, ◌+◌, nat_lt, if◌then◌else◌, List, length, Option, Some, None}
 use Rattle.gnb_types.specs.declared.names.NodeId.{NodeId}
-use Rattle.transport_defs.specs.declared.Letter.{Letter}
-use Rattle.transport_defs.specs.Links.{Bag, most_letters, put_letter, letter, landed, is_in, in_flight_of}
+use Rattle.transport_defs.specs.declared.ControlMessage.{ControlMessage}
+use Rattle.transport_defs.specs.Links.{Bag, most_control_messages, put_control_message, control_message, landed, is_in, in_flight_of}
 use Rattle.links.specs.declared.links_bag.error.LinkError.TheVariants as errors
 use Rattle.links.specs.links_bag.Answers.{Answer, gives, refuses}
 
-abbrev pub message : NodeId → NodeId → ℕ → List ℕ → Letter (List ℕ)
+abbrev pub message : NodeId → NodeId → ℕ → List ℕ → ControlMessage (List ℕ)
 message from to ue octets = record { from = from; to = to; ue = ue; message = octets }
 
 module _ {M : Type 0} where
   -- a message gets the next number, and is in flight
-  abbrev pub put : Bag M → Letter M → Answer ℕ (Bag M)
-  put bag l = if nat_lt (length bag.letters) most_letters then gives (length bag.letters + 1) (put_letter bag l) else refuses errors.Spent
+  abbrev pub put : Bag M → ControlMessage M → Answer ℕ (Bag M)
+  put bag l = if nat_lt (length bag.control_messages) most_control_messages then gives (length bag.control_messages + 1) (put_control_message bag l) else refuses errors.Spent
 
   -- a message that was ever put may be given, again and again; it isn't in flight any more
-  abbrev pub give_in : Bag M → ℕ → Option (Letter M) → Answer (Letter M) (Bag M)
+  abbrev pub give_in : Bag M → ℕ → Option (ControlMessage M) → Answer (ControlMessage M) (Bag M)
   give_in bag number None = refuses errors.NoSuch
   give_in bag number (Some l) = gives l (landed bag number)
 
-  abbrev pub give : Bag M → ℕ → Answer (Letter M) (Bag M)
-  give bag number = give_in bag number (letter bag number)
+  abbrev pub give : Bag M → ℕ → Answer (ControlMessage M) (Bag M)
+  give bag number = give_in bag number (control_message bag number)
 
   -- a message in flight is lost
-  abbrev pub lose_in : Bag M → ℕ → Option (Letter M) → Answer (Unit {0}) (Bag M)
+  abbrev pub lose_in : Bag M → ℕ → Option (ControlMessage M) → Answer (Unit {0}) (Bag M)
   lose_in bag number None = refuses errors.NoSuch
   lose_in bag number (Some l) = if is_in number bag.flight then gives tt (landed bag number) else refuses errors.Empty
 
   abbrev pub lose : Bag M → ℕ → Answer (Unit {0}) (Bag M)
-  lose bag number = lose_in bag number (letter bag number)
+  lose bag number = lose_in bag number (control_message bag number)
 
   -- how many are in flight, of a terminal where one is named
   abbrev pub in_flight : Bag M → Option ℕ → ℕ

@@ -5,7 +5,7 @@ ghost use Rattle.std.specs.List.Sorted.{IsStrictlySortedBy};
 ghost use Rattle.std.specs.Ordering.{nat_cmp};
 ghost use Rattle.tables.specs.Queues.{first_item};
 ghost use Rattle.tables.specs.Tables.{find, put as put_at, at};
-ghost use Rattle.transport_defs.specs.Links.{no_letters, most_letters, letter, landed, is_in, in_flight_of};
+ghost use Rattle.transport_defs.specs.Links.{no_control_messages, most_control_messages, control_message, landed, is_in, in_flight_of};
 ghost use Rattle.links.specs.links_bag.Answers.{Answers, AnswersSurely};
 ghost use Rattle.links.specs.links_bag.Bags.{message, put, give, lose, in_flight};
 ghost use Rattle.links.specs.links_bag.inside.Messages.{fewer_of};
@@ -17,10 +17,10 @@ use gnb_types::octets::Octets;
 use std::alloc::Global;
 use std::marker::Model;
 use tables::table::Table;
-use transport_defs::Letter;
+use transport_defs::ControlMessage;
 
 /// A control message: its ends, its terminal (0: none), and its octets.
-pub type Message = Letter<Octets>;
+pub type Message = ControlMessage<Octets>;
 
 /// How many messages may be put.
 pub const MOST_MESSAGES: usize = 1_000_000;
@@ -28,7 +28,7 @@ pub const MOST_MESSAGES: usize = 1_000_000;
 /// The control messages. Contracts see all that were ever put, under their numbers from 1 on, and the numbers of those in flight.
 #[derive(Drop)]
 pub struct Bag {
-    letters: Vec<Message>,
+    control_messages: Vec<Message>,
     /// Those in flight, each with its terminal.
     flight: Table<u32, u8>,
     /// How many of each terminal are in flight.
@@ -44,27 +44,27 @@ impl Model for Bag {
 
     ghost use Rattle.links.specs.links_bag.inside.Messages.{numbered, BagIsKept};
 
-    ghost view = { λ b. record { letters = numbered 1 b.letters.items; flight = keys_of b.flight } };
+    ghost view = { λ b. record { control_messages = numbered 1 b.control_messages.items; flight = keys_of b.flight } };
 
-    ghost invariant = { λ b. BagIsKept b.letters.items b.flight b.of_terminals };
+    ghost invariant = { λ b. BagIsKept b.control_messages.items b.flight b.of_terminals };
 }
 
-fn copy_message(letter: &Message) -> Result<Message, Memory>
-    ensures { IfOk result (λ copy. copy ≡ letter.now) }
+fn copy_message(control_message: &Message) -> Result<Message, Memory>
+    ensures { IfOk result (λ copy. copy ≡ control_message.now) }
 {
-    let message = letter.message.clone()?;
-    Ok(Letter {
-        from: letter.from,
-        to: letter.to,
-        ue: letter.ue,
+    let message = control_message.message.clone()?;
+    Ok(ControlMessage {
+        from: control_message.from,
+        to: control_message.to,
+        ue: control_message.ue,
         message,
     })
 }
 
-fn message_at(letters: &Vec<Message>, index: usize) -> Option<&Message>
-    ensures { option_copied result ≡ slice_get letters.now.items index }
+fn message_at(control_messages: &Vec<Message>, index: usize) -> Option<&Message>
+    ensures { option_copied result ≡ slice_get control_messages.now.items index }
 {
-    letters.as_slice().get(index)
+    control_messages.as_slice().get(index)
 }
 
 #[tactic(auto, unfolding(tables::specs::Tables::at))]
@@ -93,10 +93,10 @@ fn one_fewer(counts: &mut Table<u8, u32>, ue: u8)
 impl Bag {
     /// No message was put.
     pub fn new(alloc: Global) -> Result<Bag, Memory>
-        ensures { IfOk result (λ bag. bag ≡ no_letters) }
+        ensures { IfOk result (λ bag. bag ≡ no_control_messages) }
     {
         Ok(Bag {
-            letters: Vec::new(alloc),
+            control_messages: Vec::new(alloc),
             flight: Table::new(alloc),
             of_terminals: Table::new(alloc),
         })
@@ -104,22 +104,22 @@ impl Bag {
 
     /// Whether so many more may be put.
     pub fn has_room(&self, more: usize) -> bool
-        ensures { result ≡ not (nat_lt most_letters (length self.now.letters + more)) }
+        ensures { result ≡ not (nat_lt most_control_messages (length self.now.control_messages + more)) }
     {
-        more <= MOST_MESSAGES.saturating_sub(self.letters.len())
+        more <= MOST_MESSAGES.saturating_sub(self.control_messages.len())
     }
 
     /// Puts a message, and gives its number.
     pub fn put(&mut self, from: NodeId, to: NodeId, ue: u8, bytes: Octets) -> Result<u32, LinkError>
         ensures { Answers (put self.old (message from to ue bytes)) self.old self.new result }
     {
-        let before = self.letters.len();
+        let before = self.control_messages.len();
         if before >= MOST_MESSAGES {
             return Err(LinkError::Spent);
         }
         let number = before as u32 + 1;
         // What can fail stands first, so that an error leaves all as it was.
-        if self.letters.reserve(1).is_err() {
+        if self.control_messages.reserve(1).is_err() {
             return Err(LinkError::Memory);
         }
         self.flight.put(number, ue)?;
@@ -130,22 +130,22 @@ impl Bag {
                 return Err(LinkError::Memory);
             }
         }
-        let message = Letter {
+        let message = ControlMessage {
             from,
             to,
             ue,
             message: bytes,
         };
-        self.letters.push_reserved(message);
+        self.control_messages.push_reserved(message);
         Ok(number)
     }
 
     /// The message of this number, which stays where it is.
-    pub fn letter(&self, number: u32) -> Option<&Message>
-        ensures { option_copied result ≡ letter self.now number }
+    pub fn control_message(&self, number: u32) -> Option<&Message>
+        ensures { option_copied result ≡ control_message self.now number }
     {
         match number.checked_sub(1) {
-            Some(index) => message_at(&self.letters, index as usize),
+            Some(index) => message_at(&self.control_messages, index as usize),
             None => None,
         }
     }
@@ -167,10 +167,10 @@ impl Bag {
     pub fn give(&mut self, number: u32) -> Result<Message, LinkError>
         ensures { Answers (give self.old number) self.old self.new result }
     {
-        let Some(letter) = self.letter(number) else {
+        let Some(control_message) = self.control_message(number) else {
             return Err(LinkError::NoSuch);
         };
-        let copy = copy_message(letter)?;
+        let copy = copy_message(control_message)?;
         self.land(number);
         Ok(copy)
     }
@@ -179,7 +179,7 @@ impl Bag {
     pub fn lose(&mut self, number: u32) -> Result<(), LinkError>
         ensures { AnswersSurely (lose self.old number) self.old self.new result }
     {
-        if self.letter(number).is_none() {
+        if self.control_message(number).is_none() {
             return Err(LinkError::NoSuch);
         }
         if !self.land(number) {

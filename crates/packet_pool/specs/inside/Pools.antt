@@ -41,7 +41,7 @@ named None = 0
 named (Some None) = 1
 named (Some (Some c)) = 0
 
-pub record IsTied (region : RegionState) (contents : List (Option Content)) (accounts : AccountsState) : Type 0 where
+pub record IsConsistent (region : RegionState) (contents : List (Option Content)) (accounts : AccountsState) : Type 0 where
   -- the list of free blocks names each free block once, and no used one
   pub free_once : (n : ℕ) → count_by (λ m. m == n) region.free ≡ named (slice_get contents n)
   pub sized : length region.blocks ≡ length contents

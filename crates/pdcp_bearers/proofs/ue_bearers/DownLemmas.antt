@@ -20,13 +20,13 @@ use Rattle.pdcp_entities.specs.declared.rx.Ahead.{Ahead}
 use Rattle.pdcp_entities.specs.Packets.{AreParked, Puts, Unparks, bytes_of, octets_at, octets_in}
 use Rattle.pdcp_entities.specs.Entities.{RxState, new_rx, receiver_in, taking, taken, stored_count, first_at, handed_up, advanced}
 use Rattle.pdcp_entities.proofs.ParkLemmas.{AllSame, octets_same, parked_taken}
-use Rattle.pdcp_bearers.specs.ue_bearers.Downlinks.{DownlinkState, new_downlink, reception_of, received}
-use Rattle.pdcp_bearers.specs.ue_bearers.inside.Views.{IsDownlink, IsAscending, downlink_state}
+use Rattle.pdcp_bearers.specs.ue_bearers.Receivers.{ReceiverState, new_receiver_state, reception_of, received}
+use Rattle.pdcp_bearers.specs.ue_bearers.inside.Views.{IsReceiver, IsAscending, receiver_state}
 use Rattle.pdcp_bearers.proofs.ue_bearers.UpLemmas.{all_weaker}
 use Rattle.pdcp_bearers.proofs.ue_bearers.StoredLemmas.{all_put, all_dropped, ascending_put, ascending_dropped, equal_is, own_spent}
 use Rattle.pdcp_bearers.proofs.ue_bearers.RefLemmas.{at_here, length_put, length_without, held_found}
-use Rattle.pdcp_bearers.specs.declared.ue_bearers.downlink.Reception.{Reception}
-use Rattle.pdcp_bearers.specs.declared.ue_bearers.downlink.Reception.TheVariants as receptions
+use Rattle.pdcp_bearers.specs.declared.ue_bearers.receiver.Reception.{Reception}
+use Rattle.pdcp_bearers.specs.declared.ue_bearers.receiver.Reception.TheVariants as receptions
 
 some_mapped : {X Y : Type 0} (f : X → Y) (o : Option X) → is_some (option_map f o) ≡ is_some o
 some_mapped f None = refl
@@ -46,12 +46,12 @@ module _ (p : PoolState) (rx : RxState) (count : ℕ) where
   ahead_in quota = refl
 
 -- what an answer of the entity is for the bearer
-abbrev as_received : DownlinkState → List ℕ → Result Taken Ahead → Reception × DownlinkState
+abbrev as_received : ReceiverState → List ℕ → Result Taken Ahead → Reception × ReceiverState
 as_received d packet (Ok t) =
     cond t.stored (receptions.Stored, record d { receiver = stored d.receiver (unwrap_or t.count 0) packet }) (receptions.Duplicate, d)
 as_received d packet (Err e) = (receptions.Ahead, d)
 
-abbrev pub state : SnBits → ℕ → Receiver (List ℕ) → DownlinkState
+abbrev pub state : SnBits → ℕ → Receiver (List ℕ) → ReceiverState
 state sn quota r = record { sn = sn; quota = quota; receiver = r }
 
 abbrev pub answer : Option ℕ → Bool → Result Taken Ahead
@@ -60,7 +60,7 @@ answer count s = Ok (record { count = count; stored = s })
 abbrev pub ahead : Result Taken Ahead
 ahead = Err (record {})
 
-abbrev pub with_state : Reception → DownlinkState → Reception × DownlinkState
+abbrev pub with_state : Reception → ReceiverState → Reception × ReceiverState
 with_state r d = (r, d)
 
 abbrev pub none_left : {Y : Type 0} → Receiver Y → Delivery Y
@@ -205,17 +205,17 @@ pub kept_taken : (sn : SnBits) (limit : ℕ) (key : EntityKey) (p q : PoolState)
     → AreParked q ry.receiver.stored
     → used q key + length rx.receiver.stored ≡ used p key + length ry.receiver.stored
     → ((c : ℕ) → o ≡ Some c → c < 2 ^ 32 - 1)
-    → IsDownlink sn limit key p rx → IsDownlink sn limit key q ry
+    → IsReceiver sn limit key p rx → IsReceiver sn limit key q ry
 unfolding stored quota
 kept_taken sn limit key p q rx ry packet o r is after same parked counted given old = shown r is after same
   where
-    stays : (ry ≡ rx) × (q ≡ p) → IsDownlink sn limit key q ry
-    stays s = subst (λ (y : PoolState). IsDownlink sn limit key y ry) (sym s.1) (subst (λ (x : RxState). IsDownlink sn limit key p x) (sym s.0) old)
+    stays : (ry ≡ rx) × (q ≡ p) → IsReceiver sn limit key q ry
+    stays s = subst (λ (y : PoolState). IsReceiver sn limit key y ry) (sym s.1) (subst (λ (x : RxState). IsReceiver sn limit key p x) (sym s.0) old)
 
     by : (count : Option ℕ) (s : Bool) → answer count s ≡ taking rx o
         → IfSome (cond s count None) (λ c. (place : ℕ) × (ry ≡ record rx { receiver = stored rx.receiver c place }) × Puts packet (c, place) p q)
         → IfNone (cond s count None) ((ry ≡ rx) × (q ≡ p))
-        → IsDownlink sn limit key q ry
+        → IsReceiver sn limit key q ry
     by None true is after same = absurd (has_count rx o is)
     by (Some c) true is after same =
         let place = after.0 in
@@ -253,7 +253,7 @@ kept_taken sn limit key p q rx ry packet o r is after same parked counted given 
     shown : (r : Result Taken Ahead) → r ≡ taking rx o
         → IfSome (stored_count r) (λ c. (place : ℕ) × (ry ≡ record rx { receiver = stored rx.receiver c place }) × Puts packet (c, place) p q)
         → IfNone (stored_count r) ((ry ≡ rx) × (q ≡ p))
-        → IsDownlink sn limit key q ry
+        → IsReceiver sn limit key q ry
     shown (Ok t) is after same = by t.count t.stored is after same
     shown (Err e) is after same = stays same
 
@@ -332,7 +332,7 @@ bits_in p rx = bits_mapped (octets_at p) (rx.receiver.deliv + 1) rx.receiver.sto
 pub kept_delivered : (sn : SnBits) (limit : ℕ) (key : EntityKey) (p q s : PoolState) (rx ry : RxState) (e : ℕ × ℕ) (r : ℕ)
     → handed_up rx ≡ Some e → ry ≡ record rx { receiver = advanced rx.receiver } → Unparks r e p q
     → IsSome (packet_of q r) → s ≡ without_packet q r → AreParked q ry.receiver.stored
-    → IsPool 2048 q → IsDownlink sn limit key p rx → IsDownlink sn limit key s ry
+    → IsPool 2048 q → IsReceiver sn limit key p rx → IsReceiver sn limit key s ry
 unfolding quota used receiver_in
 kept_delivered sn limit key p q s rx ry e r is after unparks given taken parked sound old =
     let less = length_without q.refs r (held_found q r given) in
@@ -375,11 +375,11 @@ octets_are (Some x) bytes e = cc
 -- ---- a new one
 
 pub begins : (sn : SnBits) (limit : ℕ) (key : EntityKey) (p : PoolState) (rx : RxState) → 4 ≤ limit → limit ≤ 4096 → p ≡ with_quota (new_pool limit) key limit → rx ≡ new_rx sn 0 limit
-    → IsDownlink sn limit key p rx
+    → IsReceiver sn limit key p rx
 unfolding quota used receiver_in octets_in map_values
 begins sn limit key p rx least small pool entity =
-    subst (λ (q : PoolState). IsDownlink sn limit key q rx) (sym pool)
-    (subst (λ (x : RxState). IsDownlink sn limit key (with_quota (new_pool limit) key limit) x) (sym entity)
+    subst (λ (q : PoolState). IsReceiver sn limit key q rx) (sym pool)
+    (subst (λ (x : RxState). IsReceiver sn limit key (with_quota (new_pool limit) key limit) x) (sym entity)
     (record {
       sn_is = refl;
       quota_is = refl;
@@ -395,33 +395,33 @@ begins sn limit key p rx least small pool entity =
       ascending = tt;
     }))
 
-pub begins_seen : (sn : SnBits) (limit : ℕ) (p : PoolState) (rx : RxState) → rx ≡ new_rx sn 0 limit → downlink_state sn limit p rx ≡ new_downlink sn limit
+pub begins_seen : (sn : SnBits) (limit : ℕ) (p : PoolState) (rx : RxState) → rx ≡ new_rx sn 0 limit → receiver_state sn limit p rx ≡ new_receiver_state sn limit
 unfolding receiver_in octets_in map_values
-begins_seen sn limit p rx entity = ap (λ (x : RxState). downlink_state sn limit p x) entity
+begins_seen sn limit p rx entity = ap (λ (x : RxState). receiver_state sn limit p x) entity
 
 -- ---- the bearer's calls, seen from outside
 
-module _ (sn : SnBits) (limit : ℕ) (p : PoolState) (rx : RxState) (d : DownlinkState) (seen : downlink_state sn limit p rx ≡ d) where
+module _ (sn : SnBits) (limit : ℕ) (p : PoolState) (rx : RxState) (d : ReceiverState) (seen : receiver_state sn limit p rx ≡ d) where
   pub takes_seen : (q : PoolState) (ry : RxState) (number : ℕ) (packet : List ℕ) → rx.sn ≡ sn → rx.quota ≡ limit
       → (r : Result Taken Ahead) → r ≡ taken rx number
       → IfSome (stored_count r) (λ c. receiver_in q ry ≡ stored (receiver_in p rx) c packet)
       → IfNone (stored_count r) ((ry ≡ rx) × (q ≡ p))
       → (reception : Reception) → reception ≡ reception_of r
-      → with_state reception (downlink_state sn limit q ry) ≡ received d (near_count d.sn d.receiver.deliv number) packet
+      → with_state reception (receiver_state sn limit q ry) ≡ received d (near_count d.sn d.receiver.deliv number) packet
   unfolding taken receiver_in
   takes_seen q ry number packet sn_is limit_is r is after same reception reception_is =
-      ap (λ (x : Reception). with_state x (downlink_state sn limit q ry)) reception_is
-      ∙ subst (λ (e : DownlinkState). with_state (reception_of r) (downlink_state sn limit q ry) ≡ received e (near_count e.sn e.receiver.deliv number) packet) seen
+      ap (λ (x : Reception). with_state x (receiver_state sn limit q ry)) reception_is
+      ∙ subst (λ (e : ReceiverState). with_state (reception_of r) (receiver_state sn limit q ry) ≡ received e (near_count e.sn e.receiver.deliv number) packet) seen
       (subst
-      (λ (b : SnBits). with_state (reception_of r) (downlink_state sn limit q ry)
-      ≡ received (downlink_state sn limit p rx) (near_count b rx.receiver.deliv number) packet)
+      (λ (b : SnBits). with_state (reception_of r) (receiver_state sn limit q ry)
+      ≡ received (receiver_state sn limit p rx) (near_count b rx.receiver.deliv number) packet)
       sn_is (takes sn limit p q rx ry packet (near_count rx.sn rx.receiver.deliv number) limit_is r is after same))
 
   pub nothing_seen : (q : PoolState) (ry : RxState) → rx.frozen ≡ false → handed_up rx ≡ None → ry ≡ rx → q ≡ p
-      → (downlink_state sn limit q ry ≡ d) × (deliver d.receiver ≡ none_left d.receiver)
+      → (receiver_state sn limit q ry ≡ d) × (deliver d.receiver ≡ none_left d.receiver)
   nothing_seen q ry going none same_rx same_pool = (
-    ap (λ (x : RxState). downlink_state sn limit q x) same_rx ∙ (ap (λ (y : PoolState). downlink_state sn limit y rx) same_pool ∙ seen),
-    subst (λ (e : DownlinkState). deliver e.receiver ≡ none_left e.receiver) seen (nothing_more p rx going none),
+    ap (λ (x : RxState). receiver_state sn limit q x) same_rx ∙ (ap (λ (y : PoolState). receiver_state sn limit y rx) same_pool ∙ seen),
+    subst (λ (e : ReceiverState). deliver e.receiver ≡ none_left e.receiver) seen (nothing_more p rx going none),
   )
 
   pub delivered_seen : (q s : PoolState) (ry : RxState) (count r : ℕ) (bytes packet : List ℕ)
@@ -429,7 +429,7 @@ module _ (sn : SnBits) (limit : ℕ) (p : PoolState) (rx : RxState) (d : Downlin
       → option_map (λ x. x.bytes) (packet_of q r) ≡ Some bytes → packet ≡ bytes → IsSome (packet_of q r) → s ≡ without_packet q r
       → deliver d.receiver ≡ with_packet (count, packet) (deliver (receiver_in s ry))
   delivered_seen q s ry count r bytes packet octets bytes_are copied given spent =
-      sym (ap (λ (e : DownlinkState). deliver e.receiver) seen)
+      sym (ap (λ (e : ReceiverState). deliver e.receiver) seen)
       ∙ (octets
       ∙ (ap (λ (x : List ℕ). with_packet (count, x) (deliver (receiver_in q ry))) (octets_are (packet_of q r) bytes bytes_are ∙ sym copied)
       ∙ ap (λ (v : Receiver (List ℕ)). with_packet (count, packet) (deliver v))
@@ -438,13 +438,13 @@ module _ (sn : SnBits) (limit : ℕ) (p : PoolState) (rx : RxState) (d : Downlin
   pub fewer_seen : (s : PoolState) (ry : RxState) (e : ℕ × ℕ) → handed_up rx ≡ Some e → ry ≡ record rx { receiver = advanced rx.receiver }
       → length (receiver_in s ry).stored < length d.receiver.stored
   fewer_seen s ry e is after =
-      subst (λ (x : DownlinkState). length (receiver_in s ry).stored < length x.receiver.stored) seen (stored_fewer p s rx ry e is after)
+      subst (λ (x : ReceiverState). length (receiver_in s ry).stored < length x.receiver.stored) seen (stored_fewer p s rx ry e is after)
 
   pub reported : {E : Type 0} (r : Result (ℕ × List Bool) E) → IfOk r (λ x. (x.0 ≡ rx.receiver.deliv) × (x.1 ≡ received_bits rx.receiver))
       → IfOk r (λ x. (x.0 ≡ d.receiver.deliv) × (x.1 ≡ received_bits d.receiver))
   unfolding receiver_in
   reported (Ok x) h = (
-    h.0 ∙ ap (λ (e : DownlinkState). e.receiver.deliv) seen,
-    h.1 ∙ (sym (bits_in p rx) ∙ ap (λ (e : DownlinkState). received_bits e.receiver) seen),
+    h.0 ∙ ap (λ (e : ReceiverState). e.receiver.deliv) seen,
+    h.1 ∙ (sym (bits_in p rx) ∙ ap (λ (e : ReceiverState). received_bits e.receiver) seen),
   )
   reported (Err e) h = tt

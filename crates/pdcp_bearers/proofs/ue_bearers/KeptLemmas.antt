@@ -13,8 +13,8 @@ use Rattle.pdcp_defs.specs.pool_defs.Pools.{PoolState, quota, packet_at, with_qu
 use Rattle.pdcp_entities.specs.Bits.{bits_of}
 use Rattle.pdcp_entities.specs.Packets.{AreParked, HasNone, Frees, all_freed, octets_at, octets_in}
 use Rattle.pdcp_entities.specs.Entities.{TxState, new_tx, sender_in, confirmed_if, confirmed_number, confirmed_report, named_by_number, named_by_report, up_to}
-use Rattle.pdcp_bearers.specs.ue_bearers.Uplinks.{UplinkState, new_uplink, used as in_use, IsPacket}
-use Rattle.pdcp_bearers.specs.ue_bearers.inside.Views.{IsUplink, IsAscending, uplink_state}
+use Rattle.pdcp_bearers.specs.ue_bearers.Senders.{SenderState, new_sender_state, used as in_use, IsPacket}
+use Rattle.pdcp_bearers.specs.ue_bearers.inside.Views.{IsSender, IsAscending, sender_state}
 use Rattle.pdcp_bearers.proofs.ue_bearers.RefLemmas.{at_here}
 use Rattle.pdcp_bearers.proofs.ue_bearers.FreedLemmas.{pool_sole, all_freed_fewer}
 use Rattle.pdcp_bearers.proofs.ue_bearers.UpLemmas.{all_added, all_kept, ascending_kept}
@@ -25,11 +25,11 @@ sender next es = record { next = next; unconfirmed = es }
 -- ---- a new one
 
 pub begins : (sn : SnBits) (limit : ℕ) (key : EntityKey) (p : PoolState) (tx : TxState) → 4 ≤ limit → limit ≤ 4096
-    → p ≡ with_quota (new_pool limit) key limit → tx ≡ new_tx sn 0 limit → IsUplink sn limit key 0 p tx []
+    → p ≡ with_quota (new_pool limit) key limit → tx ≡ new_tx sn 0 limit → IsSender sn limit key 0 p tx []
 unfolding quota sender_in octets_in map_values
 begins sn limit key p tx least small pool entity =
-    subst (λ (q : PoolState). IsUplink sn limit key 0 q tx []) (sym pool)
-    (subst (λ (x : TxState). IsUplink sn limit key 0 (with_quota (new_pool limit) key limit) x []) (sym entity)
+    subst (λ (q : PoolState). IsSender sn limit key 0 q tx []) (sym pool)
+    (subst (λ (x : TxState). IsSender sn limit key 0 (with_quota (new_pool limit) key limit) x []) (sym entity)
     (record {
       sn_is = refl;
       quota_is = refl;
@@ -49,9 +49,9 @@ begins sn limit key p tx least small pool entity =
     }))
 
 pub begins_seen : (sn : SnBits) (limit : ℕ) (p : PoolState) (tx : TxState) → tx ≡ new_tx sn 0 limit
-    → uplink_state sn limit p tx [] ≡ new_uplink sn limit
+    → sender_state sn limit p tx [] ≡ new_sender_state sn limit
 unfolding sender_in octets_in map_values
-begins_seen sn limit p tx entity = ap (λ (x : TxState). uplink_state sn limit p x []) entity
+begins_seen sn limit p tx entity = ap (λ (x : TxState). sender_state sn limit p x []) entity
 
 -- ---- how much is used
 
@@ -64,25 +64,25 @@ pub held_length : (p : PoolState) (tx : TxState) → length (sender_in p tx).unc
 unfolding sender_in octets_in
 held_length p tx = length_mapped (octets_at p) tx.sender.unconfirmed
 
-pub used_seen : (sn : SnBits) (limit : ℕ) (p : PoolState) (tx : TxState) (waiting : List (List ℕ)) (d : UplinkState) → uplink_state sn limit p tx waiting ≡ d
+pub used_seen : (sn : SnBits) (limit : ℕ) (p : PoolState) (tx : TxState) (waiting : List (List ℕ)) (d : SenderState) → sender_state sn limit p tx waiting ≡ d
     → (held n : ℕ) → held ≡ length tx.sender.unconfirmed → n ≡ length waiting → held + n ≡ in_use d
 used_seen sn limit p tx waiting d seen held n held_is n_is =
     let same = held_length p tx in
-    let all : held + n ≡ in_use (uplink_state sn limit p tx waiting) = omega (arith, same, held_is, n_is) in
+    let all : held + n ≡ in_use (sender_state sn limit p tx waiting) = omega (arith, same, held_is, n_is) in
     all ∙ ap in_use seen
 
 -- ---- a packet waits
 
-module _ (sn : SnBits) (limit : ℕ) (key : EntityKey) (held : ℕ) (p : PoolState) (tx : TxState) (waiting : List (List ℕ)) (old : IsUplink sn limit key held p tx waiting) where
-  pub kept_offered : {X E : Type 0} (r : Result X E) (after : List (List ℕ)) (packet : List ℕ) (d : UplinkState)
-      → OnOk r (after ≡ waiting ++ packet ∷ []) → OnErr r (after ≡ waiting) → uplink_state sn limit p tx waiting ≡ d
-      → in_use d < d.quota → IsPacket packet → IsUplink sn limit key held p tx after
-  kept_offered (Err e) after packet d ok err seen room is_packet = subst (λ (w : List (List ℕ)). IsUplink sn limit key held p tx w) (sym err) old
+module _ (sn : SnBits) (limit : ℕ) (key : EntityKey) (held : ℕ) (p : PoolState) (tx : TxState) (waiting : List (List ℕ)) (old : IsSender sn limit key held p tx waiting) where
+  pub kept_offered : {X E : Type 0} (r : Result X E) (after : List (List ℕ)) (packet : List ℕ) (d : SenderState)
+      → OnOk r (after ≡ waiting ++ packet ∷ []) → OnErr r (after ≡ waiting) → sender_state sn limit p tx waiting ≡ d
+      → in_use d < d.quota → IsPacket packet → IsSender sn limit key held p tx after
+  kept_offered (Err e) after packet d ok err seen room is_packet = subst (λ (w : List (List ℕ)). IsSender sn limit key held p tx w) (sym err) old
   kept_offered (Ok x) after packet d ok err seen room is_packet =
-      let room_now : in_use (uplink_state sn limit p tx waiting) < limit = subst (λ (e : UplinkState). in_use e < e.quota) (sym seen) room in
+      let room_now : in_use (sender_state sn limit p tx waiting) < limit = subst (λ (e : SenderState). in_use e < e.quota) (sym seen) room in
       let same = held_length p tx in
       let held_is = old.held_is in
-      subst (λ (w : List (List ℕ)). IsUplink sn limit key held p tx w) (sym ok)
+      subst (λ (w : List (List ℕ)). IsSender sn limit key held p tx w) (sym ok)
       (record {
         sn_is = old.sn_is;
         quota_is = old.quota_is;
@@ -108,7 +108,7 @@ module _ (sn : SnBits) (limit : ℕ) (key : EntityKey) (held : ℕ) (p : PoolSta
       → count ≡ length (filter t tx.sender.unconfirmed) → Frees (filter t tx.sender.unconfirmed) p q
       → (sender_in q ty).unconfirmed ≡ filter v (sender_in p tx).unconfirmed
       → AreParked q ty.sender.unconfirmed → IsPool 2048 p
-      → IsUplink sn limit key (held - count) q ty waiting
+      → IsSender sn limit key (held - count) q ty waiting
   unfolding quota
   kept_freed t u v other q ty count after count_is frees octets parked sound =
       let es = tx.sender.unconfirmed in
@@ -165,7 +165,7 @@ module _ (sn : SnBits) (limit : ℕ) (key : EntityKey) (held : ℕ) (p : PoolSta
   pub kept_confirmed : (q : PoolState) (ty : TxState) (number count : ℕ) → ty ≡ record tx { sender = confirmed_number tx.sn tx.sender number }
       → count ≡ length (named_by_number tx.sn tx.sender number) → Frees (named_by_number tx.sn tx.sender number) p q
       → sender_in q ty ≡ confirmed_number tx.sn (sender_in p tx) number → AreParked q ty.sender.unconfirmed → IsPool 2048 p
-      → (count ≤ held) × IsUplink sn limit key (held - count) q ty waiting
+      → (count ≤ held) × IsSender sn limit key (held - count) q ty waiting
   unfolding confirmed_number named_by_number confirmed_to sender_in
   kept_confirmed q ty number count after count_is frees octets parked sound =
       by (count_below tx.sn tx.sender.next number) after count_is frees (ap (λ (s : Sender (List ℕ)). s.unconfirmed) octets)
@@ -185,7 +185,7 @@ module _ (sn : SnBits) (limit : ℕ) (key : EntityKey) (held : ℕ) (p : PoolSta
       by : (o : Option ℕ) → ty ≡ record tx { sender = confirmed_if tx.sender o } → count ≡ length (up_to o tx.sender.unconfirmed)
           → Frees (up_to o tx.sender.unconfirmed) p q
           → (sender_in q ty).unconfirmed ≡ (confirmed_if (sender_in p tx) o).unconfirmed
-          → (count ≤ held) × IsUplink sn limit key (held - count) q ty waiting
+          → (count ≤ held) × IsSender sn limit key (held - count) q ty waiting
       by None after count_is frees octets =
           let es = tx.sender.unconfirmed in
           let none = none_is es in
@@ -205,7 +205,7 @@ module _ (sn : SnBits) (limit : ℕ) (key : EntityKey) (held : ℕ) (p : PoolSta
   pub kept_reported : (q : PoolState) (ty : TxState) (fmc : ℕ) (bits : List ℕ) (count : ℕ) → ty ≡ record tx { sender = confirmed_report tx.sender fmc bits }
       → count ≡ length (named_by_report tx.sender fmc bits) → Frees (named_by_report tx.sender fmc bits) p q
       → sender_in q ty ≡ confirmed_report (sender_in p tx) fmc bits → AreParked q ty.sender.unconfirmed → IsPool 2048 p
-      → (count ≤ held) × IsUplink sn limit key (held - count) q ty waiting
+      → (count ≤ held) × IsSender sn limit key (held - count) q ty waiting
   unfolding confirmed_report named_by_report confirmed_by
   kept_reported q ty fmc bits count after count_is frees octets parked sound = (
     count_within (λ e. is_reported fmc (bits_of bits) e.0) (λ e. not (is_reported fmc (bits_of bits) e.0)) (λ e. refl) count count_is,

@@ -15,9 +15,9 @@ use Rattle.pdcp_entities.specs.declared.tx.NumberError.TheVariants as refusals
 use Rattle.pdcp_entities.specs.Packets.{AreParked, Parks, bytes_of}
 use Rattle.pdcp_entities.specs.Entities.{TxState, sender_in, refuses_number}
 use Rattle.unit_messages.specs.declared.steps.StepError.{StepError}
-use Rattle.pdcp_bearers.specs.declared.ue_bearers.uplink.Counted.{Counted}
-use Rattle.pdcp_bearers.specs.ue_bearers.Uplinks.{UplinkState, Numbering, numbers, stays, ends, numbering, numbering_of, refusal, IsCounting, IsPacket}
-use Rattle.pdcp_bearers.specs.ue_bearers.inside.Views.{IsUplink, IsAscending, uplink_state}
+use Rattle.pdcp_bearers.specs.declared.ue_bearers.sender.Counted.{Counted}
+use Rattle.pdcp_bearers.specs.ue_bearers.Senders.{SenderState, Numbering, numbers, stays, ends, numbering, numbering_of, refusal, IsCounting, IsPacket}
+use Rattle.pdcp_bearers.specs.ue_bearers.inside.Views.{IsSender, IsAscending, sender_state}
 use Rattle.pdcp_bearers.proofs.ue_bearers.UpLemmas.{up, numbers_now, ends_now, stays_now, never_frozen, given_below, all_added, all_weaker, ascending_added}
 use Rattle.pdcp_bearers.proofs.ue_bearers.PutLemmas.{never_full_with, parked_with, given_with, more_with, seen_with, bytes_with, kept_spent, seen_spent}
 
@@ -32,7 +32,7 @@ front x (y ∷ rest) e = let same : x ≡ y = cc in (rest, ap (λ (z : List ℕ)
 same_front : (x y : List ℕ) (w after : List (List ℕ)) → Some x ≡ first_item w → w ≡ y ∷ after → y ≡ x
 same_front x y w after head is = let e : Some x ≡ Some y = head ∙ ap (λ (v : List (List ℕ)). first_item v) is in cc
 
-module _ (sn : SnBits) (limit : ℕ) (key : EntityKey) (held : ℕ) (p : PoolState) (tx : TxState) (waiting : List (List ℕ)) (old : IsUplink sn limit key held p tx waiting)
+module _ (sn : SnBits) (limit : ℕ) (key : EntityKey) (held : ℕ) (p : PoolState) (tx : TxState) (waiting : List (List ℕ)) (old : IsSender sn limit key held p tx waiting)
     (x : List ℕ) (head : Some x ≡ first_item waiting) where
   room_for : held < limit
   room_for =
@@ -63,30 +63,30 @@ module _ (sn : SnBits) (limit : ℕ) (key : EntityKey) (held : ℕ) (p : PoolSta
 
     -- the packet is given up again
     module _ (q' s : PoolState) (r' : ℕ) (ty : TxState) (r_is : r' ≡ r) (ty_is : ty ≡ tx) (q_is : q' ≡ q) (spent : s ≡ without_packet q' r') where
-      pub kept_refused : IsUplink sn limit key held s ty waiting
+      pub kept_refused : IsSender sn limit key held s ty waiting
       kept_refused = kept_spent sn limit key held p tx waiting old x r b b_is sound fresh q put_is q' s r' ty r_is ty_is q_is spent
 
-      refused_seen : (d : UplinkState) → uplink_state sn limit p tx waiting ≡ d → uplink_state sn limit s ty waiting ≡ d
+      refused_seen : (d : SenderState) → sender_state sn limit p tx waiting ≡ d → sender_state sn limit s ty waiting ≡ d
       refused_seen d seen = seen_spent sn limit key held p tx waiting old x r b b_is sound fresh q put_is q' s r' ty r_is ty_is q_is spent d seen
 
-      pub refused_is : (d : UplinkState) → uplink_state sn limit p tx waiting ≡ d → (error : NumberError) → refuses_number tx ≡ Some error
+      pub refused_is : (d : SenderState) → sender_state sn limit p tx waiting ≡ d → (error : NumberError) → refuses_number tx ≡ Some error
           → (result : Result (Option Counted) StepError) → result ≡ refusal error
-          → IsCounting (numbering d) d (uplink_state sn limit s ty waiting) result
+          → IsCounting (numbering d) d (sender_state sn limit s ty waiting) result
       refused_is d seen error why result result_is =
-          subst (λ (a : Result (Option Counted) StepError). IsCounting (numbering d) d (uplink_state sn limit s ty waiting) a) (sym result_is) (by error why)
+          subst (λ (a : Result (Option Counted) StepError). IsCounting (numbering d) d (sender_state sn limit s ty waiting) a) (sym result_is) (by error why)
         where
           f : Front x waiting
           f = front x waiting head
 
           is_now : (n : Numbering) → numbering_of (up tx.sn tx.quota (sender_in p tx) (x ∷ f.0)) (x ∷ f.0) ≡ n → numbering d ≡ n
           is_now n e =
-              sym (ap (λ (u : UplinkState). numbering u) seen)
+              sym (ap (λ (u : SenderState). numbering u) seen)
               ∙ (ap (λ (w : List (List ℕ)). numbering (up sn limit (sender_in p tx) w)) f.1
               ∙ (sym
               (ap (λ (k : SnBits). numbering (up k limit (sender_in p tx) (x ∷ f.0))) old.sn_is)
               ∙ (sym (ap (λ (m : ℕ). numbering (up tx.sn m (sender_in p tx) (x ∷ f.0))) old.quota_is) ∙ e)))
 
-          by : (e : NumberError) → refuses_number tx ≡ Some e → IsCounting (numbering d) d (uplink_state sn limit s ty waiting) (refusal e)
+          by : (e : NumberError) → refuses_number tx ≡ Some e → IsCounting (numbering d) d (sender_state sn limit s ty waiting) (refusal e)
           by refusals.CountSpent why = (is_now ends (ends_now p tx old.frozen x f.0 why), refl, refused_seen d seen)
           by refusals.WindowFull why = (is_now stays (stays_now p tx old.frozen x f.0 why), refused_seen d seen)
           by refusals.Frozen why = absurd (never_frozen tx old.frozen why)
@@ -99,7 +99,7 @@ module _ (sn : SnBits) (limit : ℕ) (key : EntityKey) (held : ℕ) (p : PoolSta
       octets_now : sender_in q' ty ≡ numbered (sender_in p tx) x
       octets_now = octets ∙ (ap (λ (z : Sender (List ℕ)). numbered z (bytes_of (packet_of q r))) put_seen ∙ ap (λ (v : List ℕ). numbered (sender_in p tx) v) put_bytes)
 
-      pub kept_numbered : IsUplink sn limit key (held + 1) q' ty after
+      pub kept_numbered : IsSender sn limit key (held + 1) q' ty after
       unfolding quota numbered
       kept_numbered =
           let es = tx.sender.unconfirmed in
@@ -138,13 +138,13 @@ module _ (sn : SnBits) (limit : ℕ) (key : EntityKey) (held : ℕ) (p : PoolSta
             waiting_packets = packets_then.1;
           }
 
-      pub numbered_is : (d : UplinkState) → uplink_state sn limit p tx waiting ≡ d → (count : ℕ) → count ≡ tx.sender.next
-          → (numbering d ≡ numbers count y (uplink_state sn limit q' ty after)) × IsPacket y
+      pub numbered_is : (d : SenderState) → sender_state sn limit p tx waiting ≡ d → (count : ℕ) → count ≡ tx.sender.next
+          → (numbering d ≡ numbers count y (sender_state sn limit q' ty after)) × IsPacket y
       numbered_is d seen count count_is =
           let y_is = same_front x y waiting after head taken in
           let packets_then = subst (λ (w : List (List ℕ)). AllByRecursion (λ v. IsPacket v) w) taken old.waiting_packets in
           let w_is : waiting ≡ x ∷ after = taken ∙ ap (λ (v : List ℕ). v ∷ after) y_is in (
-            sym (ap (λ (u : UplinkState). numbering u) seen)
+            sym (ap (λ (u : SenderState). numbering u) seen)
                 ∙ (ap (λ (w : List (List ℕ)). numbering (up sn limit (sender_in p tx) w)) w_is
                 ∙ (sym (ap (λ (k : SnBits). numbering (up k limit (sender_in p tx) (x ∷ after))) old.sn_is)
                 ∙ (sym (ap (λ (m : ℕ). numbering (up tx.sn m (sender_in p tx) (x ∷ after))) old.quota_is)
@@ -153,6 +153,6 @@ module _ (sn : SnBits) (limit : ℕ) (key : EntityKey) (held : ℕ) (p : PoolSta
                 ∙ (ap (λ (k : SnBits). numbers count x (up k tx.quota (numbered (sender_in p tx) x) after)) old.sn_is
                 ∙ (ap (λ (m : ℕ). numbers count x (up sn m (numbered (sender_in p tx) x) after)) old.quota_is
                 ∙ (sym (ap (λ (s : Sender (List ℕ)). numbers count x (up sn limit s after)) octets_now)
-                ∙ sym (ap (λ (v : List ℕ). numbers count v (uplink_state sn limit q' ty after)) y_is))))))))),
+                ∙ sym (ap (λ (v : List ℕ). numbers count v (sender_state sn limit q' ty after)) y_is))))))))),
             packets_then.0,
           )

@@ -13,13 +13,13 @@ use Rattle.pdcp_defs.proofs.pool_defs.PoolLaws.{packet_of_put, packet_at_put, pa
 use Rattle.pdcp_entities.specs.Packets.{AreParked, bytes_of}
 use Rattle.pdcp_entities.specs.Entities.{TxState, sender_in}
 use Rattle.pdcp_entities.proofs.ParkLemmas.{AllSame, octets_same, parked_put, parked_taken}
-use Rattle.pdcp_bearers.specs.ue_bearers.Uplinks.{UplinkState, IsPacket}
-use Rattle.pdcp_bearers.specs.ue_bearers.inside.Views.{IsUplink, uplink_state}
+use Rattle.pdcp_bearers.specs.ue_bearers.Senders.{SenderState, IsPacket}
+use Rattle.pdcp_bearers.specs.ue_bearers.inside.Views.{IsSender, sender_state}
 use Rattle.pdcp_bearers.proofs.ue_bearers.RefLemmas.{length_put, length_without, held_found, used_few}
 use Rattle.pdcp_bearers.proofs.ue_bearers.UpLemmas.{up}
 use Rattle.pdcp_bearers.proofs.ue_bearers.KeptLemmas.{sender}
 
-module _ (sn : SnBits) (limit : ℕ) (key : EntityKey) (held : ℕ) (p : PoolState) (tx : TxState) (waiting : List (List ℕ)) (old : IsUplink sn limit key held p tx waiting) where
+module _ (sn : SnBits) (limit : ℕ) (key : EntityKey) (held : ℕ) (p : PoolState) (tx : TxState) (waiting : List (List ℕ)) (old : IsSender sn limit key held p tx waiting) where
   -- fewer packets than the quota leave a block
   pub never_full_with : held < limit → used p key ≡ quota p key → ⊥
   never_full_with free full =
@@ -71,14 +71,14 @@ module _ (sn : SnBits) (limit : ℕ) (key : EntityKey) (held : ℕ) (p : PoolSta
       unfolding sender_in
       spent_seen = ap (λ (es : List (ℕ × List ℕ)). sender tx.sender.next es) (octets_same p s tx.sender.unconfirmed (spent_same tx.sender.unconfirmed))
 
-      pub kept_spent : IsUplink sn limit key held s ty waiting
+      pub kept_spent : IsSender sn limit key held s ty waiting
       unfolding quota
       kept_spent =
           let less = length_without q.refs r (held_found q r given_with) in
           let refs : length s.refs ≡ length (without nat_cmp q.refs r) = ap (λ (y : PoolState). length y.refs) spent_is in
           let more = more_with in
           let few = old.few in
-          subst (λ (t : TxState). IsUplink sn limit key held s t waiting) (sym ty_is)
+          subst (λ (t : TxState). IsSender sn limit key held s t waiting) (sym ty_is)
           (record {
             sn_is = old.sn_is;
             quota_is = old.quota_is;
@@ -97,7 +97,7 @@ module _ (sn : SnBits) (limit : ℕ) (key : EntityKey) (held : ℕ) (p : PoolSta
             waiting_packets = old.waiting_packets;
           })
 
-      pub seen_spent : (d : UplinkState) → uplink_state sn limit p tx waiting ≡ d → uplink_state sn limit s ty waiting ≡ d
+      pub seen_spent : (d : SenderState) → sender_state sn limit p tx waiting ≡ d → sender_state sn limit s ty waiting ≡ d
       seen_spent d seen =
-          ap (λ (t : TxState). uplink_state sn limit s t waiting) ty_is
+          ap (λ (t : TxState). sender_state sn limit s t waiting) ty_is
           ∙ (ap (λ (z : Sender (List ℕ)). up sn limit z waiting) spent_seen ∙ seen)

@@ -12,8 +12,8 @@ use Rattle.pdcp_defs.specs.Senders.{Sender, last_of, is_above, window, may_resto
 use Rattle.pdcp_defs.specs.pool_defs.Pools.{PoolState, quota, packet_of, with_packet, IsPool}
 use Rattle.pdcp_entities.specs.Packets.{AreParked, Parks, Frees, all_freed, bytes_of, octets_at, octets_in}
 use Rattle.pdcp_entities.specs.Entities.{TxState, new_tx, sender_in}
-use Rattle.pdcp_bearers.specs.ue_bearers.Uplinks.{UplinkState, used as in_use, IsPacket}
-use Rattle.pdcp_bearers.specs.ue_bearers.inside.Views.{IsUplink, IsAscending, uplink_state}
+use Rattle.pdcp_bearers.specs.ue_bearers.Senders.{SenderState, used as in_use, IsPacket}
+use Rattle.pdcp_bearers.specs.ue_bearers.inside.Views.{IsSender, IsAscending, sender_state}
 use Rattle.pdcp_bearers.proofs.ue_bearers.UpLemmas.{up, all_added, ascending_added}
 use Rattle.pdcp_bearers.proofs.ue_bearers.KeptLemmas.{used_seen, held_length}
 use Rattle.pdcp_bearers.proofs.ue_bearers.FreedLemmas.{pool_sole, all_freed_fewer}
@@ -74,18 +74,18 @@ may_in p tx count =
     ap (λ (o : Option ℕ). nat_le (tx.sender.next - window tx.sn tx.quota) count && nat_lt count tx.sender.next && is_above count o)
     (last_mapped (octets_at p) None tx.sender.unconfirmed)
 
-module _ (sn : SnBits) (limit : ℕ) (key : EntityKey) (held : ℕ) (p : PoolState) (tx : TxState) (waiting : List (List ℕ)) (old : IsUplink sn limit key held p tx waiting)
-    (d : UplinkState) (seen : uplink_state sn limit p tx waiting ≡ d) (free : in_use d < d.quota) where
+module _ (sn : SnBits) (limit : ℕ) (key : EntityKey) (held : ℕ) (p : PoolState) (tx : TxState) (waiting : List (List ℕ)) (old : IsSender sn limit key held p tx waiting)
+    (d : SenderState) (seen : sender_state sn limit p tx waiting ≡ d) (free : in_use d < d.quota) where
   pub room_with : held < limit
   room_with =
       let used : held + length waiting ≡ in_use d = used_seen sn limit p tx waiting d seen held (length waiting) old.held_is refl in
-      let limit_is : limit ≡ d.quota = ap (λ (u : UplinkState). u.quota) seen in
+      let limit_is : limit ≡ d.quota = ap (λ (u : SenderState). u.quota) seen in
       omega (arith, used, limit_is, free)
 
   room_all : held + length waiting < limit
   room_all =
       let used : held + length waiting ≡ in_use d = used_seen sn limit p tx waiting d seen held (length waiting) old.held_is refl in
-      let limit_is : limit ≡ d.quota = ap (λ (u : UplinkState). u.quota) seen in
+      let limit_is : limit ≡ d.quota = ap (λ (u : SenderState). u.quota) seen in
       omega (arith, used, limit_is, free)
 
   pub may_seen : (count : ℕ) → may_restore tx.sn tx.quota tx.sender count ≡ may_restore d.sn d.quota d.sender count
@@ -93,7 +93,7 @@ module _ (sn : SnBits) (limit : ℕ) (key : EntityKey) (held : ℕ) (p : PoolSta
       sym (may_in p tx count)
       ∙ (ap (λ (s : SnBits). may_restore s tx.quota (sender_in p tx) count) old.sn_is
       ∙ (ap (λ (q : ℕ). may_restore sn q (sender_in p tx) count) old.quota_is
-      ∙ ap (λ (u : UplinkState). may_restore u.sn u.quota u.sender count) seen))
+      ∙ ap (λ (u : SenderState). may_restore u.sn u.quota u.sender count) seen))
 
   module _ (x : List ℕ) (is_packet : IsPacket x) (r : ℕ) (b : List ℕ) (b_is : b ≡ x) (sound : IsPool 2048 p) (fresh : find nat_cmp p.refs r ≡ None) (q : PoolState)
       (put_is : q ≡ with_packet p r (record { key = key; bytes = b })) (q' : PoolState) (ty : TxState) (place count : ℕ)
@@ -106,12 +106,12 @@ module _ (sn : SnBits) (limit : ℕ) (key : EntityKey) (held : ℕ) (p : PoolSta
         ∙ (ap (λ (z : Sender (List ℕ)). restored z count (bytes_of (packet_of q r))) (seen_with sn limit key held p tx waiting old x r b b_is sound fresh q put_is)
         ∙ ap (λ (v : List ℕ). restored (sender_in p tx) count v) (bytes_with sn limit key held p tx waiting old x r b b_is sound fresh q put_is))
 
-    pub restored_seen : uplink_state sn limit q' ty waiting ≡ record d { sender = restored d.sender count x }
+    pub restored_seen : sender_state sn limit q' ty waiting ≡ record d { sender = restored d.sender count x }
     restored_seen =
         ap (λ (z : Sender (List ℕ)). up sn limit z waiting) octets_now
-        ∙ ap (λ (u : UplinkState). record u { sender = restored u.sender count x }) seen
+        ∙ ap (λ (u : SenderState). record u { sender = restored u.sender count x }) seen
 
-    pub kept_restored : IsUplink sn limit key (held + 1) q' ty waiting
+    pub kept_restored : IsSender sn limit key (held + 1) q' ty waiting
     unfolding quota restored
     kept_restored =
         let es = tx.sender.unconfirmed in
@@ -148,8 +148,8 @@ module _ (sn : SnBits) (limit : ℕ) (key : EntityKey) (held : ℕ) (p : PoolSta
 
 -- ---- what is held is given up, and another first COUNT
 
-module _ (sn : SnBits) (limit : ℕ) (key : EntityKey) (held : ℕ) (p : PoolState) (tx : TxState) (waiting : List (List ℕ)) (old : IsUplink sn limit key held p tx waiting) where
-  pub none_waits : IsUplink sn limit key held p tx []
+module _ (sn : SnBits) (limit : ℕ) (key : EntityKey) (held : ℕ) (p : PoolState) (tx : TxState) (waiting : List (List ℕ)) (old : IsSender sn limit key held p tx waiting) where
+  pub none_waits : IsSender sn limit key held p tx []
   none_waits =
       let room = old.room in
       record {
@@ -171,12 +171,12 @@ module _ (sn : SnBits) (limit : ℕ) (key : EntityKey) (held : ℕ) (p : PoolSta
       }
 
   pub kept_begun : (ty : TxState) (next : ℕ) → tx.sender.unconfirmed ≡ [] → ty ≡ new_tx sn next limit → next < 2 ^ 32
-      → IsUplink sn limit key held p ty waiting
+      → IsSender sn limit key held p ty waiting
   unfolding sender_in octets_in map_values
   kept_begun ty next none after fits =
       let size : length tx.sender.unconfirmed ≡ 0 = ap (λ (es : List (ℕ × ℕ)). length es) none in
       let held_is = old.held_is in
-      subst (λ (t : TxState). IsUplink sn limit key held p t waiting) (sym after)
+      subst (λ (t : TxState). IsSender sn limit key held p t waiting) (sym after)
       (record {
         sn_is = refl;
         quota_is = refl;
@@ -196,14 +196,14 @@ module _ (sn : SnBits) (limit : ℕ) (key : EntityKey) (held : ℕ) (p : PoolSta
       })
 
   pub kept_cleared : (q : PoolState) (ty : TxState) → ty ≡ record tx { sender = emptied tx.sender } → Frees tx.sender.unconfirmed p q → IsPool 2048 p
-      → IsUplink sn limit key 0 q ty []
+      → IsSender sn limit key 0 q ty []
   unfolding quota sender_in octets_in map_values
   kept_cleared q ty after frees sound =
       let least = all_freed_fewer tx.sender.unconfirmed p (pool_sole 2048 p sound) old.parked.there old.parked.apart in
       let few = old.few in
       let held_is = old.held_is in
       let refs : length q.refs ≡ length (all_freed p tx.sender.unconfirmed).refs = ap (λ (x : PoolState). length x.refs) frees.pool in
-      subst (λ (t : TxState). IsUplink sn limit key 0 q t []) (sym after)
+      subst (λ (t : TxState). IsSender sn limit key 0 q t []) (sym after)
       (record {
         sn_is = old.sn_is;
         quota_is = old.quota_is;
@@ -222,28 +222,28 @@ module _ (sn : SnBits) (limit : ℕ) (key : EntityKey) (held : ℕ) (p : PoolSta
         waiting_packets = tt;
       })
 
-module _ (sn : SnBits) (limit : ℕ) (p : PoolState) (tx : TxState) (waiting : List (List ℕ)) (d : UplinkState) (seen : uplink_state sn limit p tx waiting ≡ d) where
+module _ (sn : SnBits) (limit : ℕ) (p : PoolState) (tx : TxState) (waiting : List (List ℕ)) (d : SenderState) (seen : sender_state sn limit p tx waiting ≡ d) where
   -- where nothing is unconfirmed the entity holds nothing
   pub none_inside : d.sender.unconfirmed ≡ [] → tx.sender.unconfirmed ≡ []
   none_inside none =
       nothing tx.sender.unconfirmed
-      (sym (held_length p tx) ∙ (ap (λ (u : UplinkState). length u.sender.unconfirmed) seen ∙ ap (λ (es : List (ℕ × List ℕ)). length es) none))
+      (sym (held_length p tx) ∙ (ap (λ (u : SenderState). length u.sender.unconfirmed) seen ∙ ap (λ (es : List (ℕ × List ℕ)). length es) none))
     where
       nothing : (es : List (ℕ × ℕ)) → length es ≡ 0 → es ≡ []
       nothing [] is = refl
       nothing (e ∷ es) is = absurd (omega (arith, is))
 
-  pub begun_seen : (ty : TxState) (next : ℕ) → ty ≡ new_tx sn next limit → uplink_state sn limit p ty waiting ≡ record d { sender = new_sender next }
+  pub begun_seen : (ty : TxState) (next : ℕ) → ty ≡ new_tx sn next limit → sender_state sn limit p ty waiting ≡ record d { sender = new_sender next }
   unfolding sender_in octets_in map_values
   begun_seen ty next after =
-      ap (λ (t : TxState). uplink_state sn limit p t waiting) after ∙ ap (λ (u : UplinkState). record u { sender = new_sender next }) seen
+      ap (λ (t : TxState). sender_state sn limit p t waiting) after ∙ ap (λ (u : SenderState). record u { sender = new_sender next }) seen
 
   pub cleared_seen : (q : PoolState) (ty : TxState) → ty ≡ record tx { sender = emptied tx.sender }
-      → uplink_state sn limit q ty [] ≡ record d { sender = emptied d.sender; waiting = [] }
+      → sender_state sn limit q ty [] ≡ record d { sender = emptied d.sender; waiting = [] }
   unfolding sender_in octets_in map_values
   cleared_seen q ty after =
-      ap (λ (t : TxState). uplink_state sn limit q t []) after ∙ ap (λ (u : UplinkState). record u { sender = emptied u.sender; waiting = [] }) seen
+      ap (λ (t : TxState). sender_state sn limit q t []) after ∙ ap (λ (u : SenderState). record u { sender = emptied u.sender; waiting = [] }) seen
 
   pub next_seen : tx.sender.next ≡ d.sender.next
   unfolding sender_in
-  next_seen = ap (λ (u : UplinkState). u.sender.next) seen
+  next_seen = ap (λ (u : SenderState). u.sender.next) seen

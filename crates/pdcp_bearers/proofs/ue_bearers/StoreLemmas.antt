@@ -16,18 +16,18 @@ use Rattle.pdcp_defs.specs.Receivers.{new_receiver, bits_from, received_bits}
 use Rattle.pdcp_defs.specs.pool_defs.Pools.{Stored, PoolState, quota, used, packet_by, packet_at, IsPool}
 use Rattle.pdcp_entities.specs.Packets.{Frees, all_freed, octets_at, octets_in}
 use Rattle.pdcp_entities.specs.Entities.{RxState, new_rx, receiver_in, cleared}
-use Rattle.pdcp_bearers.specs.ue_bearers.Uplinks.{from_on}
-use Rattle.pdcp_bearers.specs.ue_bearers.Downlinks.{DownlinkState}
-use Rattle.pdcp_bearers.specs.ue_bearers.inside.Views.{IsDownlink, downlink_state}
+use Rattle.pdcp_bearers.specs.ue_bearers.Senders.{from_on}
+use Rattle.pdcp_bearers.specs.ue_bearers.Receivers.{ReceiverState}
+use Rattle.pdcp_bearers.specs.ue_bearers.inside.Views.{IsReceiver, receiver_state}
 use Rattle.pdcp_bearers.proofs.ue_bearers.RefLemmas.{used_few}
 use Rattle.pdcp_bearers.proofs.ue_bearers.FreedLemmas.{pool_sole, all_freed_fewer}
 use Rattle.pdcp_bearers.proofs.ue_bearers.UpLemmas.{found_all, least_from, none_from}
 use Rattle.pdcp_bearers.proofs.ue_bearers.DownLemmas.{bits_in, stored_length, octets_are}
 
-pub deliv_seen : (sn : SnBits) (limit : ℕ) (p : PoolState) (rx : RxState) (d : DownlinkState) → downlink_state sn limit p rx ≡ d
+pub deliv_seen : (sn : SnBits) (limit : ℕ) (p : PoolState) (rx : RxState) (d : ReceiverState) → receiver_state sn limit p rx ≡ d
     → rx.receiver.deliv ≡ d.receiver.deliv
 unfolding receiver_in
-deliv_seen sn limit p rx d seen = ap (λ (e : DownlinkState). e.receiver.deliv) seen
+deliv_seen sn limit p rx d seen = ap (λ (e : ReceiverState). e.receiver.deliv) seen
 
 -- a bit for each COUNT below a bound, at most
 bits_most : (bound next : ℕ) (es : List (ℕ × ℕ)) → AllByRecursion (λ e. e.0 < bound) es → length (bits_from next es) ≤ bound - next
@@ -66,7 +66,7 @@ sized_at limit p place bytes sound is = by (find nat_cmp p.parked place) is
     by None h = absurd cc
     by (Some r) h = within_at limit p.refs r bytes sound.sized h
 
-module _ (sn : SnBits) (limit : ℕ) (key : EntityKey) (p : PoolState) (rx : RxState) (old : IsDownlink sn limit key p rx) where
+module _ (sn : SnBits) (limit : ℕ) (key : EntityKey) (p : PoolState) (rx : RxState) (old : IsReceiver sn limit key p rx) where
   -- as many references as packets are stored
   pub refs_are : IsPool 2048 p → length p.refs ≡ length rx.receiver.stored
   refs_are sound =
@@ -75,14 +75,14 @@ module _ (sn : SnBits) (limit : ℕ) (key : EntityKey) (p : PoolState) (rx : RxS
       omega (arith, least, few)
 
   pub kept_cleared : (q : PoolState) (ry : RxState) → ry ≡ record rx { receiver = cleared rx.receiver } → Frees rx.receiver.stored p q → IsPool 2048 p
-      → IsDownlink sn limit key q ry
+      → IsReceiver sn limit key q ry
   unfolding quota receiver_in octets_in map_values
   kept_cleared q ry after frees sound =
       let least = all_freed_fewer rx.receiver.stored p (pool_sole 2048 p sound) old.parked.there old.parked.apart in
       let few = old.few in
       let refs : length q.refs ≡ length (all_freed p rx.receiver.stored).refs = ap (λ (x : PoolState). length x.refs) frees.pool in
       let less = used_few q key in
-      subst (λ (x : RxState). IsDownlink sn limit key q x) (sym after)
+      subst (λ (x : RxState). IsReceiver sn limit key q x) (sym after)
       (record {
         sn_is = old.sn_is;
         quota_is = old.quota_is;
@@ -98,12 +98,12 @@ module _ (sn : SnBits) (limit : ℕ) (key : EntityKey) (p : PoolState) (rx : RxS
         ascending = tt;
       })
 
-  pub kept_begun : (ry : RxState) (deliv : ℕ) → rx.receiver.stored ≡ [] → ry ≡ new_rx sn deliv limit → IsDownlink sn limit key p ry
+  pub kept_begun : (ry : RxState) (deliv : ℕ) → rx.receiver.stored ≡ [] → ry ≡ new_rx sn deliv limit → IsReceiver sn limit key p ry
   unfolding receiver_in octets_in map_values
   kept_begun ry deliv none after =
       let few = old.few in
       let size : length rx.receiver.stored ≡ 0 = ap (λ (es : List (ℕ × ℕ)). length es) none in
-      subst (λ (x : RxState). IsDownlink sn limit key p x) (sym after)
+      subst (λ (x : RxState). IsReceiver sn limit key p x) (sym after)
       (record {
         sn_is = refl;
         quota_is = refl;
@@ -127,31 +127,31 @@ module _ (sn : SnBits) (limit : ℕ) (key : EntityKey) (p : PoolState) (rx : RxS
       let small = old.small in
       omega (arith, most, small)
 
-  module _ (d : DownlinkState) (seen : downlink_state sn limit p rx ≡ d) where
+  module _ (d : ReceiverState) (seen : receiver_state sn limit p rx ≡ d) where
     pub length_seen : (n : ℕ) → n ≡ used p key → IsPool 2048 p → n ≡ length d.receiver.stored
     length_seen n n_is sound =
-        n_is ∙ (old.own ∙ (refs_are sound ∙ (sym (stored_length p rx) ∙ ap (λ (e : DownlinkState). length e.receiver.stored) seen)))
+        n_is ∙ (old.own ∙ (refs_are sound ∙ (sym (stored_length p rx) ∙ ap (λ (e : ReceiverState). length e.receiver.stored) seen)))
 
     pub short_seen : length (received_bits d.receiver) ≤ 4096
     unfolding receiver_in
     short_seen =
-        subst (λ (bs : List Bool). length bs ≤ 4096) (sym (bits_in p rx) ∙ ap (λ (e : DownlinkState). received_bits e.receiver) seen) bits_short
+        subst (λ (bs : List Bool). length bs ≤ 4096) (sym (bits_in p rx) ∙ ap (λ (e : ReceiverState). received_bits e.receiver) seen) bits_short
 
-    pub begun_seen : (ry : RxState) (deliv : ℕ) → ry ≡ new_rx sn deliv limit → downlink_state sn limit p ry ≡ record d { receiver = new_receiver deliv }
+    pub begun_seen : (ry : RxState) (deliv : ℕ) → ry ≡ new_rx sn deliv limit → receiver_state sn limit p ry ≡ record d { receiver = new_receiver deliv }
     unfolding receiver_in octets_in map_values
     begun_seen ry deliv after =
-        ap (λ (x : RxState). downlink_state sn limit p x) after ∙ ap (λ (e : DownlinkState). record e { receiver = new_receiver deliv }) seen
+        ap (λ (x : RxState). receiver_state sn limit p x) after ∙ ap (λ (e : ReceiverState). record e { receiver = new_receiver deliv }) seen
 
     pub cleared_seen : (q : PoolState) (ry : RxState) → ry ≡ record rx { receiver = cleared rx.receiver }
-        → downlink_state sn limit q ry ≡ record d { receiver = record d.receiver { stored = [] } }
+        → receiver_state sn limit q ry ≡ record d { receiver = record d.receiver { stored = [] } }
     unfolding receiver_in octets_in map_values
     cleared_seen q ry after =
-        ap (λ (x : RxState). downlink_state sn limit q x) after ∙ ap (λ (e : DownlinkState). record e { receiver = record e.receiver { stored = [] } }) seen
+        ap (λ (x : RxState). receiver_state sn limit q x) after ∙ ap (λ (e : ReceiverState). record e { receiver = record e.receiver { stored = [] } }) seen
 
     -- where nothing is stored the entity stores nothing
     pub none_inside : d.receiver.stored ≡ [] → rx.receiver.stored ≡ []
     none_inside none =
-        nothing rx.receiver.stored (sym (stored_length p rx) ∙ ap (λ (e : DownlinkState). length e.receiver.stored) seen ∙ ap (λ (es : List (ℕ × List ℕ)). length es) none)
+        nothing rx.receiver.stored (sym (stored_length p rx) ∙ ap (λ (e : ReceiverState). length e.receiver.stored) seen ∙ ap (λ (es : List (ℕ × List ℕ)). length es) none)
       where
         nothing : (es : List (ℕ × ℕ)) → length es ≡ 0 → es ≡ []
         nothing [] is = refl
@@ -161,7 +161,7 @@ module _ (sn : SnBits) (limit : ℕ) (key : EntityKey) (p : PoolState) (rx : RxS
       pub none_stored : find_first (λ x. nat_le from x.0) rx.receiver.stored ≡ None → from_on from d.receiver.stored ≡ []
       unfolding receiver_in octets_in
       none_stored none =
-          subst (λ (e : DownlinkState). from_on from e.receiver.stored ≡ []) seen (none_from (octets_at p) from rx.receiver.stored none)
+          subst (λ (e : ReceiverState). from_on from e.receiver.stored ≡ []) seen (none_from (octets_at p) from rx.receiver.stored none)
 
       module _ (e : ℕ × ℕ) (is : find_first (λ x. nat_le from x.0) rx.receiver.stored ≡ Some e) where
         pub parked_stored : IsSome (packet_at p e.1)
@@ -174,7 +174,7 @@ module _ (sn : SnBits) (limit : ℕ) (key : EntityKey) (p : PoolState) (rx : RxS
             let f = octets_at p in
             let es = rx.receiver.stored in
             let same : f e.1 ≡ bytes = octets_are (packet_at p e.1) bytes bytes_are in (
-              subst (λ (x : DownlinkState). from_on from x.receiver.stored ≡ (e.0, bytes) ∷ from_on (e.0 + 1) x.receiver.stored) seen
+              subst (λ (x : ReceiverState). from_on from x.receiver.stored ≡ (e.0, bytes) ∷ from_on (e.0 + 1) x.receiver.stored) seen
                   (subst (λ (b : List ℕ). from_on from (map_values f es) ≡ (e.0, b) ∷ from_on (e.0 + 1) (map_values f es)) same (least_from f from es e old.ascending is)),
               sized_at 2048 p e.1 bytes sound bytes_are,
               found_all (λ x. x.0 < 2 ^ 32 - 1) from es e old.fits is,

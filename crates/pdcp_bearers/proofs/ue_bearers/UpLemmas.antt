@@ -13,7 +13,7 @@ use Rattle.pdcp_entities.specs.declared.tx.NumberError.{NumberError}
 use Rattle.pdcp_entities.specs.declared.tx.NumberError.TheVariants as errors
 use Rattle.pdcp_entities.specs.Packets.{octets_at, octets_in}
 use Rattle.pdcp_entities.specs.Entities.{TxState, sender_in, refuses_number}
-use Rattle.pdcp_bearers.specs.ue_bearers.Uplinks.{UplinkState, Numbering, numbers, stays, ends, numbering_of, from_on}
+use Rattle.pdcp_bearers.specs.ue_bearers.Senders.{SenderState, Numbering, numbers, stays, ends, numbering_of, from_on}
 use Rattle.pdcp_bearers.specs.ue_bearers.inside.Views.{IsAscending}
 
 -- ---- the window, seen with octets
@@ -32,7 +32,7 @@ next_in : (p : PoolState) (tx : TxState) → (sender_in p tx).next ≡ tx.sender
 unfolding sender_in
 next_in p tx = refl
 
-abbrev pub up : SnBits → ℕ → Sender (List ℕ) → List (List ℕ) → UplinkState
+abbrev pub up : SnBits → ℕ → Sender (List ℕ) → List (List ℕ) → SenderState
 up sn quota sender waiting = record { sn = sn; quota = quota; sender = sender; waiting = waiting }
 
 -- what becomes of the packet that waits longest, by what the entity refuses

@@ -30,25 +30,25 @@ use Rattle.unit_messages.specs.steps.Steps.{Step, stepped, stopped, step_after, 
 use Rattle.unit_messages.proofs.steps.StepLaws.{step_with}
 use Rattle.unit_messages.specs.declared.steps.StepError.{StepError}
 use Rattle.unit_messages.specs.declared.steps.StepError.TheVariants as errors
-use Rattle.pdcp_bearers.specs.declared.ue_bearers.uplink.Numbered.{Numbered}
-use Rattle.pdcp_bearers.specs.declared.ue_bearers.downlink.Delivered.{Delivered}
-use Rattle.pdcp_bearers.specs.declared.ue_bearers.downlink.Reception.{Reception}
-use Rattle.pdcp_bearers.specs.declared.ue_bearers.downlink.Reception.TheVariants as receptions
-use Rattle.pdcp_bearers.specs.ue_bearers.Downlinks.{DownlinkState, received, IsDelivered}
-use Rattle.pdcp_bearers.specs.ue_bearers.Uplinks.{IsNumbering, UplinkState, Numbering, numbers, stays, ends, numbering, numbering_of, from_on}
+use Rattle.pdcp_bearers.specs.declared.ue_bearers.sender.Numbered.{Numbered}
+use Rattle.pdcp_bearers.specs.declared.ue_bearers.receiver.Delivered.{Delivered}
+use Rattle.pdcp_bearers.specs.declared.ue_bearers.receiver.Reception.{Reception}
+use Rattle.pdcp_bearers.specs.declared.ue_bearers.receiver.Reception.TheVariants as receptions
+use Rattle.pdcp_bearers.specs.ue_bearers.Receivers.{ReceiverState, received, IsDelivered}
+use Rattle.pdcp_bearers.specs.ue_bearers.Senders.{IsNumbering, SenderState, Numbering, numbers, stays, ends, numbering, numbering_of, from_on}
 use Rattle.pdcp_bearers.specs.ue_packets.Bearers.{offered_at}
 
-abbrev pub uplink : SnBits → ℕ → Sender (List ℕ) → List (List ℕ) → UplinkState
+abbrev pub uplink : SnBits → ℕ → Sender (List ℕ) → List (List ℕ) → SenderState
 uplink sn quota sender waiting = record { sn = sn; quota = quota; sender = sender; waiting = waiting }
 
-abbrev pub with_state : Reception → DownlinkState → Reception × DownlinkState
+abbrev pub with_state : Reception → ReceiverState → Reception × ReceiverState
 with_state r d = (r, d)
 
-abbrev pub bearer_of : UplinkState → Receiver (List ℕ) → UeBearer
+abbrev pub bearer_of : SenderState → Receiver (List ℕ) → UeBearer
 bearer_of d receiver = record { sender = d.sender; waiting = d.waiting; receiver = receiver }
 
 -- what a number leaves of the uplink
-numbers_so : (d : UplinkState) (w : List (List ℕ)) (after : UplinkState) (count : ℕ) (packet : List ℕ) → numbering_of d w ≡ numbers count packet after
+numbers_so : (d : SenderState) (w : List (List ℕ)) (after : SenderState) (count : ℕ) (packet : List ℕ) → numbering_of d w ≡ numbers count packet after
     → (after.sn ≡ d.sn) × (after.quota ≡ d.quota) × (length after.waiting < length w)
 numbers_so d [] after count packet is = cc
 numbers_so d (x ∷ xs) after count packet is = by (has_room d.sn d.quota d.sender) (nat_lt last_count d.sender.next) is
@@ -59,11 +59,11 @@ numbers_so d (x ∷ xs) after count packet is = by (has_room d.sn d.quota d.send
     by true true is = cc
     by true false is =
         let same : uplink d.sn d.quota (numbered d.sender x) xs ≡ after = cc in
-        let fewer : length xs ≡ length after.waiting = ap (λ (a : UplinkState). length a.waiting) same in
-        (sym (ap (λ (a : UplinkState). a.sn) same), sym (ap (λ (a : UplinkState). a.quota) same), omega (arith, fewer))
+        let fewer : length xs ≡ length after.waiting = ap (λ (a : SenderState). length a.waiting) same in
+        (sym (ap (λ (a : SenderState). a.sn) same), sym (ap (λ (a : SenderState). a.quota) same), omega (arith, fewer))
     by false l is = cc
 
-pub numbers_keeps : (d after : UplinkState) (count : ℕ) (packet : List ℕ) → numbering d ≡ numbers count packet after
+pub numbers_keeps : (d after : SenderState) (count : ℕ) (packet : List ℕ) → numbering d ≡ numbers count packet after
     → (after.sn ≡ d.sn) × (after.quota ≡ d.quota) × (length after.waiting < length d.waiting)
 numbers_keeps d after count packet is = numbers_so d d.waiting after count packet is
 
@@ -71,11 +71,11 @@ module _ (codec : Codec) (u : UeNode) (bearer : BearerId) where
   abbrev pub sent : ℕ → List ℕ → Output
   sent count packet = outs.Radio u.plan.ue bearer Ul u.epoch (Own count) (radio_data u.plan.sn count packet)
 
-  abbrev pub rest : UplinkState → Receiver (List ℕ) → OctetAnswer UeBearer
+  abbrev pub rest : SenderState → Receiver (List ℕ) → OctetAnswer UeBearer
   rest d receiver = number_each (octet_way codec) u bearer d.waiting (bearer_of d receiver)
 
   -- what a turn of the loop leaves of an answer, by what the uplink gives
-  abbrev pub Turn : OctetAnswer UeBearer → UplinkState → Receiver (List ℕ) → List Output → Numbering → Type 0
+  abbrev pub Turn : OctetAnswer UeBearer → SenderState → Receiver (List ℕ) → List Output → Numbering → Type 0
   Turn a d receiver before (numbers count packet after) = step_after before a ≡ step_after (before ++ sent count packet ∷ []) (rest after receiver)
   Turn a d receiver before stays = step_after before a ≡ stepped before (bearer_of d receiver)
   Turn a d receiver before ends = step_after before a ≡ stopped counts_spent
@@ -109,12 +109,12 @@ module _ (codec : Codec) (u : UeNode) (bearer : BearerId) where
       by true false l same = cc
       by false true l same = cc
 
-  module _ (d : UplinkState) (receiver : Receiver (List ℕ)) (before : List Output) (sn_is : d.sn ≡ u.plan.sn) (quota_is : d.quota ≡ u.plan.quota) where
+  module _ (d : SenderState) (receiver : Receiver (List ℕ)) (before : List Output) (sn_is : d.sn ≡ u.plan.sn) (quota_is : d.quota ≡ u.plan.quota) where
     turn_of : (n : Numbering) → numbering d ≡ n → Turn (rest d receiver) d receiver before n
     turn_of n is =
         subst (λ (m : Numbering). Turn (rest d receiver) d receiver before m) is (turn d.sn d.quota d.sender d.waiting receiver before sn_is quota_is)
 
-    pub numbers_one : (after : UplinkState) (count : ℕ) (packet pdu : List ℕ) (o : Output) (mid : List Output) → numbering d ≡ numbers count packet after
+    pub numbers_one : (after : SenderState) (count : ℕ) (packet pdu : List ℕ) (o : Output) (mid : List Output) → numbering d ≡ numbers count packet after
         → pdu ≡ radio_data d.sn count packet → o ≡ outs.Radio u.plan.ue bearer Ul u.epoch (Own count) pdu → mid ≡ before ++ o ∷ []
         → step_after mid (rest after receiver) ≡ step_after before (rest d receiver)
     numbers_one after count packet pdu o mid is pdu_is o_is mid_is =
@@ -225,11 +225,11 @@ module _ (codec : Codec) (u : UeNode) (bearer : BearerId) where
 
   -- ---- a packet comes
 
-  pub takes_stored : (d new : DownlinkState) (o : Option ℕ) (packet : List ℕ) (b : UeBearer) → b.receiver ≡ d.receiver → d.quota ≡ u.plan.quota
+  pub takes_stored : (d new : ReceiverState) (o : Option ℕ) (packet : List ℕ) (b : UeBearer) → b.receiver ≡ d.receiver → d.quota ≡ u.plan.quota
       → (reception : Reception) → reception ≡ receptions.Stored → with_state reception new ≡ received d o packet
       → took_data (octet_way codec) u bearer o packet b ≡ handing b (handed_up new.receiver)
   takes_stored d new None packet b same quota_is reception stored_is is =
-      let first : receptions.Stored ≡ receptions.Duplicate = sym stored_is ∙ ap (λ (x : Reception × DownlinkState). x.0) is in cc
+      let first : receptions.Stored ≡ receptions.Duplicate = sym stored_is ∙ ap (λ (x : Reception × ReceiverState). x.0) is in cc
   takes_stored d new (Some count) packet b same quota_is reception stored_is is =
       by (is_duplicate d.receiver count) (is_ahead d.quota d.receiver count) (is_duplicate b.receiver count) (is_ahead u.plan.quota b.receiver count)
       (ap (λ (r : Receiver (List ℕ)). is_duplicate r count) same)
@@ -239,13 +239,13 @@ module _ (codec : Codec) (u : UeNode) (bearer : BearerId) where
           → with_state reception new ≡ cond f (with_state receptions.Duplicate d) (cond g (with_state receptions.Ahead d) (with_state receptions.Stored (record d { receiver = stored d.receiver count packet })))
           → cond h (drops Duplicate b) (cond k (puts (held Ahead) b) (handing b (handed_up (stored b.receiver count packet))))
           ≡ handing b (handed_up new.receiver)
-      by true g h k hf kg is = let first : receptions.Stored ≡ receptions.Duplicate = sym stored_is ∙ ap (λ (x : Reception × DownlinkState). x.0) is in cc
-      by false true h k hf kg is = let first : receptions.Stored ≡ receptions.Ahead = sym stored_is ∙ ap (λ (x : Reception × DownlinkState). x.0) is in cc
+      by true g h k hf kg is = let first : receptions.Stored ≡ receptions.Duplicate = sym stored_is ∙ ap (λ (x : Reception × ReceiverState). x.0) is in cc
+      by false true h k hf kg is = let first : receptions.Stored ≡ receptions.Ahead = sym stored_is ∙ ap (λ (x : Reception × ReceiverState). x.0) is in cc
       by false false true k hf kg is = cc
       by false false false true hf kg is = cc
       by false false false false hf kg is =
           ap (λ (r : Receiver (List ℕ)). handing b (handed_up (stored r count packet))) same
-          ∙ sym (ap (λ (x : Reception × DownlinkState). handing b (handed_up x.1.receiver)) is)
+          ∙ sym (ap (λ (x : Reception × ReceiverState). handing b (handed_up x.1.receiver)) is)
 
 -- from 0 on, all
 pub all_from : (es : List (ℕ × List ℕ)) → from_on 0 es ≡ es
@@ -268,21 +268,21 @@ same_bits [] = refl
 same_bits (o ∷ octets) = ap (λ (bs : List Bool). octet_bits o ++ bs) (same_bits octets) ∙ ap (λ (bs : List Bool). bs ++ bits_of octets) (sym (one_octet o))
 
 -- a report confirms the same in both readings
-pub reports : (new old : UplinkState) (receiver : Receiver (List ℕ)) (fmc : ℕ) (octets : List ℕ)
+pub reports : (new old : SenderState) (receiver : Receiver (List ℕ)) (fmc : ℕ) (octets : List ℕ)
     → new ≡ record old { sender = confirmed_report old.sender fmc octets }
     → bearer_of new receiver ≡ record (bearer_of old receiver) { sender = confirmed_by old.sender fmc (bits_of octets) }
 unfolding confirmed_report
 reports new old receiver fmc octets is =
-    ap (λ (d : UplinkState). bearer_of d receiver) is
+    ap (λ (d : SenderState). bearer_of d receiver) is
     ∙ ap (λ (bs : List Bool). bearer_of (record old { sender = confirmed_by old.sender fmc bs }) receiver) (same_bits octets)
 
 -- a number confirms the same
-pub confirms : (codec : Codec) (new old : UplinkState) (receiver : Receiver (List ℕ)) (sn : SnBits) (number : ℕ) → old.sn ≡ sn
+pub confirms : (codec : Codec) (new old : SenderState) (receiver : Receiver (List ℕ)) (sn : SnBits) (number : ℕ) → old.sn ≡ sn
     → new ≡ record old { sender = confirmed_number old.sn old.sender number }
     → bearer_of new receiver ≡ confirmed_if (octet_way codec) (count_below sn old.sender.next number) (bearer_of old receiver)
 unfolding confirmed_number
 confirms codec new old receiver sn number sn_is is =
-    ap (λ (d : UplinkState). bearer_of d receiver) is
+    ap (λ (d : SenderState). bearer_of d receiver) is
     ∙ (ap (λ (k : SnBits). bearer_of (record old { sender = entity_if old.sender (count_below k old.sender.next number) }) receiver) sn_is
     ∙ by (count_below sn old.sender.next number))
   where
@@ -292,20 +292,20 @@ confirms codec new old receiver sn number sn_is is =
 
 -- ---- what calls say of an answer that came
 
-pub numbered_facts : (sn : SnBits) (n : Numbering) (old new : UplinkState) (o : Option Numbered) (d : Numbered) → IsNumbering sn n old new (Ok o) → o ≡ Some d
+pub numbered_facts : (sn : SnBits) (n : Numbering) (old new : SenderState) (o : Option Numbered) (d : Numbered) → IsNumbering sn n old new (Ok o) → o ≡ Some d
     → (packet : List ℕ) × (n ≡ numbers d.count packet new) × (d.pdu ≡ radio_data sn d.count packet)
 numbered_facts sn n old new o d says is = subst (λ (x : Option Numbered). IsNumbering sn n old new (Ok x)) is says
 
-pub not_numbered : (sn : SnBits) (n : Numbering) (old new : UplinkState) (o : Option Numbered) → IsNumbering sn n old new (Ok o) → o ≡ None
+pub not_numbered : (sn : SnBits) (n : Numbering) (old new : SenderState) (o : Option Numbered) → IsNumbering sn n old new (Ok o) → o ≡ None
     → (n ≡ stays) × (new ≡ old)
 not_numbered sn n old new o says is = subst (λ (x : Option Numbered). IsNumbering sn n old new (Ok x)) is says
 
-fails_so : {R : Type 0} (X : Type 0) (sn : SnBits) (n : Numbering) (old new : UplinkState) (e : StepError) → IsNumbering sn n old new (Err e)
+fails_so : {R : Type 0} (X : Type 0) (sn : SnBits) (n : Numbering) (old new : SenderState) (e : StepError) → IsNumbering sn n old new (Err e)
     → (s : Step R) → (n ≡ ends → s ≡ stopped counts_spent) → (out : List Output) (b : R) → IsStep {X = X} s out b (Err e)
 fails_so X sn n old new (errors.Spent counter) says s spent_is out b = spent_is says.0 ∙ ap (λ (k : ℕ). stopped k) (sym says.1)
 fails_so X sn n old new errors.Memory says s spent_is out b = tt
 
-pub numbers_fails : {X R : Type 0} (sn : SnBits) (n : Numbering) (old new : UplinkState) (e : StepError) → IsNumbering sn n old new (Err e)
+pub numbers_fails : {X R : Type 0} (sn : SnBits) (n : Numbering) (old new : SenderState) (e : StepError) → IsNumbering sn n old new (Err e)
     → (s : Step R) → (n ≡ ends → s ≡ stopped counts_spent) → (out : List Output) (b : R) (result : Result X StepError)
     → IsErrAnd result (λ y. y ≡ e) → IsStep s out b result
 numbers_fails {X} {R} sn n old new e says s spent_is out b result err =
@@ -313,11 +313,11 @@ numbers_fails {X} {R} sn n old new e says s spent_is out b result err =
     subst (λ (r : Result X StepError). IsStep s out b r) (sym p.1)
     (subst (λ (y : StepError). IsStep {X = X} s out b (Err y)) (sym p.2) (fails_so X sn n old new e says s spent_is out b))
 
-pub delivered_facts : (old new : DownlinkState) (o : Option Delivered) (d : Delivered) → IsDelivered old new o → o ≡ Some d
+pub delivered_facts : (old new : ReceiverState) (o : Option Delivered) (d : Delivered) → IsDelivered old new o → o ≡ Some d
     → (new ≡ record old { receiver = new.receiver }) × (handed_up old.receiver ≡ with_packet (d.count, d.packet) (handed_up new.receiver))
     × (length new.receiver.stored < length old.receiver.stored)
 delivered_facts old new o d says is = subst (λ (x : Option Delivered). IsDelivered old new x) is says
 
-pub not_delivered : (old new : DownlinkState) (o : Option Delivered) → IsDelivered old new o → o ≡ None
+pub not_delivered : (old new : ReceiverState) (o : Option Delivered) → IsDelivered old new o → o ≡ None
     → (new ≡ old) × (handed_up old.receiver ≡ record { packets = []; after = old.receiver })
 not_delivered old new o says is = subst (λ (x : Option Delivered). IsDelivered old new x) is says

@@ -12,11 +12,11 @@ ghost use Rattle.unit_defs.specs.octet_defs.Codec.{Codec, octet_way};
 ghost use Rattle.unit_defs.specs.octet_defs.Reading.{bits_of};
 ghost use Rattle.unit_defs.specs.octet_defs.Writing.{outputs_of};
 ghost use Rattle.unit_messages.specs.steps.Steps.{step_after, IsStep};
-ghost use Rattle.pdcp_bearers.specs.ue_bearers.Uplinks.{new_uplink, IsPacket};
-ghost use Rattle.pdcp_bearers.specs.ue_bearers.Downlinks.{new_downlink};
+ghost use Rattle.pdcp_bearers.specs.ue_bearers.Senders.{new_sender_state, IsPacket};
+ghost use Rattle.pdcp_bearers.specs.ue_bearers.Receivers.{new_receiver_state};
 ghost use Rattle.pdcp_bearers.specs.ue_packets.Bearers.{kept, terminal_of, IsOf, offered_at};
 
-use crate::ue_bearers::{Delivered, Downlink, Numbered, Reception, Uplink};
+use crate::ue_bearers::{Delivered, Numbered, Receiver, Reception, Sender};
 use crate::ue_packets::terminal::Terminal;
 use gnb_types::items::Memory;
 use gnb_types::keys::EntityKey;
@@ -33,8 +33,8 @@ use unit_messages::steps::StepError;
 /// What a terminal keeps of a bearer.
 #[derive(Drop)]
 pub struct Bearer {
-    pub uplink: Uplink,
-    pub downlink: Downlink,
+    pub uplink: Sender,
+    pub downlink: Receiver,
 }
 
 /// A PDU on the radio of the terminal's epoch.
@@ -56,8 +56,8 @@ impl Bearer {
     pub fn new(alloc: Global, plan: &Plan, bearer: BearerId) -> Result<Bearer, Memory>
         requires least { 4 ≤ plan.now.quota }
         requires most { plan.now.quota ≤ 4096 }
-        ensures uplink { IfOk result (λ b. b.uplink ≡ new_uplink plan.now.sn plan.now.quota) }
-        ensures downlink { IfOk result (λ b. b.downlink ≡ new_downlink plan.now.sn plan.now.quota) }
+        ensures uplink { IfOk result (λ b. b.uplink ≡ new_sender_state plan.now.sn plan.now.quota) }
+        ensures downlink { IfOk result (λ b. b.downlink ≡ new_receiver_state plan.now.sn plan.now.quota) }
     {
         let ue = plan.ue;
         let up = EntityKey {
@@ -70,8 +70,8 @@ impl Bearer {
             bearer,
             dir: Dir::Dl,
         };
-        let uplink = Uplink::new(alloc, up, plan.sn, plan.quota)?;
-        let downlink = Downlink::new(alloc, down, plan.sn, plan.quota);
+        let uplink = Sender::new(alloc, up, plan.sn, plan.quota)?;
+        let downlink = Receiver::new(alloc, down, plan.sn, plan.quota);
         let (downlink, uplink) = beside(downlink, uplink)?;
         Ok(Bearer { uplink, downlink })
     }

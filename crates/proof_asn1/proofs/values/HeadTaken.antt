@@ -25,7 +25,7 @@ use Rattle.asn1_defs.specs.ItemMeanings.{The, start_of, OptionalSize, sized, uns
 use Rattle.asn1_defs.specs.TypeMeanings.{Follows, alone, bounds, names, string, text_size, Plain, simple, ie_container, pdu, AType, Behind, Means, reference, worded, plain, sequence_of, empty_sequence, sequence, choice}
 use Rattle.proof_asn1.proofs.values.Taken.{the_word_gives, the_sign_gives, the_upper_gives, the_number_gives, integer_extends_gives, size_gives, optional_size_gives}
 use Rattle.proof_asn1.proofs.values.NameTaken.{names_gives, set_name_gives}
-use Rattle.proof_asn1.proofs.values.MemberTaken.{FrameEnds, list_ends, composes, Braced, all_members, HeadSo, leaf, opens, head_so, Heads, entry_gives}
+use Rattle.proof_asn1.proofs.values.MemberTaken.{FrameEnds, list_ends, composes, Braced, all_members, HeadFacts, leaf, opens, head_so, Heads, entry_gives}
 
 -- ---- types without others inside
 
@@ -90,7 +90,7 @@ reference_gives ts = and_gives (the_upper_gives ts) (λ name t. ok (leaf (λ nod
 
 -- ---- types with others inside
 
-list_so : (place : ℕ) (ts : Left) (size : Option Size) (a us : Left) → OptionalSize ts size a → The (tokens.Word words.Of) a us → HeadSo (Means (Behind words.Sequence place)) ts (heads.Opens (frames.List size place), us)
+list_so : (place : ℕ) (ts : Left) (size : Option Size) (a us : Left) → OptionalSize ts size a → The (tokens.Word words.Of) a us → HeadFacts (Means (Behind words.Sequence place)) ts (heads.Opens (frames.List size place), us)
 list_so place ts size a us t1 t2 = opens (λ nodes element inside mid id all rest inner end. joined nodes element inside mid id all rest inner end)
   where
     joined : (nodes : List Node) (element : TypeId) (inside : List Node) (mid : Left) (id : TypeId) (all : List Node) (rest : Left) → Means AType nodes us element inside mid → FrameEnds (frames.List size place) element inside mid id all rest → Means (Behind words.Sequence place) nodes ts id all rest

@@ -90,20 +90,20 @@ pub data FrameEnds : Frame → TypeId → List Node → Left → TypeId → List
       → FrameEnds (frames.Member group members name place) definition nodes ts id all rest
 
 -- A head that was read: a whole piece, or its front, which a type inside it and the end of its frame make whole.
-pub data HeadSo (M : Meaning) (ts : Left) : Head × Left → Type 0 where
-  leaf : {new : Node} {us : Left} → ((nodes : List Node) → M nodes ts (next_id nodes) (with_type nodes new) us) → HeadSo M ts (heads.Leaf new, us)
-  opens : {frame : Frame} {us : Left} → ((nodes : List Node) (definition : TypeId) (inside : List Node) (mid : Left) (id : TypeId) (all : List Node) (rest : Left) → Means AType nodes us definition inside mid → FrameEnds frame definition inside mid id all rest → M nodes ts id all rest) → HeadSo M ts (heads.Opens frame, us)
+pub data HeadFacts (M : Meaning) (ts : Left) : Head × Left → Type 0 where
+  leaf : {new : Node} {us : Left} → ((nodes : List Node) → M nodes ts (next_id nodes) (with_type nodes new) us) → HeadFacts M ts (heads.Leaf new, us)
+  opens : {frame : Frame} {us : Left} → ((nodes : List Node) (definition : TypeId) (inside : List Node) (mid : Left) (id : TypeId) (all : List Node) (rest : Left) → Means AType nodes us definition inside mid → FrameEnds frame definition inside mid id all rest → M nodes ts id all rest) → HeadFacts M ts (heads.Opens frame, us)
 
-pub head_so : {M N : Meaning} {ts us : Left} (a : Head × Left) → ((nodes : List Node) (id : TypeId) (all : List Node) (rest : Left) → M nodes us id all rest → N nodes ts id all rest) → HeadSo M us a → HeadSo N ts a
+pub head_so : {M N : Meaning} {ts us : Left} (a : Head × Left) → ((nodes : List Node) (id : TypeId) (all : List Node) (rest : Left) → M nodes us id all rest → N nodes ts id all rest) → HeadFacts M us a → HeadFacts N ts a
 head_so (heads.Leaf new, us) on (leaf m) = leaf (λ nodes. on nodes (next_id nodes) (with_type nodes new) us (m nodes))
 head_so (heads.Opens frame, us) on (opens m) = opens (λ nodes definition inside mid id all rest inner end. on nodes id all rest (m nodes definition inside mid id all rest inner end))
 
 abbrev pub Heads : Meaning → Left → Result (Head × Left) Fault → Type 0
-Heads M ts r = Gives (HeadSo M ts) r
+Heads M ts r = Gives (HeadFacts M ts) r
 
 -- ---- entries
 
-named_so : (group : Group) (members : Extensible Component) (place : ℕ) (ts : Left) (name : List ℕ) (us : Left) → The (tokens.Lower name) ts us → HeadSo (FromMember group place members) ts (heads.Opens (frames.Member group members name place), us)
+named_so : (group : Group) (members : Extensible Component) (place : ℕ) (ts : Left) (name : List ℕ) (us : Left) → The (tokens.Lower name) ts us → HeadFacts (FromMember group place members) ts (heads.Opens (frames.Member group members name place), us)
 named_so group members place ts name us t = opens (λ nodes definition inside mid id all rest inner end. joined nodes definition inside mid id all rest inner end)
   where
     joined : (nodes : List Node) (definition : TypeId) (inside : List Node) (mid : Left) (id : TypeId) (all : List Node) (rest : Left) → Means AType nodes us definition inside mid → FrameEnds (frames.Member group members name place) definition inside mid id all rest → FromMember group place members nodes ts id all rest

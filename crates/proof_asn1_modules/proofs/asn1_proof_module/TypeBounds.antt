@@ -86,8 +86,8 @@ abbrev SizeOf : Bool → Size → Type 0
 SizeOf false size = IsSize size
 SizeOf true size = IsTextSize size
 
-abbrev SizeSo : Bool → Size × Left → Type 0
-SizeSo is_text a = SizeOf is_text a.0
+abbrev SizeFacts : Bool → Size × Left → Type 0
+SizeFacts is_text a = SizeOf is_text a.0
 
 two_bounds : (is_text : Bool) (low high : ℕ) (found : Size) → 1 ≤ low → least_high is_text low ≤ high → high ≤ 65535 → found.low ≡ low → found.high ≡ high → SizeOf is_text found
 two_bounds false low high found one least most l h = record { positive = omega (arith, one, l); ordered = omega (arith, least, l, h); bounded = omega (arith, most, h) }
@@ -97,21 +97,21 @@ two_bounds true low high found one least most l h = record {
   enough = omega (arith, least, h);
 }
 
-size_rest_within : (is_text : Bool) (low : ℕ) → 1 ≤ low → low ≤ 65535 → (ts : Left) → Gives (SizeSo is_text) (size_rest_at is_text low ts)
+size_rest_within : (is_text : Bool) (low : ℕ) → 1 ≤ low → low ≤ 65535 → (ts : Left) → Gives (SizeFacts is_text) (size_rest_at is_text low ts)
 unfolding size_rest_at
-size_rest_within is_text low one most ts = by_choice (Gives (SizeSo is_text)) (begins_with_sign signs.Range ts) _ _
+size_rest_within is_text low one most ts = by_choice (Gives (SizeFacts is_text)) (begins_with_sign signs.Range ts) _ _
     (λ _. and_gives (any_value (sign_at signs.Range ts)) (λ a _.
     and_gives (natural_within (least_high is_text low) 65535 a) (λ high h.
     gives_so (size_end_within low high.0 high.1) (λ b e. two_bounds is_text low high.0 b.0 one h.0 h.1 e.0 e.1))))
-    (λ _. by_choice (Gives (SizeSo is_text)) (is_text && (begins_with_sign signs.Comma ts || begins_with_sign signs.RightParenthesis ts)) _ _
+    (λ _. by_choice (Gives (SizeFacts is_text)) (is_text && (begins_with_sign signs.Comma ts || begins_with_sign signs.RightParenthesis ts)) _ _
     (λ _. no_value)
     (λ h. single is_text h))
   where
-    single : (b : Bool) → b && (begins_with_sign signs.Comma ts || begins_with_sign signs.RightParenthesis ts) ≡ false → Gives (SizeSo b) (size_end_at low low ts)
+    single : (b : Bool) → b && (begins_with_sign signs.Comma ts || begins_with_sign signs.RightParenthesis ts) ≡ false → Gives (SizeFacts b) (size_end_at low low ts)
     single true h = no_end low low ts h
     single false h = gives_so (size_end_within low low ts) (λ b e. record { positive = omega (arith, one, e.0); ordered = omega (arith, e.0, e.1); bounded = omega (arith, most, e.1) })
 
-size_within : (is_text : Bool) (ts : Left) → Gives (SizeSo is_text) (size_at is_text ts)
+size_within : (is_text : Bool) (ts : Left) → Gives (SizeFacts is_text) (size_at is_text ts)
 unfolding size_at
 size_within is_text ts = and_gives (any_value (sign_at signs.LeftParenthesis ts)) (λ a _.
     and_gives (any_value (word_at words.Size a)) (λ b _.

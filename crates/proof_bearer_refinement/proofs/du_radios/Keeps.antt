@@ -16,7 +16,7 @@ use Rattle.gnb_types.specs.Orders.{entity_cmp}
 use Rattle.gnb_types.proofs.OrderLemmas.{entity_exact}
 use Rattle.message_types.specs.declared.rrc.Token.{Token}
 use Rattle.scenario_text.specs.declared.event.Event.{Event}
-use Rattle.bearer_defs.specs.chain_defs.Parts.{Part}
+use Rattle.bearer_defs.specs.chain_defs.Models.{Model}
 use Rattle.intervals.specs.Intervals.{HasNoGap}
 use Rattle.unit_defs.specs.Ways.{Message, Pdu, Input, Output}
 use Rattle.unit_defs.specs.Du.{DuBearer}
@@ -26,20 +26,20 @@ use Rattle.run_defs.specs.States.{sn_of}
 use Rattle.run_defs.specs.Steps.{epoch_now}
 use Rattle.run_defs.specs.Conditions.{receiver_by}
 use Rattle.run_defs.specs.Runs.{Reading, plain_world, plain_way}
-use Rattle.proof_run_steps.specs.steps.Causes.{by_order, by_tick, by_octets, by_octets_on, by_attach, by_release, by_offer, by_item, by_air, by_ack, by_letter, Stands, node_of, count_of}
-use Rattle.proof_bearer_refinement.specs.law_run_units.Happenings.{DuRecord}
+use Rattle.proof_run_steps.specs.steps.Causes.{by_order, by_tick, by_octets, by_octets_on, by_attach, by_release, by_offer, by_item, by_air, by_ack, by_control_message, Stands, node_of, count_of}
+use Rattle.proof_bearer_refinement.specs.run_unit_inputs.Happenings.{DuRecord}
 use Rattle.law_downlink_order.specs.path.Paths.{Frame, carried_by, gap_after, taken_by}
-use Rattle.proof_node_orders.specs.du_inputs.Changes.{takes, DuPart, part_of, change_by}
+use Rattle.proof_node_orders.specs.du_inputs.Changes.{takes, DuModel, model_of, change_by}
 use Rattle.proof_node_orders.specs.du_puts.Inputs.{IsInOrder}
-use Rattle.proof_bearer_refinement.specs.put_ties.Puts.{IsDuStep}
+use Rattle.proof_bearer_refinement.specs.du_puts.Puts.{IsDuStep}
 use Rattle.proof_run_steps.specs.radio_steps.Radios.{on_air, after_taking, after_puts, moved_to, followed}
 use Rattle.proof_run_steps.proofs.radio_steps.Tracks.{acts_so}
-use Rattle.proof_bearer_refinement.specs.radio_ties.Radio.{RunState, RunCause, OnRadio, packets_on, IsOther, IsBeside}
+use Rattle.proof_bearer_refinement.specs.uplink_radio.Radio.{RunState, RunCause, OnRadio, packets_on, IsOther, IsFrameStep}
 use Rattle.law_downlink_order.specs.waiting_frames.Frames.{Fits, IsLine}
 use Rattle.law_downlink_order.proofs.waiting_frames.Frames.{puts_what_fits}
-use Rattle.proof_bearer_refinement.specs.radio_downs.Down.{down_key, IsDown, Puts, packets_down, Stays}
-use Rattle.proof_bearer_refinement.proofs.radio_downs.Waits.{Air, more_down, items_put, puts_are, puts_say, none_off}
-use Rattle.proof_bearer_refinement.proofs.radio_downs.Others.{IsLike, taken_like}
+use Rattle.proof_bearer_refinement.specs.downlink_radio.Down.{down_key, IsDown, Puts, packets_down, Stays}
+use Rattle.proof_bearer_refinement.proofs.downlink_radio.Waits.{Air, more_down, items_put, puts_are, puts_say, none_off}
+use Rattle.proof_bearer_refinement.proofs.downlink_radio.Others.{IsLike, taken_like}
 use Rattle.proof_bearer_refinement.specs.du_radios.Puts.{packets_by, AreDown}
 use Rattle.proof_bearer_refinement.proofs.du_radios.Puts.{puts_frames}
 
@@ -67,7 +67,7 @@ module _ (key : EntityKey) (gnb : Gnb) (number : ℕ) where
   du_stays (by_attach plan) at down = tt
   du_stays (by_offer who q sdu) at down = tt
   du_stays (by_item end item rest) at down = tt
-  du_stays (by_letter n l to) at down = tt
+  du_stays (by_control_message n l to) at down = tt
 
 follows_off : (reading : Reading) (key : EntityKey) (node : NodeId) (now : Option ℕ) (a : Air) → IsOther key.ue node
     → followed (plain_world reading) key node now a ≡ a
@@ -80,12 +80,12 @@ follows_off reading key Core now a other = refl
 -- ---- more waits there
 
 -- the radio with more at its end
-abbrev Waits : Air → Part → List (ℕ × List ℕ) → Type 0
+abbrev Waits : Air → Model → List (ℕ × List ℕ) → Type 0
 Waits a d waits = (down : IsDown a d) × (down.waits ≡ waits)
 
-module _ (reading : Reading) (event : Event) (s t : RunState) (ue : UeId) (bearer : BearerId) (d : Part) (cause : RunCause) (outputs : Puts)
+module _ (reading : Reading) (event : Event) (s t : RunState) (ue : UeId) (bearer : BearerId) (d : Model) (cause : RunCause) (outputs : Puts)
     (units : Units (Message Token) Token) (stands : Stands event s cause) (stays : Stays (down_key ue bearer) cause)
-    (step : IsBeside reading s t ue bearer cause outputs units) where
+    (step : IsFrameStep reading s t ue bearer cause outputs units) where
   abbrev key : EntityKey
   key = down_key ue bearer
 
@@ -110,10 +110,10 @@ module _ (reading : Reading) (event : Event) (s t : RunState) (ue : UeId) (beare
 
 -- ---- a step of a DU
 
-module _ (reading : Reading) (event : Event) (s t : RunState) (ue : UeId) (bearer : BearerId) (d : Part) (gnb : Gnb) (number : ℕ) (cause : RunCause)
+module _ (reading : Reading) (event : Event) (s t : RunState) (ue : UeId) (bearer : BearerId) (d : Model) (gnb : Gnb) (number : ℕ) (cause : RunCause)
     (input : Input Token Pdu) (outputs : List (Output (Message Token) Pdu)) (left : DuRecord) (in_order : IsInOrder (du_of s.units gnb number) ue)
     (stands : Stands event s cause) (step : IsDuStep reading s t gnb number cause input outputs left)
-    (beside : IsBeside reading s t ue bearer cause (map (written_put (sn_of s)) outputs) (with_du s.units gnb number left)) where
+    (beside : IsFrameStep reading s t ue bearer cause (map (written_put (sn_of s)) outputs) (with_du s.units gnb number left)) where
   abbrev its_key : EntityKey
   its_key = down_key ue bearer
 
@@ -123,7 +123,7 @@ module _ (reading : Reading) (event : Event) (s t : RunState) (ue : UeId) (beare
   abbrev put : List (ℕ × List ℕ)
   put = packets_down its_key at (map (written_put (sn_of s)) outputs)
 
-  put_is : put ≡ packets_by at (change_by plain_way ue bearer (du_of s.units gnb number) input) (part_of (du_of s.units gnb number) ue bearer)
+  put_is : put ≡ packets_by at (change_by plain_way ue bearer (du_of s.units gnb number) input) (model_of (du_of s.units gnb number) ue bearer)
   put_is = puts_frames ue bearer (du_of s.units gnb number) left input outputs (sn_of s) at in_order step.answers
 
   goes_on : (h : IsDown (on_air s its_key) d) → Fits d h.waits put → Waits (on_air t its_key) d (h.waits ++ put)
@@ -131,7 +131,7 @@ module _ (reading : Reading) (event : Event) (s t : RunState) (ue : UeId) (beare
       waits_more reading event s t ue bearer d cause (map (written_put (sn_of s)) outputs) (with_du s.units gnb number left) stands
       (du_stays its_key gnb number cause step.node refl) beside
 
-  pub takes_a_frame : (part : DuPart) (f : Frame) (rest : List Frame) (next needed : ℕ) → part_of (du_of s.units gnb number) ue bearer ≡ Some part
+  pub takes_a_frame : (part : DuModel) (f : Frame) (rest : List Frame) (next needed : ℕ) → model_of (du_of s.units gnb number) ue bearer ≡ Some part
       → change_by plain_way ue bearer (du_of s.units gnb number) input ≡ takes f → at ≡ Some part.epoch
       → AreDown (on_air s its_key) d part.bearer (f ∷ rest) next needed
       → AreDown (on_air t its_key) d (taken_by part.bearer f) rest next needed
@@ -149,7 +149,7 @@ module _ (reading : Reading) (event : Event) (s t : RunState) (ue : UeId) (beare
       }
 
   pub keeps_quiet : (b : DuBearer) (frames : List Frame) (next needed : ℕ)
-      → packets_by at (change_by plain_way ue bearer (du_of s.units gnb number) input) (part_of (du_of s.units gnb number) ue bearer) ≡ []
+      → packets_by at (change_by plain_way ue bearer (du_of s.units gnb number) input) (model_of (du_of s.units gnb number) ue bearer) ≡ []
       → AreDown (on_air s its_key) d b frames next needed → AreDown (on_air t its_key) d b frames next needed
   unfolding HasNoGap
   keeps_quiet b frames next needed none h =

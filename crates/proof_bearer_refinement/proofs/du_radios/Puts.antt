@@ -18,15 +18,15 @@ use Rattle.transport_defs.specs.Links.{is_epoch}
 use Rattle.run_defs.specs.Written.{written_put}
 use Rattle.run_defs.specs.States.{Lengths, entity}
 use Rattle.run_defs.specs.Runs.{plain_way, taken_of}
-use Rattle.proof_bearer_refinement.specs.law_run_units.Happenings.{DuRecord}
+use Rattle.proof_bearer_refinement.specs.run_unit_inputs.Happenings.{DuRecord}
 use Rattle.law_downlink_order.specs.path.Paths.{carried_by, gap_after}
-use Rattle.proof_node_orders.specs.du_inputs.Changes.{Change, stays, takes, renews, sets_up, ends, DuPart, part_of, of_tunnel, change_by}
-use Rattle.proof_node_orders.specs.du_inputs.Puts.{is_of, radio_put, of_part, carried_if, carried_of, Puts}
+use Rattle.proof_node_orders.specs.du_inputs.Changes.{Change, stays, takes, renews, sets_up, ends, DuModel, model_of, of_tunnel, change_by}
+use Rattle.proof_node_orders.specs.du_inputs.Puts.{is_of, radio_put, of_model, carried_if, carried_of, Puts}
 use Rattle.proof_node_orders.specs.du_puts.Inputs.{ups_by, IsInOrder}
-use Rattle.proof_node_orders.proofs.du_puts.Letters.{input_puts}
+use Rattle.proof_node_orders.proofs.du_puts.ControlMessages.{input_puts}
 use Rattle.proof_node_orders.specs.terminal_inputs.Inputs.{packet_in}
-use Rattle.proof_bearer_refinement.specs.radio_downs.Down.{down_key, packets_down}
-use Rattle.proof_bearer_refinement.proofs.radio_downs.Waits.{down_tie}
+use Rattle.proof_bearer_refinement.specs.downlink_radio.Down.{down_key, packets_down}
+use Rattle.proof_bearer_refinement.proofs.downlink_radio.Waits.{down_refinement}
 use Rattle.proof_bearer_refinement.specs.du_radios.Puts.{packets_by}
 
 -- the packets of PDUs that are put in an epoch
@@ -48,16 +48,16 @@ module _ (ue : UeId) (bearer : BearerId) (lengths : Lengths) (at : Option ℕ) w
   key_is who q = by (eq_by_cmp ue_cmp ue who) refl
     where
       apart : (t : Bool) → eq_by_cmp entity_cmp (down_key ue bearer) (entity who q Dl) ≡ t → eq_by_cmp ue_cmp ue who ≡ false → t ≡ false
-      apart false tie other = refl
-      apart true tie other =
+      apart false refinement other = refl
+      apart true refinement other =
           let same : ue ≡ who =
-          ap (λ (k : EntityKey). k.ue) (entity_exact (down_key ue bearer) (entity who q Dl) ((Equal-is (entity_cmp (down_key ue bearer) (entity who q Dl))).0 tie)) in
+          ap (λ (k : EntityKey). k.ue) (entity_exact (down_key ue bearer) (entity who q Dl) ((Equal-is (entity_cmp (down_key ue bearer) (entity who q Dl))).0 refinement)) in
           let never : true ≡ false = sym (ap is_eq (tied_itself ue_total ue)) ∙ ap (λ (w : UeId). eq_by_cmp ue_cmp ue w) same ∙ other in absurd cc
 
       by : (t : Bool) → eq_by_cmp ue_cmp ue who ≡ t → eq_by_cmp entity_cmp (down_key ue bearer) (entity who q Dl) ≡ (t && eq_by_cmp bearer_cmp bearer q)
-      by true tie =
-          ap (λ (w : UeId). eq_by_cmp entity_cmp (down_key ue bearer) (entity w q Dl)) (sym (ue_exact ue who ((Equal-is (ue_cmp ue who)).0 tie)))
-          ∙ down_tie ue bearer q
+      by true refinement =
+          ap (λ (w : UeId). eq_by_cmp entity_cmp (down_key ue bearer) (entity w q Dl)) (sym (ue_exact ue who ((Equal-is (ue_cmp ue who)).0 refinement)))
+          ∙ down_refinement ue bearer q
       by false other = apart (eq_by_cmp entity_cmp (down_key ue bearer) (entity who q Dl)) refl other
 
   one_if : (t x : Bool) (epoch : ℕ) (pdu : Pdu) (more : List (ℕ × Pdu)) → is_epoch at epoch ≡ x
@@ -105,8 +105,8 @@ frame_says at gap epoch pdu = by gap pdu (is_epoch at epoch) refl
     by false (Some (packet_pdu count sdu)) x is = append-nil (if is_epoch at epoch then (count, sdu) ∷ [] else [])
     by false (Some (report_pdu fmc bits)) x is = append-nil (if is_epoch at epoch then [] else [])
 
-change_says : (at : Option ℕ) (change : Change) (part : Option DuPart)
-    → packets_at at (of_part (carried_of change) part) ≡ packets_by at change part
+change_says : (at : Option ℕ) (change : Change) (part : Option DuModel)
+    → packets_at at (of_model (carried_of change) part) ≡ packets_by at change part
 change_says at stays None = refl
 change_says at (takes f) None = refl
 change_says at (renews epoch teid) None = refl
@@ -121,12 +121,12 @@ change_says at ends (Some part) = refl
 pub puts_frames : (ue : UeId) (bearer : BearerId) (r left : DuRecord) (input : Input Token Pdu) (outputs : List (Output (Message Token) Pdu))
     (lengths : Lengths) (at : Option ℕ) → IsInOrder r ue → du_acts plain_way r input ≡ gives outputs left
     → packets_down (down_key ue bearer) at (map (written_put lengths) outputs)
-    ≡ packets_by at (change_by plain_way ue bearer r input) (part_of r ue bearer)
+    ≡ packets_by at (change_by plain_way ue bearer r input) (model_of r ue bearer)
 unfolding Puts
 puts_frames ue bearer r left input outputs lengths at in_order answers =
     let put = subst (λ (a : Answer (Message Token) Pdu DuRecord). Puts ue bearer (ups_by plain_way ue bearer r input)
-    (of_part (carried_of (change_by plain_way ue bearer r input)) (part_of r ue bearer)) a) answers (input_puts plain_way ue bearer r input in_order) in
-    all_say ue bearer lengths at outputs ∙ ap (packets_at at) put.1 ∙ change_says at (change_by plain_way ue bearer r input) (part_of r ue bearer)
+    (of_model (carried_of (change_by plain_way ue bearer r input)) (model_of r ue bearer)) a) answers (input_puts plain_way ue bearer r input in_order) in
+    all_say ue bearer lengths at outputs ∙ ap (packets_at at) put.1 ∙ change_says at (change_by plain_way ue bearer r input) (model_of r ue bearer)
 
 pub frame_changes : (ue : UeId) (bearer : BearerId) (r : DuRecord) (teid : ℕ) (poll restart : Bool) (number : ℕ) (pdu : Option Pdu)
     → find nat_cmp r.tunnels teid ≡ Some (record { ue = ue; bearer = bearer })

@@ -2,11 +2,11 @@
 use Rattle.std.proofs.Common.{◌≡◌, ℕ, ◌+◌, ◌≤◌, max, Bool, true, false, List, [], ◌∷◌, refl, sym, ap, subst, ◌∙◌, arith}
 use Rattle.intervals.specs.Intervals.{HasNoGap, reach}
 use Rattle.intervals.proofs.Intervals.{reach-le}
-use Rattle.bearer_defs.specs.chain_defs.Parts.{Member, Part}
-use Rattle.unit_defs.specs.UpBearers.{owed}
-use Rattle.unit_defs.specs.UpRecords.{UpBearer}
+use Rattle.bearer_defs.specs.chain_defs.Models.{Member, Model}
+use Rattle.unit_defs.specs.CuUpBearers.{owed}
+use Rattle.unit_defs.specs.CuUpRecords.{CuUpBearer}
 use Rattle.law_downlink_order.specs.path.Paths.{Frame}
-use Rattle.law_downlink_order.specs.heard_packets.Heard.{WasPut}
+use Rattle.law_downlink_order.specs.received_packets.Received.{WasPut}
 use Rattle.law_downlink_order.specs.waiting_frames.Frames.{from_here}
 use Rattle.law_downlink_order.proofs.waiting_frames.Frames.{line_later}
 use Rattle.proof_cu_up_orders.specs.sending_contexts.Sending.{IsSending, Tunnel}
@@ -25,7 +25,7 @@ reach_most n k (e ∷ es) =
     let same : max (max n k) (e.0 + 1) ≡ max (max n (e.0 + 1)) k = omega arith in
     subst (λ (i : ℕ). reach i es ≤ max (reach (max n (e.0 + 1)) es) k) (sym same) h
 
-pub sends_later : (s t : Part) (x : ℕ) (c : UpBearer) (w : Tunnel) (left : Packets) → Alike (s.members x) (t.members x) → t.epoch ≡ s.epoch
+pub sends_later : (s t : Model) (x : ℕ) (c : CuUpBearer) (w : Tunnel) (left : Packets) → Alike (s.members x) (t.members x) → t.epoch ≡ s.epoch
     → s.terminal.deliv ≤ t.terminal.deliv → reach s.terminal.deliv w.waits ≤ reach t.terminal.deliv left
     → ((count : ℕ) (packet : List ℕ) → WasPut s count packet → WasPut t count packet) → IsSending s x c w → IsSending t x c (record w { waits = left })
 sends_later s t x c w left alike epoch more far put h =
@@ -67,7 +67,7 @@ sends_later s t x c w left alike epoch more far put h =
         subst (λ (n : ℕ). reach n us ≤ max (reach s.terminal.deliv us) t.terminal.deliv) same (reach_most s.terminal.deliv t.terminal.deliv us)
 
 -- all frames are lost
-pub all_lost : (d : Part) (x : ℕ) (c : UpBearer) (w : Tunnel) → IsSending d x c w → IsSending d x c (record w { frames = [] })
+pub all_lost : (d : Model) (x : ℕ) (c : CuUpBearer) (w : Tunnel) → IsSending d x c w → IsSending d x c (record w { frames = [] })
 all_lost d x c w h = by w.frames h
   where
     by : (fs : List Frame) → IsSending d x c (record w { frames = fs }) → IsSending d x c (record w { frames = [] })

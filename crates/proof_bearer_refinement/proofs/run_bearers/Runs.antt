@@ -8,17 +8,17 @@ use Rattle.scenario_text.specs.declared.event.Event.{Event}
 use Rattle.unit_defs.specs.Ways.{Message, Pdu, Load, Input, gives, spent}
 use Rattle.unit_defs.specs.Ue.{UeNode, ue_acts}
 use Rattle.unit_defs.specs.CuUp.{cu_up_acts}
-use Rattle.unit_defs.specs.UpRecords.{CuUp}
+use Rattle.unit_defs.specs.CuUpRecords.{CuUp}
 use Rattle.unit_defs.specs.Du.{Du, du_acts}
-use Rattle.unit_defs.specs.CpRecords.{CuCpRecord}
+use Rattle.unit_defs.specs.CuCpRecords.{CuCpRecord}
 use Rattle.unit_defs.specs.CuCp.{cu_cp_acts}
-use Rattle.run_defs.specs.Units.{cp_of, with_cp, up_of, with_up, du_of, with_du, ue_of, with_ue}
+use Rattle.run_defs.specs.Units.{cu_cp_of, with_cu_cp, cu_up_of, with_cu_up, du_of, with_du, ue_of, with_ue}
 use Rattle.run_defs.specs.Written.{Written, PlainStepped, WrittenStepped, written_step}
 use Rattle.run_defs.specs.States.{State, stepped, step_spent, Lengths}
 use Rattle.run_defs.specs.Runs.{Reading, PlainGiven, Plain, plain_way, input_of, stepped_with, ue_stepped, acts_on, plain_by, plain_world}
 use Rattle.proof_run_steps.specs.steps.Reached.{reached}
 use Rattle.proof_run_steps.proofs.steps.Frames.{reached_relates}
-use Rattle.proof_bearer_refinement.specs.law_run_units.Happenings.{kept_of}
+use Rattle.proof_bearer_refinement.specs.run_unit_inputs.Happenings.{kept_of}
 use Rattle.proof_bearer_refinement.specs.run_bearers.Things.{Thing, comes, set_up, takes, PlainUnits, ue_after, after_thing, after_things}
 
 abbrev Happened : PlainUnits → PlainUnits → Type 0
@@ -49,16 +49,16 @@ module _ (reading : Reading) where
   AnsweredWell u (stepped outputs v) = Happened u v
   AnsweredWell u (step_spent counter) = Unit {0}
 
-  by_cp : (u : PlainUnits) (gnb : Gnb) (input : Input Token Pdu) (a : Plain (CuCpRecord (Message Token) Token)) → cu_cp_acts plain_way (cp_of u gnb) input ≡ a
-      → Answered u (stepped_with reading (with_cp u gnb) a)
+  by_cp : (u : PlainUnits) (gnb : Gnb) (input : Input Token Pdu) (a : Plain (CuCpRecord (Message Token) Token)) → cu_cp_acts plain_way (cu_cp_of u gnb) input ≡ a
+      → Answered u (stepped_with reading (with_cu_cp u gnb) a)
   by_cp u gnb input (gives outputs r) is =
-      one_happens u (with_cp u gnb r) (takes (CuCp gnb) input) (ap (with_cp u gnb) (sym (ap (kept_of (cp_of u gnb)) is)))
+      one_happens u (with_cu_cp u gnb r) (takes (CuCp gnb) input) (ap (with_cu_cp u gnb) (sym (ap (kept_of (cu_cp_of u gnb)) is)))
   by_cp u gnb input (spent counter) is = tt
 
   by_up : (u : PlainUnits) (gnb : Gnb) (number : ℕ) (input : Input Token Pdu) (a : Plain (CuUp (Message Token) Token))
-      → cu_up_acts plain_way (up_of u gnb number) input ≡ a → Answered u (stepped_with reading (with_up u gnb number) a)
+      → cu_up_acts plain_way (cu_up_of u gnb number) input ≡ a → Answered u (stepped_with reading (with_cu_up u gnb number) a)
   by_up u gnb number input (gives outputs r) is =
-      one_happens u (with_up u gnb number r) (takes (up_id gnb number) input) (ap (with_up u gnb number) (sym (ap (kept_of (up_of u gnb number)) is)))
+      one_happens u (with_cu_up u gnb number r) (takes (up_id gnb number) input) (ap (with_cu_up u gnb number) (sym (ap (kept_of (cu_up_of u gnb number)) is)))
   by_up u gnb number input (spent counter) is = tt
 
   by_du : (u : PlainUnits) (gnb : Gnb) (number : ℕ) (input : Input Token Pdu) (a : Plain (Du (Message Token) Token))
@@ -75,8 +75,8 @@ module _ (reading : Reading) where
   by_ue u ue x input there (spent counter) is = tt
 
   acted : (u : PlainUnits) (node : NodeId) (input : Input Token Pdu) → Answered u (acts_on reading u node input)
-  acted u (CuCp gnb) input = by_cp u gnb input (cu_cp_acts plain_way (cp_of u gnb) input) refl
-  acted u (up_id gnb number) input = by_up u gnb number input (cu_up_acts plain_way (up_of u gnb number) input) refl
+  acted u (CuCp gnb) input = by_cp u gnb input (cu_cp_acts plain_way (cu_cp_of u gnb) input) refl
+  acted u (up_id gnb number) input = by_up u gnb number input (cu_up_acts plain_way (cu_up_of u gnb number) input) refl
   acted u (du_id gnb number) input = by_du u gnb number input (du_acts plain_way (du_of u gnb number) input) refl
   acted u (Ue ue) input = there (ue_of u (record { 0 = ue })) refl
     where

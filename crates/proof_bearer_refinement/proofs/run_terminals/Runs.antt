@@ -16,13 +16,13 @@ use Rattle.message_types.specs.declared.rrc.Token.{Token}
 use Rattle.scenario_text.specs.declared.event.Event.{Event}
 use Rattle.unit_defs.specs.Ways.{Message, Pdu, Load, Input, gives, spent}
 use Rattle.unit_defs.specs.Ue.{UeNode, new_ue, placed, ue_acts}
-use Rattle.unit_defs.specs.UpRecords.{CuUp}
+use Rattle.unit_defs.specs.CuUpRecords.{CuUp}
 use Rattle.unit_defs.specs.CuUp.{cu_up_acts}
 use Rattle.unit_defs.specs.Du.{Du, du_acts}
-use Rattle.unit_defs.specs.CpRecords.{CuCpRecord}
+use Rattle.unit_defs.specs.CuCpRecords.{CuCpRecord}
 use Rattle.unit_defs.specs.CuCp.{cu_cp_acts}
-use Rattle.unit_defs.specs.Static.{up_placed, du_placed, cp_placed}
-use Rattle.run_defs.specs.Units.{Units, cp_of, with_cp, up_of, with_up, du_of, with_du, ue_of, with_ue}
+use Rattle.unit_defs.specs.Static.{cu_up_placed, du_placed, cu_cp_placed}
+use Rattle.run_defs.specs.Units.{Units, cu_cp_of, with_cu_cp, cu_up_of, with_cu_up, du_of, with_du, ue_of, with_ue}
 use Rattle.run_defs.specs.Conditions.{units_placed, all_set_up}
 use Rattle.run_defs.specs.Written.{Written, PlainStepped, WrittenStepped, written_step}
 use Rattle.run_defs.specs.States.{State, stepped, step_spent, Lengths}
@@ -68,7 +68,7 @@ one_happens u v name x h is became ue = by (eq_by_cmp ue_cmp ue name) refl
         )
     by false far = ([], ap (λ es. find ue_cmp es ue) is ∙ find-put-other ue_total u.ues name x ue far)
 
-cp_keeps : {M C : Type 0} (u : Units M C) (gnb : Gnb) (r : CuCpRecord M C) → (with_cp u gnb r).ues ≡ u.ues
+cp_keeps : {M C : Type 0} (u : Units M C) (gnb : Gnb) (r : CuCpRecord M C) → (with_cu_cp u gnb r).ues ≡ u.ues
 cp_keeps u A r = refl
 cp_keeps u B r = refl
 
@@ -77,13 +77,13 @@ comes_happens u plan = one_happens u (with_ue u plan.ue (new_ue plan)) plan.ue (
 
 pub set_up_happens : (u : PlainUnits) (plan : Plan) → Happened u (all_set_up (units_placed plan u))
 set_up_happens u plan =
-    let up : CuUp (Message Token) Token = up_of u plan.gnb plan.up in
+    let up : CuUp (Message Token) Token = cu_up_of u plan.gnb plan.up in
     let du : Du (Message Token) Token = du_of u plan.gnb plan.du in
     let a : PlainUnits = with_ue u plan.ue (placed (new_ue plan)) in
-    let b : PlainUnits = with_up a plan.gnb plan.up (up_placed up plan du.next_teid) in
+    let b : PlainUnits = with_cu_up a plan.gnb plan.up (cu_up_placed up plan du.next_teid) in
     let c : PlainUnits = with_du b plan.gnb plan.du (du_placed du plan (up.next_teid + 1)) in
     one_happens u (all_set_up (units_placed plan u)) plan.ue (placed (new_ue plan)) (set_up plan)
-    (cp_keeps c plan.gnb (cp_placed (cp_of u plan.gnb) plan)) refl
+    (cp_keeps c plan.gnb (cu_cp_placed (cu_cp_of u plan.gnb) plan)) refl
 
 module _ (reading : Reading) where
   abbrev Answered : PlainUnits → PlainStepped → Type 0
@@ -94,12 +94,12 @@ module _ (reading : Reading) where
   AnsweredWell u (stepped outputs v) = Happened u v
   AnsweredWell u (step_spent counter) = Unit {0}
 
-  by_cp : (u : PlainUnits) (gnb : Gnb) (a : Plain (CuCpRecord (Message Token) Token)) → Answered u (stepped_with reading (with_cp u gnb) a)
-  by_cp u gnb (gives outputs r) = nothing_happens u (with_cp u gnb r) (cp_keeps u gnb r)
+  by_cp : (u : PlainUnits) (gnb : Gnb) (a : Plain (CuCpRecord (Message Token) Token)) → Answered u (stepped_with reading (with_cu_cp u gnb) a)
+  by_cp u gnb (gives outputs r) = nothing_happens u (with_cu_cp u gnb r) (cp_keeps u gnb r)
   by_cp u gnb (spent counter) = tt
 
-  by_up : (u : PlainUnits) (gnb : Gnb) (number : ℕ) (a : Plain (CuUp (Message Token) Token)) → Answered u (stepped_with reading (with_up u gnb number) a)
-  by_up u gnb number (gives outputs r) = nothing_happens u (with_up u gnb number r) refl
+  by_up : (u : PlainUnits) (gnb : Gnb) (number : ℕ) (a : Plain (CuUp (Message Token) Token)) → Answered u (stepped_with reading (with_cu_up u gnb number) a)
+  by_up u gnb number (gives outputs r) = nothing_happens u (with_cu_up u gnb number r) refl
   by_up u gnb number (spent counter) = tt
 
   by_du : (u : PlainUnits) (gnb : Gnb) (number : ℕ) (a : Plain (Du (Message Token) Token)) → Answered u (stepped_with reading (with_du u gnb number) a)
@@ -114,8 +114,8 @@ module _ (reading : Reading) where
   by_ue u ue x input there (spent counter) is = tt
 
   acted : (u : PlainUnits) (node : NodeId) (input : Input Token Pdu) → Answered u (acts_on reading u node input)
-  acted u (CuCp gnb) input = by_cp u gnb (cu_cp_acts plain_way (cp_of u gnb) input)
-  acted u (up_id gnb number) input = by_up u gnb number (cu_up_acts plain_way (up_of u gnb number) input)
+  acted u (CuCp gnb) input = by_cp u gnb (cu_cp_acts plain_way (cu_cp_of u gnb) input)
+  acted u (up_id gnb number) input = by_up u gnb number (cu_up_acts plain_way (cu_up_of u gnb number) input)
   acted u (du_id gnb number) input = by_du u gnb number (du_acts plain_way (du_of u gnb number) input)
   acted u (Ue ue) input = there (ue_of u (record { 0 = ue })) refl
     where

@@ -1,4 +1,4 @@
--- A terminal that is set up without messages shows the first parts of each of its bearers.
+-- A terminal that is set up without messages shows the initial models of each of its bearers.
 use Rattle.std.proofs.Common.{◌≡◌, ◌<◌, ℕ, ◌+◌, zero, suc, Bool, true, false, cond, Some, refl, sym, ap, ◌∙◌, arith}
 use Rattle.std.specs.declared.cmp.Ordering.TheVariants.{Less}
 use Rattle.std.specs.Cmp.{nat_cmp_is}
@@ -11,8 +11,8 @@ use Rattle.gnb_types.specs.declared.plans.Plan.{Plan}
 use Rattle.gnb_types.specs.Orders.{bearer_cmp}
 use Rattle.tables.specs.Tables.{find}
 use Rattle.unit_defs.specs.Ue.{UeBearer, new_bearer, new_bearers, new_ue, placed}
-use Rattle.bearer_defs.specs.chain_defs.Parts.{start as down_start}
-use Rattle.bearer_defs.specs.uplink_defs.Parts.{start}
+use Rattle.bearer_defs.specs.chain_defs.Models.{initial as down_start}
+use Rattle.bearer_defs.specs.uplink_defs.Models.{initial}
 use Rattle.proof_node_orders.specs.terminal_inputs.Inputs.{IsShown}
 
 above : (i j count : ℕ) → i < j → AllByRecursion (λ (y : BearerId). bearer_cmp (record { 0 = i }) y ≡ Less) (keys_of (new_bearers j count))
@@ -35,8 +35,8 @@ is_new bearer b i (suc count) there = by (is_at (bearer_cmp bearer) (record { 0 
     by false rest is = rest is
 
 pub first_shown : (plan : Plan) (bearer : BearerId) (b : UeBearer) (first teid : ℕ) → find bearer_cmp (placed (new_ue plan)).bearers bearer ≡ Some b
-    → IsShown (placed (new_ue plan)) bearer (record { up = start first teid; down = down_start first teid })
-unfolding new_ue placed start down_start
+    → IsShown (placed (new_ue plan)) bearer (record { up = initial first teid; down = down_start first teid })
+unfolding new_ue placed initial down_start
 first_shown plan bearer b first teid there = record {
   seen = record { there = there ∙ ap (λ x. Some x) (is_new bearer b 1 plan.bearers there); connected = refl; epoch = refl };
   sorted = in_order 1 plan.bearers;

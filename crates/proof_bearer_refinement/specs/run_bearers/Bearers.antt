@@ -8,12 +8,12 @@ use Rattle.gnb_types.specs.declared.names.BearerId.{BearerId}
 use Rattle.message_types.specs.declared.rrc.Token.{Token}
 use Rattle.unit_defs.specs.Ways.{Pdu, Input, gives, spent}
 use Rattle.unit_defs.specs.CuUp.{cu_up_acts}
-use Rattle.run_defs.specs.Units.{up_of}
+use Rattle.run_defs.specs.Units.{cu_up_of}
 use Rattle.run_defs.specs.Runs.{Plain, plain_way}
-use Rattle.proof_cu_up_orders.specs.context_orders.Orders.{UpPart, part_of, UpOrder}
+use Rattle.proof_cu_up_orders.specs.context_orders.Orders.{CuUpModel, model_of, ContextStep}
 use Rattle.proof_cu_up_orders.specs.context_orders.Inputs.{orders_of}
 use Rattle.proof_unit_steps.specs.tunnel_frames.OneTunnel.{BearersInOrder}
-use Rattle.proof_bearer_refinement.specs.law_run_units.Happenings.{UpRecord}
+use Rattle.proof_bearer_refinement.specs.run_unit_inputs.Happenings.{CuUpRecord}
 use Rattle.proof_cu_up_orders.specs.bearer_orders.Happenings.{Beside, asks, Contexts, context_after}
 use Rattle.proof_bearer_refinement.specs.run_bearers.Things.{Thing, comes, set_up, takes, PlainUnits, after_thing}
 
@@ -29,13 +29,13 @@ pub record Numbering : Type 0 where
   pub found : (place : Place) → place_of (number_of place) ≡ Some place
   pub back : (x : ℕ) (place : Place) → place_of x ≡ Some place → number_of place ≡ x
 
-abbrev pub if_of : ℕ → Option UpPart → Option UpPart
+abbrev pub if_of : ℕ → Option CuUpModel → Option CuUpModel
 if_of instance None = None
 if_of instance (Some p) = if p.instance == instance then Some p else None
 
-abbrev pub at_place : UeId → BearerId → PlainUnits → Option Place → Option UpPart
+abbrev pub at_place : UeId → BearerId → PlainUnits → Option Place → Option CuUpModel
 at_place ue bearer u None = None
-at_place ue bearer u (Some place) = if_of place.instance (part_of (up_of u place.gnb place.number) ue bearer)
+at_place ue bearer u (Some place) = if_of place.instance (model_of (cu_up_of u place.gnb place.number) ue bearer)
 
 -- what the CU-UPs have of a bearer, by context
 abbrev pub contexts_of : Numbering → UeId → BearerId → PlainUnits → Contexts
@@ -44,7 +44,7 @@ contexts_of n ue bearer u x = at_place ue bearer u (n.place_of x)
 -- ---- an order of one context; or a terminal is set up without messages, and the contexts are these then
 
 pub data Change : Type 0 where
-  asked : (x : ℕ) (order : UpOrder Pdu) → Change
+  asked : (x : ℕ) (order : ContextStep Pdu) → Change
   set_up_as : (contexts : Contexts) → Change
 
 -- what the run says beside an order changes nothing here
@@ -60,18 +60,18 @@ after_changes ue bearer cs [] = cs
 after_changes ue bearer cs (c ∷ changes) = after_changes ue bearer (changed ue bearer cs c) changes
 
 -- the instance of the bearer's context, or that of the next one
-abbrev pub instance_in : ℕ → Option UpPart → ℕ
+abbrev pub instance_in : ℕ → Option CuUpModel → ℕ
 instance_in next None = next
 instance_in next (Some p) = p.instance
 
-abbrev pub if_given : Plain UpRecord → List Change → List Change
+abbrev pub if_given : Plain CuUpRecord → List Change → List Change
 if_given (gives outputs v) changes = changes
 if_given (spent counter) changes = []
 
 abbrev pub changes_at : Numbering → UeId → BearerId → PlainUnits → NodeId → Input Token Pdu → List Change
 changes_at n ue bearer u (up_id gnb number) input =
-    let r = up_of u gnb number in
-    let x = n.number_of (record { gnb = gnb; number = number; instance = instance_in r.next_teid (part_of r ue bearer) }) in
+    let r = cu_up_of u gnb number in
+    let x = n.number_of (record { gnb = gnb; number = number; instance = instance_in r.next_teid (model_of r ue bearer) }) in
     if_given (cu_up_acts plain_way r input) (map (λ order. asked x order) (orders_of plain_way r ue bearer input))
 changes_at n ue bearer u node input = []
 
@@ -86,4 +86,4 @@ changes_over n ue bearer u (thing ∷ things) = changes_of n ue bearer u thing +
 
 -- the bearers of each context of each CU-UP are in ascending order
 abbrev pub AllInOrder : PlainUnits → Type 0
-AllInOrder u = (gnb : Gnb) (number : ℕ) → BearersInOrder (up_of u gnb number)
+AllInOrder u = (gnb : Gnb) (number : ℕ) → BearersInOrder (cu_up_of u gnb number)

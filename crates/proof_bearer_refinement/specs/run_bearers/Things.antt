@@ -9,10 +9,10 @@ use Rattle.unit_defs.specs.Ue.{UeNode, new_ue, ue_acts}
 use Rattle.unit_defs.specs.CuUp.{cu_up_acts}
 use Rattle.unit_defs.specs.Du.{du_acts}
 use Rattle.unit_defs.specs.CuCp.{cu_cp_acts}
-use Rattle.run_defs.specs.Units.{Units, cp_of, with_cp, up_of, with_up, du_of, with_du, ue_of, with_ue}
+use Rattle.run_defs.specs.Units.{Units, cu_cp_of, with_cu_cp, cu_up_of, with_cu_up, du_of, with_du, ue_of, with_ue}
 use Rattle.run_defs.specs.Conditions.{units_placed, all_set_up}
 use Rattle.run_defs.specs.Runs.{plain_way}
-use Rattle.proof_bearer_refinement.specs.law_run_units.Happenings.{kept_of}
+use Rattle.proof_bearer_refinement.specs.run_unit_inputs.Happenings.{kept_of}
 
 -- a terminal comes; one is set up without messages; a unit is given an input
 pub data Thing : Type 0 where
@@ -29,8 +29,8 @@ ue_after u ue input None = u
 ue_after u ue input (Some x) = with_ue u (record { 0 = ue }) (kept_of x (ue_acts plain_way x input))
 
 abbrev pub taken : PlainUnits → NodeId → Input Token Pdu → PlainUnits
-taken u (CuCp gnb) input = with_cp u gnb (kept_of (cp_of u gnb) (cu_cp_acts plain_way (cp_of u gnb) input))
-taken u (up_id gnb number) input = with_up u gnb number (kept_of (up_of u gnb number) (cu_up_acts plain_way (up_of u gnb number) input))
+taken u (CuCp gnb) input = with_cu_cp u gnb (kept_of (cu_cp_of u gnb) (cu_cp_acts plain_way (cu_cp_of u gnb) input))
+taken u (up_id gnb number) input = with_cu_up u gnb number (kept_of (cu_up_of u gnb number) (cu_up_acts plain_way (cu_up_of u gnb number) input))
 taken u (du_id gnb number) input = with_du u gnb number (kept_of (du_of u gnb number) (du_acts plain_way (du_of u gnb number) input))
 taken u (Ue ue) input = ue_after u ue input (ue_of u (record { 0 = ue }))
 taken u Core input = u

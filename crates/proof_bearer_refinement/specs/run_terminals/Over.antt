@@ -6,7 +6,7 @@ use Rattle.message_types.specs.declared.rrc.Token.{Token}
 use Rattle.unit_defs.specs.Ways.{Message, Pdu, Input, Answer, gives, spent}
 use Rattle.unit_defs.specs.Ue.{UeNode, new_ue, placed, ue_acts}
 use Rattle.run_defs.specs.Runs.{plain_way}
-use Rattle.proof_node_orders.specs.terminal_inputs.Inputs.{Parts, Orders, none, carried_out, orders_by}
+use Rattle.proof_node_orders.specs.terminal_inputs.Inputs.{Models, Orders, none, carried_out, orders_by}
 
 -- it comes, or is set up without messages; it is given an input
 pub data Happening : Type 0 where
@@ -46,14 +46,14 @@ abbrev pub orders_if : Answer (Message Token) Pdu UeNode → Orders → Orders
 orders_if (gives outputs v) o = o
 orders_if (spent counter) o = none
 
-abbrev pub orders_of : UeNode → BearerId → Parts → Led → Orders
+abbrev pub orders_of : UeNode → BearerId → Models → Led → Orders
 orders_of u bearer b l = orders_if (ue_acts plain_way u l.input) (orders_by plain_way u b bearer l.to l.input)
 
 abbrev pub joined : Orders → Orders → Orders
 joined o p = record { up = o.up ++ p.up; down = o.down ++ p.down }
 
 -- the orders of each input, one after another
-unfoldable pub orders_over : UeNode → BearerId → Parts → List Led → Orders
+unfoldable pub orders_over : UeNode → BearerId → Models → List Led → Orders
 orders_over u bearer b [] = none
 orders_over u bearer b (l ∷ ls) =
     let o = orders_of u bearer b l in

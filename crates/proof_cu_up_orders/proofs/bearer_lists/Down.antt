@@ -1,4 +1,4 @@
--- Orders to a bearer leave the lists of its downlink's part as they are, but for what is taken and what goes on.
+-- Orders to a bearer leave the lists of its downlink's model as they are, but for what is taken and what goes on.
 use Rattle.std.proofs.Common.{inl, inr, ◌≡◌, ◌≢◌, ◌==◌, ℕ, Bool, true, false, ◌||◌, if◌then◌else◌, List, [], ◌∷◌, ◌++◌, Option, Some, None, refl, sym, ap, subst, ◌∙◌, eqb-true}
 use Rattle.std.specs.Prelude.{⊤}
 use Rattle.std.specs.List.{AllByRecursion}
@@ -6,14 +6,14 @@ use Rattle.gnb_types.specs.declared.names.NodeId.{NodeId}
 use Rattle.gnb_types.specs.declared.names.SnBits.{SnBits}
 use Rattle.pdcp_defs.specs.Senders.{Sender, numbered as with_next, has_room, may_restore, confirmed_by}
 use Rattle.unit_defs.specs.Ways.{packet_content, report_content, Taken, fresh_item, numbered_item, uplink_item, status_item, end_item, Output, Way, Answer, gives}
-use Rattle.unit_defs.specs.UpRecords.{UpAt, UpBearer, TunnelKind, n3 as n3_kind, f1u_uplink, forwarding_down, forwarding_up}
-use Rattle.unit_defs.specs.UpBearers.{thawed}
-use Rattle.bearer_defs.specs.chain_defs.Parts.{Item, Member, Part, set}
-use Rattle.bearer_defs.specs.chain_defs.Orders.{Order, knows, switches, resumes, releases, freezes, keeps_n3, keeps_fresh, passes_n3, passes_fresh, sends, passes_numbered, drops, ends_n3, ends_hop, numbers, confirms, reports, tells_loss, sends_again, on_downlink, known, waits, changed, passed, after, run}
+use Rattle.unit_defs.specs.CuUpRecords.{CuUpScope, CuUpBearer, TunnelKind, n3 as n3_kind, f1u_uplink, forwarding_down, forwarding_up}
+use Rattle.unit_defs.specs.CuUpBearers.{thawed}
+use Rattle.bearer_defs.specs.chain_defs.Models.{Item, Member, Model, set}
+use Rattle.bearer_defs.specs.chain_defs.Orders.{ModelStep, knows, switches, resumes, releases, freezes, keeps_n3, keeps_fresh, passes_n3, passes_fresh, sends, passes_numbered, drops, ends_n3, ends_hop, numbers, confirms, reports, reports_loss, sends_again, on_downlink, known, waits, changed, passed, after, run}
 use Rattle.intervals.proofs.Intervals.{all_append}
 use Rattle.law_downlink_order.proofs.chain.Frames.{set_here, set_far}
 use Rattle.proof_cu_up_orders.specs.chain_rows.Shown.{items_of, number_orders}
-use Rattle.proof_cu_up_orders.specs.context_orders.Orders.{UpPart, UpOrder, on_switch, on_status, on_resume, done}
+use Rattle.proof_cu_up_orders.specs.context_orders.Orders.{CuUpModel, ContextStep, on_switch, on_status, on_resume, done}
 use Rattle.proof_cu_up_orders.specs.context_orders.Orders as ups
 use Rattle.proof_cu_up_orders.specs.down_orders.Down.{IsDown, serves_none, numbers_if, fresh_orders, numbered_order, confirms_if, confirmed_if, losses, item_orders, control_orders, Went, Shown, Shows, IsFit, IsAsked, IsOfUplink, ShownFrozen, ShowsFrozen}
 use Rattle.proof_cu_up_orders.proofs.down_orders.Beside.{beside}
@@ -40,7 +40,7 @@ same_set f k n is y = by (y == k) refl
     by false e = (refl, refl, refl)
 
 -- orders by which nothing is taken from a tunnel, nor goes on
-abbrev Quiet : Order → Type 0
+abbrev Quiet : ModelStep → Type 0
 Quiet (knows x status) = ⊤
 Quiet (switches x downlink epoch) = ⊤
 Quiet (resumes x) = ⊤
@@ -48,14 +48,14 @@ Quiet (releases x) = ⊤
 Quiet (numbers x packet rest) = ⊤
 Quiet (confirms x count) = ⊤
 Quiet (reports x fmc bits) = ⊤
-Quiet (tells_loss x) = ⊤
+Quiet (reports_loss x) = ⊤
 Quiet (sends_again x) = ⊤
 Quiet order = ⊥
 
-abbrev AllQuiet : List Order → Type 0
+abbrev AllQuiet : List ModelStep → Type 0
 AllQuiet orders = AllByRecursion Quiet orders
 
-one_quiet : (s : Part) (o : Order) → Quiet o → (y : ℕ) → SameLists (s.members y) ((after s o).members y)
+one_quiet : (s : Model) (o : ModelStep) → Quiet o → (y : ℕ) → SameLists (s.members y) ((after s o).members y)
 unfolding after
 one_quiet s (knows x status) q y = same_set s.members x _ (refl, refl, refl) y
 one_quiet s (switches x downlink epoch) q y = same_set s.members x _ (refl, refl, refl) y
@@ -64,17 +64,17 @@ one_quiet s (releases x) q y = same_set s.members x _ (refl, refl, refl) y
 one_quiet s (numbers x packet rest) q y = same_set s.members x _ (refl, refl, refl) y
 one_quiet s (confirms x count) q y = same_set s.members x _ (refl, refl, refl) y
 one_quiet s (reports x fmc bits) q y = same_set s.members x _ (refl, refl, refl) y
-one_quiet s (tells_loss x) q y = same_set s.members x _ (refl, refl, refl) y
+one_quiet s (reports_loss x) q y = same_set s.members x _ (refl, refl, refl) y
 one_quiet s (sends_again x) q y = (refl, refl, refl)
 one_quiet s o q y = absurd q
 
-all_quiet : (os : List Order) (s : Part) → AllQuiet os → (y : ℕ) → SameLists (s.members y) ((run s os).members y)
+all_quiet : (os : List ModelStep) (s : Model) → AllQuiet os → (y : ℕ) → SameLists (s.members y) ((run s os).members y)
 unfolding run
 all_quiet [] s q y = (refl, refl, refl)
 all_quiet (o ∷ os) s q y =
     same_later (s.members y) ((after s o).members y) ((run (after s o) os).members y) (one_quiet s o q.0 y) (all_quiet os (after s o) q.1 y)
 
-quiet_if : (t : Bool) (os more : List Order) → AllQuiet os → AllQuiet more → AllQuiet (if t then os else more)
+quiet_if : (t : Bool) (os more : List ModelStep) → AllQuiet os → AllQuiet more → AllQuiet (if t then os else more)
 quiet_if true os more p q = p
 quiet_if false os more p q = q
 
@@ -84,7 +84,7 @@ number_quiet sn quota x [] q = tt
 number_quiet sn quota x (p ∷ ps) q =
     quiet_if (has_room sn quota q) (numbers x p ps ∷ number_orders sn quota x ps (with_next q p)) [] (tt, number_quiet sn quota x ps (with_next q p)) tt
 
-numbers_quiet : (x : ℕ) (at : UpAt) (b : UpBearer) → AllQuiet (numbers_if x at b)
+numbers_quiet : (x : ℕ) (at : CuUpScope) (b : CuUpBearer) → AllQuiet (numbers_if x at b)
 numbers_quiet x at b = quiet_if (serves_none at b) [] (number_orders at.sn at.quota x b.waiting b.sender) tt (number_quiet at.sn at.quota x b.waiting b.sender)
 
 losses_quiet : (x : ℕ) (is_frozen : Bool) (lost : List (ℕ × ℕ)) → AllQuiet (losses x is_frozen lost)
@@ -95,7 +95,7 @@ confirms_quiet : (x : ℕ) (count : Option ℕ) → AllQuiet (confirms_if x coun
 confirms_quiet x None = tt
 confirms_quiet x (Some count) = (tt, tt)
 
-control_quiet : {P : Type 0} (x epoch : ℕ) (p : UpPart) (order : UpOrder P) → AllQuiet (control_orders x epoch p order)
+control_quiet : {P : Type 0} (x epoch : ℕ) (p : CuUpModel) (order : ContextStep P) → AllQuiet (control_orders x epoch p order)
 control_quiet x epoch p (ups.switches du teid) = (
   tt,
   quiet_if p.at.flags.may_serve (numbers_if x (on_switch p).at (on_downlink p.bearer (record { du = du; teid = teid; next = 0 }))) []
@@ -115,7 +115,7 @@ control_quiet x epoch p order = tt
 abbrev IsListed : Member → List Item → List Item → ℕ → Type 0
 IsListed m a f h = (m.n3 ≡ a) × (m.forwarded ≡ f) × (m.next_hop ≡ h)
 
-module _ (s : Part) (x : ℕ) where
+module _ (s : Model) (x : ℕ) where
   changed_here : (m : Member) → IsListed ((changed s x m).members x) m.n3 m.forwarded m.next_hop
   changed_here m =
       let here : (changed s x m).members x ≡ m = set_here s.members x m in
@@ -126,20 +126,20 @@ module _ (s : Part) (x : ℕ) where
       let here : (passed s x m items).members x ≡ m = set_far (changed s x m).members m.next_hop _ x (λ e. far (sym e)) ∙ set_here s.members x m in
       (ap (λ (k : Member). k.n3) here, ap (λ (k : Member). k.forwarded) here, ap (λ (k : Member). k.next_hop) here)
 
-  then_quiet : (o : Order) (os : List Order) (a f : List Item) (h : ℕ) → IsListed ((after s o).members x) a f h → AllQuiet os
+  then_quiet : (o : ModelStep) (os : List ModelStep) (a f : List Item) (h : ℕ) → IsListed ((after s o).members x) a f h → AllQuiet os
       → IsListed ((run s (o ∷ os)).members x) a f h
   unfolding run
   then_quiet o os a f h is q =
       let same = all_quiet os (after s o) q x in (same.0 ∙ is.0, same.1 ∙ is.1, same.2 ∙ is.2)
 
-  only_quiet : (os : List Order) → AllQuiet os → IsListed ((run s os).members x) (s.members x).n3 (s.members x).forwarded (s.members x).next_hop
+  only_quiet : (os : List ModelStep) → AllQuiet os → IsListed ((run s os).members x) (s.members x).n3 (s.members x).forwarded (s.members x).next_hop
   only_quiet os q = all_quiet os s q x
 
-  module _ (p : UpPart) (far : (s.members x).next_hop ≢ x) where
+  module _ (p : CuUpModel) (far : (s.members x).next_hop ≢ x) where
     abbrev m : Member
     m = s.members x
 
-    fresh_here : (packet : List ℕ) (on keeps : Order) (a f : List Item) → IsListed ((after s on).members x) a f m.next_hop
+    fresh_here : (packet : List ℕ) (on keeps : ModelStep) (a f : List Item) → IsListed ((after s on).members x) a f m.next_hop
         → IsListed ((after s keeps).members x) a f m.next_hop
         → IsListed ((run s (fresh_orders x p.at p.bearer packet on keeps)).members x) a f m.next_hop
     fresh_here packet on keeps a f goes stays = by p.at.flags.frozen
@@ -183,7 +183,7 @@ module _ (s : Part) (x : ℕ) where
 
 -- ---- what a row shows
 
-from_went : (s t : Part) (x : ℕ) (a f : List Item) (next : ℕ) (m : Member) (items : List Item) (packets : List (ℕ × List ℕ)) → Went s t x m items packets
+from_went : (s t : Model) (x : ℕ) (a f : List Item) (next : ℕ) (m : Member) (items : List Item) (packets : List (ℕ × List ℕ)) → Went s t x m items packets
     → IsListed (t.members x) a f next → Moved s t x a f next items
 from_went s t x a f next m items packets w here =
     let hop : m.next_hop ≡ next = sym (ap (λ (k : Member). k.next_hop) w.here) ∙ here.2 in record {
@@ -196,18 +196,18 @@ from_went s t x a f next m items packets w here =
       hops_others = λ y far. ap (λ (k : Member). k.next_hop) (w.others y far);
     }
 
-module _ {M C P : Type 0} (way : Way M C P) (s : Part) (x : ℕ) (p q : UpPart) (outputs : List (Output M P)) where
-  from_shown : (t : Part) (a f : List Item) (next : ℕ) (answer : Answer M P (Option UpPart)) → Shows way s t x answer → answer ≡ gives outputs (Some q)
+module _ {M C P : Type 0} (way : Way M C P) (s : Model) (x : ℕ) (p q : CuUpModel) (outputs : List (Output M P)) where
+  from_shown : (t : Model) (a f : List Item) (next : ℕ) (answer : Answer M P (Option CuUpModel)) → Shows way s t x answer → answer ≡ gives outputs (Some q)
       → IsListed (t.members x) a f next → Moved s t x a f next (items_of outputs)
   from_shown t a f next answer shows is here =
-      let shown : Shown way s t x q outputs = subst (λ (b : Answer M P (Option UpPart)). Shows way s t x b) is shows in
+      let shown : Shown way s t x q outputs = subst (λ (b : Answer M P (Option CuUpModel)). Shows way s t x b) is shows in
       from_went s t x a f next shown.member (items_of outputs) _ shown.went here
 
-  from_frozen : (t : Part) (to promised : ℕ) (answer : Answer M P (Option UpPart)) → to ≢ x → ShowsFrozen s t x to promised answer
+  from_frozen : (t : Model) (to promised : ℕ) (answer : Answer M P (Option CuUpModel)) → to ≢ x → ShowsFrozen s t x to promised answer
       → answer ≡ gives outputs (Some q) → IsListed (t.members x) (s.members x).n3 (s.members x).forwarded to
       → Moved s t x (s.members x).n3 (s.members x).forwarded to (items_of outputs)
   from_frozen t to promised answer apart shows is here =
-      let shown : ShownFrozen s t x to promised q outputs = subst (λ (b : Answer M P (Option UpPart)). ShowsFrozen s t x to promised b) is shows in
+      let shown : ShownFrozen s t x to promised q outputs = subst (λ (b : Answer M P (Option CuUpModel)). ShowsFrozen s t x to promised b) is shows in
       let w = shown.froze in record {
         n3_here = here.0;
         forwarded_here = here.1;
@@ -237,7 +237,7 @@ module _ {M C P : Type 0} (way : Way M C P) (s : Part) (x : ℕ) (p q : UpPart) 
       hops_by {y} there others false e = ap (λ (k : Member). k.next_hop) (others (not_same y to e))
 
   module _ (is : IsDown (s.members x) p) (b : Beside) where
-    abbrev Result : UpOrder P → Type 0
+    abbrev Result : ContextStep P → Type 0
     Result order =
         done way order p ≡ gives outputs (Some q)
         → Moved s (run s (orders_of x b p order)) x (n3_left b.left_down (s.members x) order) (forwarded_left b.left_down (s.members x) order)
@@ -257,7 +257,7 @@ module _ {M C P : Type 0} (way : Way M C P) (s : Part) (x : ℕ) (p q : UpPart) 
         from_shown s (s.members x).n3 (s.members x).forwarded (s.members x).next_hop _ (beside way s x p is forwarding_up teid end_item fit) at (refl, refl, refl)
     of_uplink kind teid item fit at = absurd fit
 
-    by_control : (order : UpOrder P) → IsAsked p order → done way order p ≡ gives outputs (Some q)
+    by_control : (order : ContextStep P) → IsAsked p order → done way order p ≡ gives outputs (Some q)
         → Moved s (run s (control_orders x b.epoch p order)) x (s.members x).n3 (s.members x).forwarded (s.members x).next_hop (items_of outputs)
     by_control order asked at =
         from_shown (run s (control_orders x b.epoch p order)) (s.members x).n3 (s.members x).forwarded (s.members x).next_hop _
@@ -271,7 +271,7 @@ module _ {M C P : Type 0} (way : Way M C P) (s : Part) (x : ℕ) (p q : UpPart) 
         let here = set_far (set s.members x _) b.to _ x (λ e. far (sym e)) ∙ first in
         (ap (λ (k : Member). k.n3) here, ap (λ (k : Member). k.forwarded) here, ap (λ (k : Member). k.next_hop) here)
 
-    moved : (order : UpOrder P) → IsFor p order → next_after b.to (s.members x) order ≢ x → Result order
+    moved : (order : ContextStep P) → IsFor p order → next_after b.to (s.members x) order ≢ x → Result order
     moved (ups.takes kind teid item) (stands, inl up) far at = of_uplink kind teid item up at
     moved (ups.takes kind teid item) (stands, inr fit) far at =
         from_shown (run s (item_orders x p b.left_down kind item)) (n3_left b.left_down (s.members x) (ups.takes kind teid item))

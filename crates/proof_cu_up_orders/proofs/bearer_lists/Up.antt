@@ -1,17 +1,17 @@
--- Orders to a bearer leave the lists of its uplink's part as they are, but for what is taken and what goes on.
+-- Orders to a bearer leave the lists of its uplink's model as they are, but for what is taken and what goes on.
 use Rattle.std.proofs.Common.{inl, inr, ◌≡◌, ◌≢◌, ◌==◌, ℕ, Bool, true, false, if◌then◌else◌, nat_lt, List, [], ◌∷◌, ◌++◌, Option, Some, None, refl, sym, ap, subst, ◌∙◌, eqb-true}
 use Rattle.std.specs.Prelude.{⊤}
 use Rattle.std.specs.List.{AllByRecursion}
 use Rattle.gnb_types.specs.declared.names.NodeId.{NodeId}
 use Rattle.pdcp_defs.specs.Receivers.{Delivery, is_duplicate, stored as stores_in, deliver}
 use Rattle.unit_defs.specs.Ways.{packet_content, report_content, Taken, fresh_item, numbered_item, uplink_item, status_item, end_item, Output, Way, Answer, gives}
-use Rattle.unit_defs.specs.UpRecords.{SourceHop, TunnelKind, n3, f1u_uplink, forwarding_down, forwarding_up}
-use Rattle.bearer_defs.specs.chain_defs.Parts.{set}
-use Rattle.bearer_defs.specs.uplink_defs.Parts.{Item, numbered, end_marker, uplink_tunnel, forwarding, Member, Part, with_rest}
-use Rattle.bearer_defs.specs.uplink_defs.Orders.{Order, adds, knows, switches, resumes, releases, freezes, takes, stores, without_uplink, changed, passed, handed, stored_at, new_at, late_at, taken_at, is_up_over, with_ended, ended_if, ended_at, after, run}
+use Rattle.unit_defs.specs.CuUpRecords.{SourceHop, TunnelKind, n3, f1u_uplink, forwarding_down, forwarding_up}
+use Rattle.bearer_defs.specs.chain_defs.Models.{set}
+use Rattle.bearer_defs.specs.uplink_defs.Models.{Item, numbered, end_marker, uplink_tunnel, forwarding, Member, Model, with_rest}
+use Rattle.bearer_defs.specs.uplink_defs.Orders.{ModelStep, adds, knows, switches, resumes, releases, freezes, takes, stores, without_uplink, changed, passed, handed, stored_at, new_at, late_at, taken_at, is_up_over, with_ended, ended_if, ended_at, after, run}
 use Rattle.law_downlink_order.proofs.chain.Frames.{set_here, set_far}
 use Rattle.proof_cu_up_orders.specs.uplink_rows.Shown.{items_of}
-use Rattle.proof_cu_up_orders.specs.context_orders.Orders.{UpPart, UpOrder, done}
+use Rattle.proof_cu_up_orders.specs.context_orders.Orders.{CuUpModel, ContextStep, done}
 use Rattle.proof_cu_up_orders.specs.context_orders.Orders as ups
 use Rattle.proof_cu_up_orders.specs.orders.Up.{IsUp, item_orders, control_orders, Went, Shown, Shows, IsFit, IsAsked, IsOfDownlink, ShownFrozen, ShowsFrozen}
 use Rattle.proof_cu_up_orders.proofs.orders.Beside.{beside, polled}
@@ -39,7 +39,7 @@ same_set f k n is y = by (y == k) refl
     by false e = (refl, refl, refl)
 
 -- orders by which nothing is taken from a tunnel, nor goes on
-abbrev Quiet : Order → Type 0
+abbrev Quiet : ModelStep → Type 0
 Quiet (adds x teid) = ⊤
 Quiet (knows x status) = ⊤
 Quiet (switches x) = ⊤
@@ -47,7 +47,7 @@ Quiet (resumes x) = ⊤
 Quiet (releases x) = ⊤
 Quiet order = ⊥
 
-one_quiet : (s : Part) (o : Order) → Quiet o → (y : ℕ) → SameLists (s.members y) ((after s o).members y)
+one_quiet : (s : Model) (o : ModelStep) → Quiet o → (y : ℕ) → SameLists (s.members y) ((after s o).members y)
 unfolding after
 one_quiet s (adds x teid) q y = same_set s.members x _ (refl, refl, refl) y
 one_quiet s (knows x status) q y = same_set s.members x _ (refl, refl, refl) y
@@ -56,13 +56,13 @@ one_quiet s (resumes x) q y = same_set s.members x _ (refl, refl, refl) y
 one_quiet s (releases x) q y = same_set s.members x _ (refl, refl, refl) y
 one_quiet s o q y = absurd q
 
-all_quiet : (os : List Order) (s : Part) → AllByRecursion Quiet os → (y : ℕ) → SameLists (s.members y) ((run s os).members y)
+all_quiet : (os : List ModelStep) (s : Model) → AllByRecursion Quiet os → (y : ℕ) → SameLists (s.members y) ((run s os).members y)
 unfolding run
 all_quiet [] s q y = (refl, refl, refl)
 all_quiet (o ∷ os) s q y =
     same_later (s.members y) ((after s o).members y) ((run (after s o) os).members y) (one_quiet s o q.0 y) (all_quiet os (after s o) q.1 y)
 
-control_quiet : {P : Type 0} (x : ℕ) (p : UpPart) (order : UpOrder P) → AllByRecursion Quiet (control_orders x p order)
+control_quiet : {P : Type 0} (x : ℕ) (p : CuUpModel) (order : ContextStep P) → AllByRecursion Quiet (control_orders x p order)
 control_quiet x p (ups.adds teid) = (tt, tt)
 control_quiet x p (ups.switches du teid) = (tt, tt)
 control_quiet x p (ups.knows status) = by p.at.flags.arrived
@@ -79,7 +79,7 @@ control_quiet x p order = tt
 abbrev IsListed : Member → (ℕ → List Item) → List Item → ℕ → Type 0
 IsListed m u f h = (m.uplink ≡ u) × (m.forwarded ≡ f) × (m.next_hop ≡ h)
 
-module _ (s : Part) (x : ℕ) where
+module _ (s : Model) (x : ℕ) where
   changed_here : (m : Member) → IsListed ((changed s x m).members x) m.uplink m.forwarded m.next_hop
   changed_here m =
       let here : (changed s x m).members x ≡ m = set_here s.members x m in
@@ -118,7 +118,7 @@ module _ (s : Part) (x : ℕ) where
       by true = passed_here (with_ended m hop) (end_marker ∷ []) far
       by false = changed_here m
 
-  item_here : {P : Type 0} (p : UpPart) (kind : TunnelKind) (teid : ℕ) (item : Taken P) (rest : List Item) → IsFit p kind item
+  item_here : {P : Type 0} (p : CuUpModel) (kind : TunnelKind) (teid : ℕ) (item : Taken P) (rest : List Item) → IsFit p kind item
       → (s.members x).next_hop ≢ x
       → IsListed ((run s (item_orders x rest kind teid item)).members x) (uplink_left rest (s.members x) (ups.takes kind teid item))
       (forwarded_left rest (s.members x) (ups.takes kind teid item)) (s.members x).next_hop
@@ -136,7 +136,7 @@ module _ (s : Part) (x : ℕ) where
 
 -- ---- what a row shows
 
-from_went : (s t : Part) (x : ℕ) (u : ℕ → List Item) (f : List Item) (next : ℕ) (m : Member) (items : List Item) (packets : List (ℕ × List ℕ))
+from_went : (s t : Model) (x : ℕ) (u : ℕ → List Item) (f : List Item) (next : ℕ) (m : Member) (items : List Item) (packets : List (ℕ × List ℕ))
     → Went s t x m items packets → IsListed (t.members x) u f next → Moved s t x u f next items
 from_went s t x u f next m items packets w here =
     let hop : m.next_hop ≡ next = sym (ap (λ (k : Member). k.next_hop) w.here) ∙ here.2 in record {
@@ -149,18 +149,18 @@ from_went s t x u f next m items packets w here =
       hops_others = λ y far. ap (λ (k : Member). k.next_hop) (w.others y far);
     }
 
-module _ {M C P : Type 0} (way : Way M C P) (s : Part) (x : ℕ) (p q : UpPart) (outputs : List (Output M P)) where
-  from_shown : (t : Part) (u : ℕ → List Item) (f : List Item) (next : ℕ) (answer : Answer M P (Option UpPart)) → Shows s t x answer
+module _ {M C P : Type 0} (way : Way M C P) (s : Model) (x : ℕ) (p q : CuUpModel) (outputs : List (Output M P)) where
+  from_shown : (t : Model) (u : ℕ → List Item) (f : List Item) (next : ℕ) (answer : Answer M P (Option CuUpModel)) → Shows s t x answer
       → answer ≡ gives outputs (Some q) → IsListed (t.members x) u f next → Moved s t x u f next (items_of outputs)
   from_shown t u f next answer shows is here =
-      let shown : Shown s t x q outputs = subst (λ (b : Answer M P (Option UpPart)). Shows s t x b) is shows in
+      let shown : Shown s t x q outputs = subst (λ (b : Answer M P (Option CuUpModel)). Shows s t x b) is shows in
       from_went s t x u f next shown.member (items_of outputs) _ shown.went here
 
-  from_frozen : (t : Part) (to promised : ℕ) (answer : Answer M P (Option UpPart)) → to ≢ x → ShowsFrozen s t x to promised answer
+  from_frozen : (t : Model) (to promised : ℕ) (answer : Answer M P (Option CuUpModel)) → to ≢ x → ShowsFrozen s t x to promised answer
       → answer ≡ gives outputs (Some q) → IsListed (t.members x) (s.members x).uplink (s.members x).forwarded to
       → Moved s t x (s.members x).uplink (s.members x).forwarded to (items_of outputs)
   from_frozen t to promised answer apart shows is here =
-      let shown : ShownFrozen s t x to promised q outputs = subst (λ (b : Answer M P (Option UpPart)). ShowsFrozen s t x to promised b) is shows in
+      let shown : ShownFrozen s t x to promised q outputs = subst (λ (b : Answer M P (Option CuUpModel)). ShowsFrozen s t x to promised b) is shows in
       let w = shown.froze in record {
         uplink_here = here.0;
         forwarded_here = here.1;
@@ -192,7 +192,7 @@ module _ {M C P : Type 0} (way : Way M C P) (s : Part) (x : ℕ) (p q : UpPart) 
       hops_by {y} there others false e = ap (λ (k : Member). k.next_hop) (others (not_same y to e))
 
   module _ (is : IsUp (s.members x) p) (b : Beside) where
-    abbrev Result : UpOrder P → Type 0
+    abbrev Result : ContextStep P → Type 0
     Result order =
         done way order p ≡ gives outputs (Some q)
         → Moved s (run s (orders_of x b p order)) x (uplink_left b.left_up (s.members x) order) (forwarded_left b.left_up (s.members x) order)
@@ -201,7 +201,7 @@ module _ {M C P : Type 0} (way : Way M C P) (s : Part) (x : ℕ) (p q : UpPart) 
     abbrev Stays : Type 0
     Stays = Moved s s x (s.members x).uplink (s.members x).forwarded (s.members x).next_hop (items_of outputs)
 
-    stayed : (answer : Answer M P (Option UpPart)) → Shows s s x answer → answer ≡ gives outputs (Some q) → Stays
+    stayed : (answer : Answer M P (Option CuUpModel)) → Shows s s x answer → answer ≡ gives outputs (Some q) → Stays
     stayed answer shows at = from_shown s (s.members x).uplink (s.members x).forwarded (s.members x).next_hop answer shows at (refl, refl, refl)
 
     of_downlink : (kind : TunnelKind) (teid : ℕ) (item : Taken P) → IsOfDownlink kind item → Result (ups.takes kind teid item)
@@ -216,7 +216,7 @@ module _ {M C P : Type 0} (way : Way M C P) (s : Part) (x : ℕ) (p q : UpPart) 
     of_downlink f1u_uplink teid (status_item lost delivered) fit at = stayed _ (beside way s x p is f1u_uplink teid (status_item lost delivered) fit) at
     of_downlink kind teid item fit at = absurd fit
 
-    by_control : (order : UpOrder P) → IsAsked p order → done way order p ≡ gives outputs (Some q)
+    by_control : (order : ContextStep P) → IsAsked p order → done way order p ≡ gives outputs (Some q)
         → Moved s (run s (control_orders x p order)) x (s.members x).uplink (s.members x).forwarded (s.members x).next_hop (items_of outputs)
     by_control order asked at =
         from_shown (run s (control_orders x p order)) (s.members x).uplink (s.members x).forwarded (s.members x).next_hop _
@@ -229,7 +229,7 @@ module _ {M C P : Type 0} (way : Way M C P) (s : Part) (x : ℕ) (p q : UpPart) 
         let here = set_here (set s.members b.to _) x _ in
         (ap (λ (k : Member). k.uplink) here, ap (λ (k : Member). k.forwarded) here, ap (λ (k : Member). k.next_hop) here)
 
-    moved : (order : UpOrder P) → IsFor p order → next_after b.to (s.members x) order ≢ x → Result order
+    moved : (order : ContextStep P) → IsFor p order → next_after b.to (s.members x) order ≢ x → Result order
     unfolding run
     moved (ups.takes kind teid item) (stands, inl down) far at = of_downlink kind teid item down at
     moved (ups.takes kind teid item) (stands, inr fit) far at =

@@ -4,9 +4,9 @@ use Rattle.std.proofs.lemmas.List.{append-nil}
 use Rattle.gnb_types.specs.declared.names.SnBits.{SnBits}
 use Rattle.pdcp_defs.specs.Senders.{Sender, numbered as with_next, has_room}
 use Rattle.unit_defs.specs.Ways.{Pdu, packet_pdu}
-use Rattle.bearer_defs.specs.chain_defs.Parts.{Member, Part, set}
-use Rattle.bearer_defs.specs.chain_defs.Orders.{Order, numbers, after, run}
-use Rattle.bearer_defs.specs.chain_defs.Guards.{IsReady, IsOwed, AreKept}
+use Rattle.bearer_defs.specs.chain_defs.Models.{Member, Model, set}
+use Rattle.bearer_defs.specs.chain_defs.Orders.{ModelStep, numbers, after, run}
+use Rattle.bearer_defs.specs.chain_defs.Assumptions.{IsReady, IsAssumed, AreKept}
 use Rattle.law_downlink_order.proofs.chain.Frames.{set_here, set_far}
 use Rattle.proof_cu_up_orders.specs.chain_rows.Shown.{numbers_all, still_waits, numbered_pdus, number_orders, numbered_packets, Became}
 
@@ -37,9 +37,9 @@ pdus_are sn quota (p ∷ ps) q = by (has_room sn quota q) (pdus_are sn quota ps 
 
 module _ (sn : SnBits) (quota x : ℕ) where
   -- what the orders ask of the unit
-  pub numbering_kept : (ps : List (List ℕ)) (s : Part) (m : Member) → s.members x ≡ m → m.is_there ≡ true → m.flags.may_serve ≡ true
+  pub numbering_kept : (ps : List (List ℕ)) (s : Model) (m : Member) → s.members x ≡ m → m.is_there ≡ true → m.flags.may_serve ≡ true
       → m.flags.frozen ≡ false → m.bearer.waiting ≡ ps → AreKept sn quota s (number_orders sn quota x ps m.bearer.sender)
-  unfolding AreKept number_orders IsReady IsOwed after
+  unfolding AreKept number_orders IsReady IsAssumed after
   numbering_kept [] s m here there known unfrozen waits = tt
   numbering_kept (p ∷ ps) s m here there known unfrozen waits =
       by (has_room sn quota m.bearer.sender) refl
@@ -64,7 +64,7 @@ module _ (sn : SnBits) (quota x : ℕ) where
       by false room rest = tt
 
   -- and what they do
-  pub numbering_is : (ps : List (List ℕ)) (s : Part) (m : Member) → s.members x ≡ m → m.bearer.waiting ≡ ps
+  pub numbering_is : (ps : List (List ℕ)) (s : Model) (m : Member) → s.members x ≡ m → m.bearer.waiting ≡ ps
       → Became s (run s (number_orders sn quota x ps m.bearer.sender)) x
       (with_lists m (numbers_all sn quota ps m.bearer.sender) (still_waits sn quota ps ps m.bearer.sender))
       (numbered_packets sn quota ps m.bearer.sender)

@@ -11,10 +11,10 @@ use Rattle.gnb_types.specs.declared.outputs.Tag.{Tag}
 use Rattle.gnb_types.specs.declared.outputs.Tag.TheVariants.{Absent, Own, Same}
 use Rattle.unit_defs.specs.Ways.{Pdu, packet_pdu, Load, frame, Output, packet, control, radio, deliver, dropped, held, opened, closed, failed, no, Way, Answer, gives, spent, with_outputs, ◌then◌, nothing, puts, drops, frames_spent, counts_spent}
 use Rattle.unit_defs.specs.Ways as ways
-use Rattle.unit_defs.specs.UpRecords.{UpBearer, SourceHop, Downlink, UpAt}
-use Rattle.unit_defs.specs.UpBearers.{forwarded_down, forwarded_up, forward_numbered, forward_fresh, forward_late, frozen_to, number_waiting, number_each, sent, sent_again, framed, framed_on, has_downlink, last_frame}
-use Rattle.unit_defs.specs.UpItems.{took_fresh, took_numbered, took_report, took_delivery_status, closed_n3, n3_ended}
-use Rattle.bearer_defs.specs.chain_defs.Parts.{Item, numbered, fresh, end_marker}
+use Rattle.unit_defs.specs.CuUpRecords.{CuUpBearer, SourceHop, DownlinkTunnel, CuUpScope}
+use Rattle.unit_defs.specs.CuUpBearers.{forwarded_down, forwarded_up, forward_numbered, forward_fresh, forward_late, frozen_to, number_waiting, number_each, sent, sent_again, framed, framed_on, has_downlink, last_frame}
+use Rattle.unit_defs.specs.CuUpItems.{took_fresh, took_numbered, took_report, took_delivery_status, closed_n3, n3_ended}
+use Rattle.bearer_defs.specs.chain_defs.Models.{Item, numbered, fresh, end_marker}
 use Rattle.bearer_defs.specs.chain_defs.Orders.{forwards, frozen, waits, waits_unless, takes_unless, holds}
 use Rattle.proof_cu_up_orders.specs.chain_rows.Shown.{items_of, item_of, pdus_of, pdu_of, plain, without_number, Gives, numbers_all, still_waits, numbered_pdus}
 
@@ -33,7 +33,7 @@ module _ {M P : Type 0} where
       ap (λ zs. pdu_of load ++ zs) (pdus-append xs ys) ∙ sym (append_assoc (pdu_of load) (pdus_of xs) (pdus_of ys))
   pdus-append (_ ∷ xs) ys = pdus-append xs ys
 
-module _ {M C P : Type 0} (way : Way M C P) (at : UpAt) where
+module _ {M C P : Type 0} (way : Way M C P) (at : CuUpScope) where
   -- ---- what goes to the next context
 
   unfoldable pub down : SourceHop → Tag → Load P → Output M P
@@ -42,27 +42,27 @@ module _ {M C P : Type 0} (way : Way M C P) (at : UpAt) where
   unfoldable pub up : SourceHop → Tag → Load P → Output M P
   up hop tag load = packet hop.peer hop.up at.ue at.bearer Ul tag load
 
-  pub put_down_is : (tag : Tag) (load : Load P) (b : UpBearer) (hop : SourceHop) → b.hop ≡ Some hop
+  pub put_down_is : (tag : Tag) (load : Load P) (b : CuUpBearer) (hop : SourceHop) → b.hop ≡ Some hop
       → forwarded_down way at tag load b ≡ gives (down hop tag load ∷ []) b
   unfolding forwarded_down down
   put_down_is tag load b hop e = rw e
 
-  pub put_up_is : (tag : Tag) (load : Load P) (b : UpBearer) (hop : SourceHop) → b.hop ≡ Some hop
+  pub put_up_is : (tag : Tag) (load : Load P) (b : CuUpBearer) (hop : SourceHop) → b.hop ≡ Some hop
       → forwarded_up way at tag load b ≡ gives (up hop tag load ∷ []) b
   unfolding forwarded_up up
   put_up_is tag load b hop e = rw e
 
-  pub numbered_are : (es : List (ℕ × List ℕ)) (b : UpBearer) (hop : SourceHop) → b.hop ≡ Some hop
+  pub numbered_are : (es : List (ℕ × List ℕ)) (b : CuUpBearer) (hop : SourceHop) → b.hop ≡ Some hop
       → forward_numbered way at es b ≡ gives (map (λ e. down hop (Own e.0) (ways.numbered at.sn e.0 e.1)) es) b
   numbered_are [] b hop e = refl
   numbered_are (x ∷ es) b hop e = rw (put_down_is (Own x.0) (ways.numbered at.sn x.0 x.1) b hop e, numbered_are es b hop e)
 
-  pub fresh_are : (ps : List (List ℕ)) (b : UpBearer) (hop : SourceHop) → b.hop ≡ Some hop
+  pub fresh_are : (ps : List (List ℕ)) (b : CuUpBearer) (hop : SourceHop) → b.hop ≡ Some hop
       → forward_fresh way at ps b ≡ gives (map (λ p. down hop Absent (ways.fresh p)) ps) b
   fresh_are [] b hop e = refl
   fresh_are (x ∷ ps) b hop e = rw (put_down_is Absent (ways.fresh x) b hop e, fresh_are ps b hop e)
 
-  pub late_are : (es : List (ℕ × List ℕ)) (b : UpBearer) (hop : SourceHop) → b.hop ≡ Some hop
+  pub late_are : (es : List (ℕ × List ℕ)) (b : CuUpBearer) (hop : SourceHop) → b.hop ≡ Some hop
       → forward_late way at es b ≡ gives (map (λ e. up hop (Own e.0) (ways.numbered at.sn e.0 e.1)) es) b
   late_are [] b hop e = refl
   late_are (x ∷ es) b hop e = rw (put_up_is (Own x.0) (ways.numbered at.sn x.0 x.1) b hop e, late_are es b hop e)
@@ -106,12 +106,12 @@ module _ {M C P : Type 0} (way : Way M C P) (at : UpAt) where
   abbrev hop_of : NodeId → ℕ → ℕ → SourceHop
   hop_of peer d u = record { peer = peer; down = d; up = u; up_ended = false }
 
-  pub freezes : (peer : NodeId) (d u : ℕ) (b : UpBearer)
+  pub freezes : (peer : NodeId) (d u : ℕ) (b : CuUpBearer)
       → Gives way at.sn (forwards b) [] (frozen b (hop_of peer d u)) (frozen_to way at peer d u b)
   unfolding Gives frozen_to
   freezes peer d u b =
       let hop = hop_of peer d u in
-      let c : UpBearer = frozen b hop in
+      let c : CuUpBearer = frozen b hop in
       let xs = map (λ (e : ℕ × List ℕ). down hop (Own e.0) (ways.numbered at.sn e.0 e.1)) b.sender.unconfirmed in
       let ys = map (λ p. down hop Absent (ways.fresh p)) b.waiting in
       let zs = map (λ (e : ℕ × List ℕ). up hop (Own e.0) (ways.numbered at.sn e.0 e.1)) b.receiver.stored in
@@ -126,7 +126,7 @@ module _ {M C P : Type 0} (way : Way M C P) (at : UpAt) where
 
   -- ---- items that go on
 
-  pub passes_a_fresh_one : (p : List ℕ) (b : UpBearer) (hop : SourceHop) → b.hop ≡ Some hop → at.flags.frozen ≡ true
+  pub passes_a_fresh_one : (p : List ℕ) (b : CuUpBearer) (hop : SourceHop) → b.hop ≡ Some hop → at.flags.frozen ≡ true
       → Gives way at.sn (fresh p ∷ []) [] (waits_unless at.flags.released b p) (took_fresh way at p b)
   unfolding Gives took_fresh items_of pdus_of down
   passes_a_fresh_one p b hop e f = by at.flags.released at.flags.frozen f
@@ -138,13 +138,13 @@ module _ {M C P : Type 0} (way : Way M C P) (at : UpAt) where
       by false true g = rw (put_down_is Absent (ways.fresh p) (waits b p) hop e) (refl, refl, refl)
       by false false g = absurd (true≢false (sym g))
 
-  pub passes_a_numbered_one : (count : ℕ) (p : List ℕ) (b : UpBearer) (hop : SourceHop) → b.hop ≡ Some hop → at.flags.frozen ≡ true
+  pub passes_a_numbered_one : (count : ℕ) (p : List ℕ) (b : CuUpBearer) (hop : SourceHop) → b.hop ≡ Some hop → at.flags.frozen ≡ true
       → (at.flags.released ≡ false → may_restore at.sn at.quota b.sender count ≡ true)
       → Gives way at.sn (numbered count p ∷ []) [] (takes_unless at.flags.released b count p) (took_numbered way at (Some count) p b)
   unfolding Gives took_numbered items_of pdus_of restored down
   passes_a_numbered_one count p b hop e f room = by at.flags.released at.flags.frozen (may_restore at.sn at.quota b.sender count) f room
     where
-      taken : UpBearer
+      taken : CuUpBearer
       taken = record (holds b count p) { taken_while_frozen = b.taken_while_frozen ++ count ∷ [] }
 
       by : (r f m : Bool) → f ≡ true → (r ≡ false → m ≡ true) → Gives way at.sn (numbered count p ∷ []) [] (takes_unless r b count p)
@@ -158,7 +158,7 @@ module _ {M C P : Type 0} (way : Way M C P) (at : UpAt) where
 
   -- ---- the End Marker of N3
 
-  pub passes_the_end : (b : UpBearer) (hop : SourceHop) (teid : ℕ) → b.hop ≡ Some hop → b.n3 ≡ Some teid
+  pub passes_the_end : (b : CuUpBearer) (hop : SourceHop) (teid : ℕ) → b.hop ≡ Some hop → b.n3 ≡ Some teid
       → Gives way at.sn (end_marker ∷ []) [] (record b { n3 = None }) (n3_ended way at b b.hop)
   unfolding Gives items_of pdus_of down
   passes_the_end b hop teid e f = by b.hop e
@@ -174,19 +174,19 @@ module _ {M C P : Type 0} (way : Way M C P) (at : UpAt) where
 
   -- ---- what is kept waits, and is numbered while there is room
 
-  pub keeps_a_fresh_one : (p : List ℕ) (b : UpBearer) → at.flags.frozen ≡ false → at.flags.released ≡ false
+  pub keeps_a_fresh_one : (p : List ℕ) (b : CuUpBearer) → at.flags.frozen ≡ false → at.flags.released ≡ false
       → took_fresh way at p b ≡ number_waiting way at (waits b p)
   unfolding took_fresh
   keeps_a_fresh_one p b f r = rw (r, f) refl
 
-  pub then_gives : (i j : List Item) (ps qs : List Pdu) (b c : UpBearer) (a : Answer M P UpBearer) (more : UpBearer → Answer M P UpBearer)
+  pub then_gives : (i j : List Item) (ps qs : List Pdu) (b c : CuUpBearer) (a : Answer M P CuUpBearer) (more : CuUpBearer → Answer M P CuUpBearer)
       → Gives way at.sn i ps b a
-      → ((d : UpBearer) → plain d ≡ plain b → Gives way at.sn j qs c (more d)) → Gives way at.sn (i ++ j) (ps ++ qs) c (a then more)
+      → ((d : CuUpBearer) → plain d ≡ plain b → Gives way at.sn j qs c (more d)) → Gives way at.sn (i ++ j) (ps ++ qs) c (a then more)
   unfolding Gives
   then_gives i j ps qs b c (spent counter) more g h = tt
   then_gives i j ps qs b c (gives outputs d) more g h = by (more d) (h d g.2)
     where
-      by : (r : Answer M P UpBearer) → Gives way at.sn j qs c r → Gives way at.sn (i ++ j) (ps ++ qs) c (with_outputs outputs r)
+      by : (r : Answer M P CuUpBearer) → Gives way at.sn j qs c r → Gives way at.sn (i ++ j) (ps ++ qs) c (with_outputs outputs r)
       by (spent counter) k = tt
       by (gives others e) k = (
         items-append outputs others ∙ rw (g.0, k.0) refl,
@@ -194,12 +194,12 @@ module _ {M C P : Type 0} (way : Way M C P) (at : UpAt) where
         k.2,
       )
 
-  sends_one : (count : ℕ) (p : List ℕ) (tag : Tag) (b : UpBearer) → has_downlink b.downlink ≡ true
+  sends_one : (count : ℕ) (p : List ℕ) (tag : Tag) (b : CuUpBearer) → has_downlink b.downlink ≡ true
       → Gives way at.sn [] (packet_pdu count p ∷ []) b (sent way at count p tag b)
   unfolding Gives sent framed items_of pdus_of
   sends_one count p tag b h = by b.downlink refl h
     where
-      by : (o : Option Downlink) → b.downlink ≡ o → has_downlink o ≡ true
+      by : (o : Option DownlinkTunnel) → b.downlink ≡ o → has_downlink o ≡ true
           → Gives way at.sn [] (packet_pdu count p ∷ []) b
           (framed_on way at b false b.restart (Some (way.write at.sn (packet_pdu count p))) tag o)
       by None e i = absurd (true≢false (sym i))
@@ -213,19 +213,19 @@ module _ {M C P : Type 0} (way : Way M C P) (at : UpAt) where
           which true = tt
           which false = (refl, refl, rw e refl)
 
-  pub gives_as : (i : List Item) (ps : List Pdu) (b c : UpBearer) (a : Answer M P UpBearer) → plain b ≡ plain c → Gives way at.sn i ps b a
+  pub gives_as : (i : List Item) (ps : List Pdu) (b c : CuUpBearer) (a : Answer M P CuUpBearer) → plain b ≡ plain c → Gives way at.sn i ps b a
       → Gives way at.sn i ps c a
   unfolding Gives
   gives_as i ps b c (spent counter) e g = tt
   gives_as i ps b c (gives outputs d) e g = (g.0, g.1, g.2 ∙ e)
 
-  still_there : (o q : Option Downlink) → without_number o ≡ without_number q → has_downlink q ≡ true → has_downlink o ≡ true
+  still_there : (o q : Option DownlinkTunnel) → without_number o ≡ without_number q → has_downlink q ≡ true → has_downlink o ≡ true
   still_there (Some d) q e h = refl
   still_there None None e h = h
   still_there None (Some d) e h = absurd cc
 
   -- one after another, while there is room
-  pub each_gives : (ps : List (List ℕ)) (b : UpBearer) → has_downlink b.downlink ≡ true
+  pub each_gives : (ps : List (List ℕ)) (b : CuUpBearer) → has_downlink b.downlink ≡ true
       → Gives way at.sn [] (numbered_pdus at.sn at.quota ps b.sender)
       (record b { sender = numbers_all at.sn at.quota ps b.sender; waiting = still_waits at.sn at.quota b.waiting ps b.sender })
       (number_each way at ps b)
@@ -234,20 +234,20 @@ module _ {M C P : Type 0} (way : Way M C P) (at : UpAt) where
   each_gives (p ∷ ps) b h = by (has_room at.sn at.quota b.sender) (nat_lt last_count b.sender.next)
       (λ d e. more d e (each_gives ps d (still_there d.downlink b.downlink (ap (λ u. u.downlink) e) h)))
     where
-      now : UpBearer
+      now : CuUpBearer
       now = record b { sender = with_next b.sender p; waiting = ps }
 
-      all : UpBearer → UpBearer
+      all : CuUpBearer → CuUpBearer
       all u = record u { sender = numbers_all at.sn at.quota ps u.sender; waiting = still_waits at.sn at.quota u.waiting ps u.sender }
 
-      more : (d : UpBearer) → plain d ≡ plain now
+      more : (d : CuUpBearer) → plain d ≡ plain now
           → Gives way at.sn [] (numbered_pdus at.sn at.quota ps d.sender) (all d) (number_each way at ps d)
           → Gives way at.sn [] (numbered_pdus at.sn at.quota ps (with_next b.sender p)) (all now) (number_each way at ps d)
       more d e g = gives_as [] (numbered_pdus at.sn at.quota ps (with_next b.sender p)) (all d) (all now) (number_each way at ps d)
           (ap all e)
           (subst (λ q. Gives way at.sn [] (numbered_pdus at.sn at.quota ps q) (all d) (number_each way at ps d)) (ap (λ u. u.sender) e) g)
 
-      by : (r l : Bool) → ((d : UpBearer) → plain d ≡ plain now
+      by : (r l : Bool) → ((d : CuUpBearer) → plain d ≡ plain now
           → Gives way at.sn [] (numbered_pdus at.sn at.quota ps (with_next b.sender p))
           (record b {
             sender = numbers_all at.sn at.quota ps (with_next b.sender p);
@@ -274,13 +274,13 @@ module _ {M C P : Type 0} (way : Way M C P) (at : UpAt) where
 
   -- ---- what is sent
 
-  pub sends_a_numbered_one : (count : ℕ) (p : List ℕ) (b : UpBearer) → has_downlink b.downlink ≡ true → at.flags.frozen ≡ false
+  pub sends_a_numbered_one : (count : ℕ) (p : List ℕ) (b : CuUpBearer) → has_downlink b.downlink ≡ true → at.flags.frozen ≡ false
       → at.flags.released ≡ false → may_restore at.sn at.quota b.sender count ≡ true
       → Gives way at.sn [] (packet_pdu count p ∷ []) (holds b count p) (took_numbered way at (Some count) p b)
   unfolding took_numbered sent framed
   sends_a_numbered_one count p b h f r m = rw (r, m, f) (sends_one count p Same (holds b count p) h)
 
-  pub sends_all_again : (es : List (ℕ × List ℕ)) (b : UpBearer) → has_downlink b.downlink ≡ true
+  pub sends_all_again : (es : List (ℕ × List ℕ)) (b : CuUpBearer) → has_downlink b.downlink ≡ true
       → Gives way at.sn [] (map (λ e. packet_pdu e.0 e.1) es) b (sent_again way at es b)
   unfolding sent_again Gives items_of pdus_of
   sends_all_again [] b h = (refl, refl, refl)
@@ -293,16 +293,16 @@ module _ {M C P : Type 0} (way : Way M C P) (at : UpAt) where
 
   -- ---- what is confirmed makes room
 
-  pub reports_make_room : (fmc : ℕ) (bits : List Bool) (b : UpBearer)
+  pub reports_make_room : (fmc : ℕ) (bits : List Bool) (b : CuUpBearer)
       → took_report way at fmc bits b ≡ number_waiting way at (record b { sender = confirmed_by b.sender fmc bits })
   unfolding took_report
   reports_make_room fmc bits b = refl
 
-  pub statuses_make_room : (count : ℕ) (b : UpBearer)
+  pub statuses_make_room : (count : ℕ) (b : CuUpBearer)
       → took_delivery_status way at [] (Some count) b ≡ number_waiting way at (record b { sender = confirmed_to b.sender count })
   unfolding took_delivery_status
   statuses_make_room count b = nothing_first (number_waiting way at (record b { sender = confirmed_to b.sender count }))
     where
-      nothing_first : (a : Answer M P UpBearer) → with_outputs [] a ≡ a
+      nothing_first : (a : Answer M P CuUpBearer) → with_outputs [] a ≡ a
       nothing_first (gives outputs c) = refl
       nothing_first (spent counter) = refl

@@ -15,8 +15,8 @@ use Rattle.gnb_types.proofs.OrderLemmas.{bearer_total, bearer_exact}
 use Rattle.tables.specs.Tables.{find}
 use Rattle.unit_defs.specs.Ways.{Output, Way, Answer, gives, spent}
 use Rattle.unit_defs.specs.Messages.{are_bearers, statuses_of, teid_of}
-use Rattle.unit_defs.specs.UpRecords.{UpBearer, UpContext, up_at}
-use Rattle.unit_defs.specs.UpBearers.{with_status, with_uplink}
+use Rattle.unit_defs.specs.CuUpRecords.{CuUpBearer, CuUpContext, cu_up_scope}
+use Rattle.unit_defs.specs.CuUpBearers.{with_status, with_uplink}
 use Rattle.unit_defs.specs.CuUp.{UpStep, steps, stops, step_with, each_bearer, status_each, uplinks_from, teids_from}
 use Rattle.proof_unit_steps.proofs.tunnel_frames.Contexts.{Bearers, Others, Apart}
 use Rattle.proof_cu_up_orders.specs.context_orders.Inputs.{status_in}
@@ -58,15 +58,15 @@ none_found b (e ∷ es) others = by (none_found b es others.1) (is_at (bearer_cm
 
 module _ {M C P : Type 0} (way : Way M C P) (ue : UeId) (bearer : BearerId) where
   abbrev pub Row : Type 0
-  Row = UpBearer → Answer M P UpBearer
+  Row = CuUpBearer → Answer M P CuUpBearer
 
   -- what a row of this bearer gives: its outputs, and the bearer that is found then
-  abbrev pub Given : List (Output M P) → Option UpBearer → Answer M P UpBearer → Type 0
+  abbrev pub Given : List (Output M P) → Option CuUpBearer → Answer M P CuUpBearer → Type 0
   Given os found (gives more y) = (found ≡ Some y) × (on_bearer ue bearer os ≡ on_bearer ue bearer more)
   Given os found (spent counter) = ⊥
 
   -- where the bearer is there; else nothing is put on it
-  abbrev pub Turned : Row → List (Output M P) → Option UpBearer → Option UpBearer → Type 0
+  abbrev pub Turned : Row → List (Output M P) → Option CuUpBearer → Option CuUpBearer → Type 0
   Turned row os found None = (found ≡ None) × (on_bearer ue bearer os ≡ [])
   Turned row os found (Some x) = Given os found (row x)
 
@@ -74,41 +74,41 @@ module _ {M C P : Type 0} (way : Way M C P) (ue : UeId) (bearer : BearerId) wher
   StepIs row es (steps os bs) = Turned row os (find bearer_cmp bs bearer) (find bearer_cmp es bearer) × (keys_of bs ≡ keys_of es)
   StepIs row es (stops counter) = Unit {0}
 
-  step_one : (row later : Row) (e : BearerId × UpBearer) (es : Bearers) (a : Answer M P UpBearer) (s : UpStep way) → Others e.0 es
+  step_one : (row later : Row) (e : BearerId × CuUpBearer) (es : Bearers) (a : Answer M P CuUpBearer) (s : UpStep way) → Others e.0 es
       → (eq_by_cmp bearer_cmp bearer e.0 ≡ true → a ≡ row e.1) → (eq_by_cmp bearer_cmp bearer e.0 ≡ false → Off way ue bearer a)
-      → (eq_by_cmp bearer_cmp bearer e.0 ≡ false → (x : UpBearer) → later x ≡ row x) → StepIs later es s → StepIs row (e ∷ es) (step_with way e.0 a s)
+      → (eq_by_cmp bearer_cmp bearer e.0 ≡ false → (x : CuUpBearer) → later x ≡ row x) → StepIs later es s → StepIs row (e ∷ es) (step_with way e.0 a s)
   unfolding find
   step_one row later e es (spent k) s others mine off same h = tt
   step_one row later e es (gives os b) (stops k) others mine off same h = tt
   step_one row later e es (gives os b) (steps more bs) others mine off same h =
       (by (is_at (bearer_cmp bearer) e.0) refl, ap (λ (ks : List BearerId). e.0 ∷ ks) h.1)
     where
-      found : Option UpBearer
+      found : Option CuUpBearer
       found = find bearer_cmp bs bearer
 
       -- what the others put besides is nothing on this one
-      given : on_bearer ue bearer os ≡ [] → (a : Answer M P UpBearer) → Given more found a → Given (os ++ more) found a
+      given : on_bearer ue bearer os ≡ [] → (a : Answer M P CuUpBearer) → Given more found a → Given (os ++ more) found a
       given none (gives ys y) g =
           (g.0, filter-append (is_on ue bearer) os more ∙ ap (λ (zs : List (Output M P)). zs ++ on_bearer ue bearer more) none ∙ g.1)
       given none (spent k) g = g
 
-      turned : eq_by_cmp bearer_cmp bearer e.0 ≡ false → (o : Option UpBearer) → Turned later more found o → Turned row (os ++ more) found o
+      turned : eq_by_cmp bearer_cmp bearer e.0 ≡ false → (o : Option CuUpBearer) → Turned later more found o → Turned row (os ++ more) found o
       turned tie None t = (t.0, off_both way ue bearer os more (off tie) t.1)
-      turned tie (Some x) t = given (off tie) (row x) (subst (λ (a : Answer M P UpBearer). Given more found a) (same tie x) t)
+      turned tie (Some x) t = given (off tie) (row x) (subst (λ (a : Answer M P CuUpBearer). Given more found a) (same tie x) t)
 
       by : (t : Bool) → is_at (bearer_cmp bearer) e.0 ≡ t
           → Turned row (os ++ more) (cond t (Some b) (find bearer_cmp bs bearer)) (cond t (Some e.1) (find bearer_cmp es bearer))
       by true tie =
           let none : find bearer_cmp es bearer ≡ None =
           subst (λ (k : BearerId). find bearer_cmp es k ≡ None) (sym (same_bearer bearer e.0 tie)) (none_found e.0 es others) in
-          let rest : Turned later more found None = subst (λ (o : Option UpBearer). Turned later more found o) none h.0 in
-          subst (λ (a : Answer M P UpBearer). Given (os ++ more) (Some b) a) (mine tie) (
+          let rest : Turned later more found None = subst (λ (o : Option CuUpBearer). Turned later more found o) none h.0 in
+          subst (λ (a : Answer M P CuUpBearer). Given (os ++ more) (Some b) a) (mine tie) (
             refl,
             filter-append (is_on ue bearer) os more ∙ ap (λ (zs : List (Output M P)). on_bearer ue bearer os ++ zs) rest.1 ∙ append-nil (on_bearer ue bearer os),
           )
       by false tie = turned tie (find bearer_cmp es bearer) h.0
 
-  pub each_step : (order : BearerId → Row) → ((b : BearerId) (x : UpBearer) → eq_by_cmp bearer_cmp bearer b ≡ false → Off way ue bearer (order b x))
+  pub each_step : (order : BearerId → Row) → ((b : BearerId) (x : CuUpBearer) → eq_by_cmp bearer_cmp bearer b ≡ false → Off way ue bearer (order b x))
       → (es : Bearers) → Apart es → StepIs (order bearer) es (each_bearer way order es)
   unfolding find
   each_step order off [] apart = ((refl, refl), refl)
@@ -119,20 +119,20 @@ module _ {M C P : Type 0} (way : Way M C P) (ue : UeId) (bearer : BearerId) wher
   is_other : (b : BearerId) → eq_by_cmp bearer_cmp bearer b ≡ false → is_bearer ue bearer ue b ≡ false
   is_other b off = and_false (eq_by_cmp ue_cmp ue ue) (eq_by_cmp bearer_cmp bearer b) off
 
-  abbrev status_row : UpContext → List SnStatus → Row
-  status_row c ss x = with_status way (up_at ue c bearer) (status_in way ss bearer) x
+  abbrev status_row : CuUpContext → List SnStatus → Row
+  status_row c ss x = with_status way (cu_up_scope ue c bearer) (status_in way ss bearer) x
 
-  pub status_step : (c : UpContext) (ss : List SnStatus) (es : Bearers) → Apart es → are_bearers (map (λ e. e.0) es) (statuses_of ss) ≡ true
+  pub status_step : (c : CuUpContext) (ss : List SnStatus) (es : Bearers) → Apart es → are_bearers (map (λ e. e.0) es) (statuses_of ss) ≡ true
       → StepIs (status_row c ss) es (status_each way ue c ss es)
   unfolding find
   status_step c [] [] apart named = ((refl, refl), refl)
   status_step c [] (e ∷ es) apart named = absurd cc
   status_step c (s ∷ ss) [] apart named = absurd cc
   status_step c (s ∷ ss) (e ∷ es) apart named =
-      step_one (status_row c (s ∷ ss)) (status_row c ss) e es (with_status way (up_at ue c e.0) s e.1) (status_each way ue c ss es) apart.0
-      (λ tie. sym (λ i. with_status way (up_at ue c (same_bearer bearer e.0 tie i)) (picked true (at_s tie) i) e.1))
-      (λ tie. off_status way ue bearer (up_at ue c e.0) (is_other e.0 tie) s e.1)
-      (λ tie x. ap (λ (t : SnStatus). with_status way (up_at ue c bearer) t x) (sym (picked false (at_s tie)))) (status_step c ss es apart.1 both.1)
+      step_one (status_row c (s ∷ ss)) (status_row c ss) e es (with_status way (cu_up_scope ue c e.0) s e.1) (status_each way ue c ss es) apart.0
+      (λ tie. sym (λ i. with_status way (cu_up_scope ue c (same_bearer bearer e.0 tie i)) (picked true (at_s tie) i) e.1))
+      (λ tie. off_status way ue bearer (cu_up_scope ue c e.0) (is_other e.0 tie) s e.1)
+      (λ tie x. ap (λ (t : SnStatus). with_status way (cu_up_scope ue c bearer) t x) (sym (picked false (at_s tie)))) (status_step c ss es apart.1 both.1)
     where
       both : (e.0.0 == s.bearer.0 ≡ true) × (are_bearers (map (λ e. e.0) es) (statuses_of ss) ≡ true)
       both = both_true (e.0.0 == s.bearer.0) (are_bearers (map (λ e. e.0) es) (statuses_of ss)) named
@@ -167,13 +167,13 @@ module _ {M C P : Type 0} (way : Way M C P) (ue : UeId) (bearer : BearerId) wher
   StepOff es (steps os bs) = (on_bearer ue bearer os ≡ []) × (keys_of bs ≡ keys_of es)
   StepOff es (stops counter) = Unit {0}
 
-  off_one : (e : BearerId × UpBearer) (es : Bearers) (a : Answer M P UpBearer) (s : UpStep way) → Off way ue bearer a → StepOff es s
+  off_one : (e : BearerId × CuUpBearer) (es : Bearers) (a : Answer M P CuUpBearer) (s : UpStep way) → Off way ue bearer a → StepOff es s
       → StepOff (e ∷ es) (step_with way e.0 a s)
   off_one e es (spent k) s p h = tt
   off_one e es (gives os b) (stops k) p h = tt
   off_one e es (gives os b) (steps more bs) p h = (off_both way ue bearer os more p h.0, ap (λ (ks : List BearerId). e.0 ∷ ks) h.1)
 
-  pub off_bearers : (order : BearerId → Row) → ((b : BearerId) (x : UpBearer) → Off way ue bearer (order b x)) → (es : Bearers)
+  pub off_bearers : (order : BearerId → Row) → ((b : BearerId) (x : CuUpBearer) → Off way ue bearer (order b x)) → (es : Bearers)
       → StepOff es (each_bearer way order es)
   off_bearers order off [] = (refl, refl)
   off_bearers order off (e ∷ es) = off_one e es (order e.0 e.1) (each_bearer way order es) (off e.0 e.1) (off_bearers order off es)
@@ -183,10 +183,10 @@ module _ {M C P : Type 0} (way : Way M C P) (ue : UeId) (bearer : BearerId) wher
   off_uplinks next (e ∷ es) =
       off_one e es (with_uplink way next e.1) (uplinks_from way (next + 1) es) (off_uplink way ue bearer next e.1) (off_uplinks (next + 1) es)
 
-  pub off_statuses : (u : UeId) → eq_by_cmp ue_cmp ue u ≡ false → (c : UpContext) (ss : List SnStatus) (es : Bearers)
+  pub off_statuses : (u : UeId) → eq_by_cmp ue_cmp ue u ≡ false → (c : CuUpContext) (ss : List SnStatus) (es : Bearers)
       → StepOff es (status_each way u c ss es)
   off_statuses u other c [] es = (refl, refl)
   off_statuses u other c (s ∷ ss) [] = (refl, refl)
   off_statuses u other c (s ∷ ss) (e ∷ es) =
-      off_one e es (with_status way (up_at u c e.0) s e.1) (status_each way u c ss es)
-      (off_status way ue bearer (up_at u c e.0) (ap (λ (t : Bool). t && eq_by_cmp bearer_cmp bearer e.0) other) s e.1) (off_statuses u other c ss es)
+      off_one e es (with_status way (cu_up_scope u c e.0) s e.1) (status_each way u c ss es)
+      (off_status way ue bearer (cu_up_scope u c e.0) (ap (λ (t : Bool). t && eq_by_cmp bearer_cmp bearer e.0) other) s e.1) (off_statuses u other c ss es)

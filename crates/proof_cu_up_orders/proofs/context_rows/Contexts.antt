@@ -23,12 +23,12 @@ use Rattle.tables.proofs.TableLaws.{find-put, find-put-same, find-put-other, fin
 use Rattle.message_types.specs.declared.e1.E1Message.{E1Message}
 use Rattle.unit_defs.specs.Ways.{e1, opened, closed, Output, Way, Answer, gives, spent, with_outputs, ◌then◌, nothing}
 use Rattle.unit_defs.specs.Transactions.{replied}
-use Rattle.unit_defs.specs.UpRecords.{UpBearer, UpContext, CuUp, UpTunnel}
-use Rattle.unit_defs.specs.UpBearers.{made, teids_of_bearer, released, open_teids}
+use Rattle.unit_defs.specs.CuUpRecords.{CuUpBearer, CuUpContext, CuUp, CuUpTunnel}
+use Rattle.unit_defs.specs.CuUpBearers.{made, teids_of_bearer, released, open_teids}
 use Rattle.unit_defs.specs.CuUp.{context_of, with_context, with_transactions, bearers_from, bearers_made, UpStep, steps, stops, answer_with, ended, ended_if_over, end_where_over, replies, entries_of, opened_of, new_context, with_new, as_released, with_bearer}
 use Rattle.proof_unit_steps.specs.tunnel_frames.OneTunnel.{BearersInOrder}
 use Rattle.proof_unit_steps.proofs.tunnel_frames.Contexts.{Bearers}
-use Rattle.proof_cu_up_orders.specs.context_orders.Orders.{UpPart, part_with, part_of_bearer, part_in, part_of, UpOrder, releases, closes, kept_in, begun, done, carried_out, carried}
+use Rattle.proof_cu_up_orders.specs.context_orders.Orders.{CuUpModel, model_with, model_of_bearer, model_in, model_of, ContextStep, releases, closes, kept_in, begun, done, carried_out, carried}
 use Rattle.proof_cu_up_orders.specs.context_orders.Inputs.{only_if, ends, closes_if, new_teid, makes_with}
 use Rattle.proof_cu_up_orders.specs.context_orders.Shown.{is_on, on_bearer, Comes}
 use Rattle.proof_cu_up_orders.proofs.context_orders.Others.{Off, off_both, off_replied, off_closed}
@@ -37,14 +37,14 @@ use Rattle.proof_cu_up_orders.proofs.context_orders.Bearers.{Given, Turned, Step
 -- ---- contexts keep their bearers in order
 
 module _ {M C : Type 0} where
-  pub order_put : (r : CuUp M C) (u : UeId) (c : UpContext) → BearersInOrder r → IsSorted bearer_cmp c.bearers → BearersInOrder (with_context u r c)
+  pub order_put : (r : CuUp M C) (u : UeId) (c : CuUpContext) → BearersInOrder r → IsSorted bearer_cmp c.bearers → BearersInOrder (with_context u r c)
   order_put r u c order sorted v x there = by (eq_by_cmp ue_cmp v u) (sym (find-put ue_total r.contexts u c v) ∙ there)
     where
       by : (t : Bool) → cond t (Some c) (find ue_cmp r.contexts v) ≡ Some x → IsSorted bearer_cmp x.bearers
-      by true e = let same : c ≡ x = cc in subst (λ (y : UpContext). IsSorted bearer_cmp y.bearers) same sorted
+      by true e = let same : c ≡ x = cc in subst (λ (y : CuUpContext). IsSorted bearer_cmp y.bearers) same sorted
       by false e = order v x e
 
-  pub order_without : (r : CuUp M C) (u : UeId) → BearersInOrder r → (v : UeId) (x : UpContext)
+  pub order_without : (r : CuUp M C) (u : UeId) → BearersInOrder r → (v : UeId) (x : CuUpContext)
       → find ue_cmp (without ue_cmp r.contexts u) v ≡ Some x → IsSorted bearer_cmp x.bearers
   order_without r u order v x there = by (eq_by_cmp ue_cmp v u) (sym (find-without ue_total r.contexts u v) ∙ there)
     where
@@ -103,17 +103,17 @@ module _ {M C P : Type 0} (way : Way M C P) (ue : UeId) (bearer : BearerId) wher
   abbrev Record : Type 0
   Record = CuUp M C
 
-  abbrev Part : Type 0
-  Part = Option UpPart
+  abbrev Model : Type 0
+  Model = Option CuUpModel
 
   abbrev Outputs : Type 0
   Outputs = List (Output M P)
 
-  abbrev pub at_bearer : Record → Part
-  at_bearer r = part_of r ue bearer
+  abbrev pub at_bearer : Record → Model
+  at_bearer r = model_of r ue bearer
 
   -- what the orders do is what the bearer sees of the answer; and the contexts stay in order
-  abbrev pub Does : Answer M P Part → Answer M P Record → Type 0
+  abbrev pub Does : Answer M P Model → Answer M P Record → Type 0
   Does orders (gives outputs s) = Comes ue bearer outputs s orders × BearersInOrder s
   Does orders (spent counter) = Unit {0}
 
@@ -130,23 +130,23 @@ module _ {M C P : Type 0} (way : Way M C P) (ue : UeId) (bearer : BearerId) wher
 
   -- ---- by cases
 
-  pub both_if : (p : Part) (t : Bool) (xs ys : List (UpOrder P)) (x y : Answer M P Record) → Does (carried way ue bearer xs p) x
+  pub both_if : (p : Model) (t : Bool) (xs ys : List (ContextStep P)) (x y : Answer M P Record) → Does (carried way ue bearer xs p) x
       → Does (carried way ue bearer ys p) y → Does (carried way ue bearer (if t then xs else ys) p) (if t then x else y)
   both_if p true xs ys x y h k = h
   both_if p false xs ys x y h k = k
 
-  pub unless : (p : Part) (t : Bool) (xs : List (UpOrder P)) (x y : Answer M P Record) → Does (nothing p) y → Does (carried way ue bearer xs p) x
+  pub unless : (p : Model) (t : Bool) (xs : List (ContextStep P)) (x y : Answer M P Record) → Does (nothing p) y → Does (carried way ue bearer xs p) x
       → Does (carried way ue bearer (only_if way (not t) xs) p) (if t then y else x)
   unless p true xs x y h k = h
   unless p false xs x y h k = k
 
-  pub unless_two : (p : Part) (t u : Bool) (xs : List (UpOrder P)) (x y z : Answer M P Record) → Does (nothing p) y → Does (nothing p) z
+  pub unless_two : (p : Model) (t u : Bool) (xs : List (ContextStep P)) (x y z : Answer M P Record) → Does (nothing p) y → Does (nothing p) z
       → Does (carried way ue bearer xs p) x → Does (carried way ue bearer (only_if way (not (t || u)) xs) p) (if t then y else (if u then z else x))
   unless_two p true u xs x y z h i k = h
   unless_two p false true xs x y z h i k = i
   unless_two p false false xs x y z h i k = k
 
-  pub unless_and : (p : Part) (t u : Bool) (xs : List (UpOrder P)) (x y z : Answer M P Record) → Does (nothing p) y → Does (nothing p) z
+  pub unless_and : (p : Model) (t u : Bool) (xs : List (ContextStep P)) (x y z : Answer M P Record) → Does (nothing p) y → Does (nothing p) z
       → Does (carried way ue bearer xs p) x → Does (carried way ue bearer (only_if way (not t && u) xs) p) (if t then y else (if not u then z else x))
   unless_and p true u xs x y z h i k = h
   unless_and p false false xs x y z h i k = i
@@ -158,29 +158,29 @@ module _ {M C P : Type 0} (way : Way M C P) (ue : UeId) (bearer : BearerId) wher
       → on_bearer ue bearer (os ++ more) ≡ on_bearer ue bearer (ks ++ ms)
   joined os more ks ms p q = filter-append (is_on ue bearer) os more ∙ (λ i. p i ++ q i) ∙ sym (filter-append (is_on ue bearer) ks ms)
 
-  pub does_at : (k : Answer M P Part) (l : Part → Answer M P Part) (os : Outputs) (r : Record) (a : Answer M P Record) → Does k (gives os r)
+  pub does_at : (k : Answer M P Model) (l : Model → Answer M P Model) (os : Outputs) (r : Record) (a : Answer M P Record) → Does k (gives os r)
       → Does (l (at_bearer r)) a → Does (k then l) (with_outputs os a)
   does_at (spent c) l os r a h d = absurd h.0
-  does_at (gives ks p) l os r a h d = by a (l p) (subst (λ (q : Part). Does (l q) a) h.0.1 d)
+  does_at (gives ks p) l os r a h d = by a (l p) (subst (λ (q : Model). Does (l q) a) h.0.1 d)
     where
-      by : (b : Answer M P Record) (m : Answer M P Part) → Does m b → Does (with_outputs ks m) (with_outputs os b)
+      by : (b : Answer M P Record) (m : Answer M P Model) → Does m b → Does (with_outputs ks m) (with_outputs os b)
       by (spent c) m g = tt
       by (gives more s) (spent c) g = absurd g.0
       by (gives more s) (gives ms t) g = ((joined os more ks ms h.0.0 g.0.0, g.0.1), g.1)
 
   -- nothing is put out first
-  pub does_first : (k : Answer M P Part) (l : Part → Answer M P Part) (r : Record) (a : Answer M P Record) → Does k (gives [] r)
+  pub does_first : (k : Answer M P Model) (l : Model → Answer M P Model) (r : Record) (a : Answer M P Record) → Does k (gives [] r)
       → Does (l (at_bearer r)) a → Does (k then l) a
   does_first k l r (spent c) h d = tt
   does_first k l r (gives more s) h d = does_at k l [] r (gives more s) h d
 
-  pub does_then : (k : Answer M P Part) (l : Part → Answer M P Part) (a : Answer M P Record) (f : Record → Answer M P Record) → Does k a
+  pub does_then : (k : Answer M P Model) (l : Model → Answer M P Model) (a : Answer M P Record) (f : Record → Answer M P Record) → Does k a
       → ((r : Record) → BearersInOrder r → Does (l (at_bearer r)) (f r)) → Does (k then l) (a then f)
   does_then k l (spent c) f h q = tt
   does_then k l (gives os r) f h q = does_at k l os r (f r) h (q r h.1)
 
   -- a last step that asks nothing of the bearer
-  pub then_keeps : (k : Answer M P Part) (a : Answer M P Record) (f : Record → Answer M P Record) → Does k a
+  pub then_keeps : (k : Answer M P Model) (a : Answer M P Record) (f : Record → Answer M P Record) → Does k a
       → ((r : Record) → BearersInOrder r → Keeps r (f r)) → Does k (a then f)
   then_keeps k (spent c) f h q = tt
   then_keeps (spent c) (gives os r) f h q = absurd h.0
@@ -192,21 +192,21 @@ module _ {M C P : Type 0} (way : Way M C P) (ue : UeId) (bearer : BearerId) wher
           ((joined os more ks [] h.0.0 g.0.0 ∙ ap (λ (zs : Outputs). on_bearer ue bearer zs) (append-nil ks), g.0.1 ∙ h.0.1), g.1)
 
   -- and a first one
-  pub off_first : (k : Answer M P Part) (os : Outputs) (a : Answer M P Record) → on_bearer ue bearer os ≡ [] → Does k a → Does k (with_outputs os a)
+  pub off_first : (k : Answer M P Model) (os : Outputs) (a : Answer M P Record) → on_bearer ue bearer os ≡ [] → Does k a → Does k (with_outputs os a)
   off_first k os (spent c) none h = tt
   off_first (spent c) os (gives more s) none h = absurd h.0
   off_first (gives ks p) os (gives more s) none h = ((joined os more [] ks none h.0.0, h.0.1), h.1)
 
-  pub off_then_does : {S : Type 0} (k : Answer M P Part) (a : Answer M P S) (f : S → Answer M P Record) → Off way ue bearer a
+  pub off_then_does : {S : Type 0} (k : Answer M P Model) (a : Answer M P S) (f : S → Answer M P Record) → Off way ue bearer a
       → ((s : S) → Does k (f s)) → Does k (a then f)
   off_then_does k (spent c) f none q = tt
   off_then_does k (gives os s) f none q = off_first k os (f s) none (q s)
 
-  pub one_order : (o : UpOrder P) (p : Part) (a : Answer M P Record) → Does (carried_out way ue bearer o p) a → Does (carried way ue bearer (o ∷ []) p) a
+  pub one_order : (o : ContextStep P) (p : Model) (a : Answer M P Record) → Does (carried_out way ue bearer o p) a → Does (carried way ue bearer (o ∷ []) p) a
   one_order o p (spent c) h = tt
   one_order o p (gives os s) h = by (carried_out way ue bearer o p) h
     where
-      by : (k : Answer M P Part) → Does k (gives os s) → Does (k then carried way ue bearer []) (gives os s)
+      by : (k : Answer M P Model) → Does k (gives os s) → Does (k then carried way ue bearer []) (gives os s)
       by (spent c) g = absurd g.0
       by (gives ks q) g = ((g.0.0 ∙ ap (λ (zs : Outputs). on_bearer ue bearer zs) (sym (append-nil ks)), g.0.1), g.1)
 
@@ -218,47 +218,47 @@ module _ {M C P : Type 0} (way : Way M C P) (ue : UeId) (bearer : BearerId) wher
   -- ---- the bearers of a context
 
   -- what a row of the bearer gives, where the context is as it says
-  given_here : (o : UpOrder P) (c d : UpContext) (s : Record) (os : Outputs) (found : Option UpBearer) (row : UpBearer → Answer M P UpBearer)
-      → at_bearer s ≡ part_of_bearer ue d bearer found → BearersInOrder s → begun ue bearer o ≡ None
-      → ((x : UpBearer) → done way o (part_with ue c bearer x) ≡ kept_in (part_with ue d bearer x) (row x)) → (q : Option UpBearer)
-      → Turned way ue bearer row os found q → Does (carried_out way ue bearer o (part_of_bearer ue c bearer q)) (gives os s)
+  given_here : (o : ContextStep P) (c d : CuUpContext) (s : Record) (os : Outputs) (found : Option CuUpBearer) (row : CuUpBearer → Answer M P CuUpBearer)
+      → at_bearer s ≡ model_of_bearer ue d bearer found → BearersInOrder s → begun ue bearer o ≡ None
+      → ((x : CuUpBearer) → done way o (model_with ue c bearer x) ≡ kept_in (model_with ue d bearer x) (row x)) → (q : Option CuUpBearer)
+      → Turned way ue bearer row os found q → Does (carried_out way ue bearer o (model_of_bearer ue c bearer q)) (gives os s)
   given_here o c d s os found row is order none does None t =
-      ((t.1, is ∙ ap (part_of_bearer ue d bearer) t.0 ∙ sym none), order)
-  given_here o c d s os found row is order none does (Some x) t = subst (λ (k : Answer M P Part). Does k (gives os s)) (sym (does x)) (by (row x) t)
+      ((t.1, is ∙ ap (model_of_bearer ue d bearer) t.0 ∙ sym none), order)
+  given_here o c d s os found row is order none does (Some x) t = subst (λ (k : Answer M P Model). Does k (gives os s)) (sym (does x)) (by (row x) t)
     where
-      by : (a : Answer M P UpBearer) → Given way ue bearer os found a → Does (kept_in (part_with ue d bearer x) a) (gives os s)
-      by (gives ys y) g = ((g.1, is ∙ ap (part_of_bearer ue d bearer) g.0), order)
+      by : (a : Answer M P CuUpBearer) → Given way ue bearer os found a → Does (kept_in (model_with ue d bearer x) a) (gives os s)
+      by (gives ys y) g = ((g.1, is ∙ ap (model_of_bearer ue d bearer) g.0), order)
       by (spent c) g = absurd g
 
-  pub answer_here : (r : Record) (c d : UpContext) (s : UpStep way) (row : UpBearer → Answer M P UpBearer) (o : UpOrder P) → context_of r ue ≡ Some c
+  pub answer_here : (r : Record) (c d : CuUpContext) (s : UpStep way) (row : CuUpBearer → Answer M P CuUpBearer) (o : ContextStep P) → context_of r ue ≡ Some c
       → BearersInOrder r → StepIs way ue bearer row c.bearers s → begun ue bearer o ≡ None
-      → ((x : UpBearer) → done way o (part_with ue c bearer x) ≡ kept_in (part_with ue d bearer x) (row x))
+      → ((x : CuUpBearer) → done way o (model_with ue c bearer x) ≡ kept_in (model_with ue d bearer x) (row x))
       → Does (carried way ue bearer (o ∷ []) (at_bearer r)) (answer_with way r ue d s)
   answer_here r c d (stops k) row o is order h none does = tt
   answer_here r c d (steps os bs) row o is order h none does =
       one_order o (at_bearer r) (gives os s)
-      (subst (λ (q : Option UpContext). Does (carried_out way ue bearer o (part_in ue bearer q)) (gives os s)) (sym is)
+      (subst (λ (q : Option CuUpContext). Does (carried_out way ue bearer o (model_in ue bearer q)) (gives os s)) (sym is)
       (given_here o c d s os (find bearer_cmp bs bearer) row now_found (order_put r ue now order (same_keys bs c.bearers h.1 (order ue c is))) none does
       (find bearer_cmp c.bearers bearer) h.0))
     where
-      now : UpContext
+      now : CuUpContext
       now = record d { bearers = bs }
 
       s : Record
       s = with_context ue r now
 
-      now_found : at_bearer s ≡ part_of_bearer ue d bearer (find bearer_cmp bs bearer)
-      now_found = ap (part_in ue bearer) (find-put-same ue_total r.contexts ue now) ∙ by (find bearer_cmp bs bearer)
+      now_found : at_bearer s ≡ model_of_bearer ue d bearer (find bearer_cmp bs bearer)
+      now_found = ap (model_in ue bearer) (find-put-same ue_total r.contexts ue now) ∙ by (find bearer_cmp bs bearer)
         where
-          by : (q : Option UpBearer) → part_of_bearer ue now bearer q ≡ part_of_bearer ue d bearer q
+          by : (q : Option CuUpBearer) → model_of_bearer ue now bearer q ≡ model_of_bearer ue d bearer q
           by None = refl
           by (Some x) = refl
 
   module _ (u : UeId) (other : eq_by_cmp ue_cmp ue u ≡ false) where
-    pub put_off : (r : Record) (c : UpContext) → at_bearer (with_context u r c) ≡ at_bearer r
-    put_off r c = ap (part_in ue bearer) (find-put-other ue_total r.contexts u c ue other)
+    pub put_off : (r : Record) (c : CuUpContext) → at_bearer (with_context u r c) ≡ at_bearer r
+    put_off r c = ap (model_in ue bearer) (find-put-other ue_total r.contexts u c ue other)
 
-    pub answer_off : (r : Record) (c d : UpContext) (s : UpStep way) → context_of r u ≡ Some c → BearersInOrder r → StepOff way ue bearer c.bearers s
+    pub answer_off : (r : Record) (c d : CuUpContext) (s : UpStep way) → context_of r u ≡ Some c → BearersInOrder r → StepOff way ue bearer c.bearers s
         → Keeps r (answer_with way r u d s)
     answer_off r c d (stops k) is order h = tt
     answer_off r c d (steps os bs) is order h =
@@ -272,74 +272,74 @@ module _ {M C P : Type 0} (way : Way M C P) (ue : UeId) (bearer : BearerId) wher
       off_both way ue bearer (map (λ teid. closed teid) (open_teids e.1)) (flat_map (λ e. map (λ teid. closed teid) (open_teids e.1)) es)
       (off_closed way ue bearer (open_teids e.1)) (off_closings es)
 
-  close_is : (p : Part) → carried_out way ue bearer closes p ≡ nothing None
+  close_is : (p : Model) → carried_out way ue bearer closes p ≡ nothing None
   close_is None = refl
   close_is (Some p) = refl
 
-  pub closed_here : (r : Record) (c : UpContext) → BearersInOrder r → Does (carried way ue bearer (closes ∷ []) (at_bearer r)) (ended way r ue c)
+  pub closed_here : (r : Record) (c : CuUpContext) → BearersInOrder r → Does (carried way ue bearer (closes ∷ []) (at_bearer r)) (ended way r ue c)
   unfolding ended
   closed_here r c order =
       let it : Does (nothing None) (ended way r ue c) =
-      ((off_closings c.bearers, ap (part_in ue bearer) (find-without-same ue_total r.contexts ue)), order_without r ue order) in
-      one_order closes (at_bearer r) (ended way r ue c) (subst (λ (k : Answer M P Part). Does k (ended way r ue c)) (sym (close_is (at_bearer r))) it)
+      ((off_closings c.bearers, ap (model_in ue bearer) (find-without-same ue_total r.contexts ue)), order_without r ue order) in
+      one_order closes (at_bearer r) (ended way r ue c) (subst (λ (k : Answer M P Model). Does k (ended way r ue c)) (sym (close_is (at_bearer r))) it)
 
-  pub over_here : (r : Record) (c : UpContext) → context_of r ue ≡ Some c → BearersInOrder r
+  pub over_here : (r : Record) (c : CuUpContext) → context_of r ue ≡ Some c → BearersInOrder r
       → Does (carried way ue bearer (closes_if way c) (at_bearer r)) (end_where_over way ue r)
   unfolding end_where_over
   over_here r c is order =
-      subst (λ (o : Option UpContext). Does (carried way ue bearer (closes_if way c) (at_bearer r)) (ended_if_over way ue r o)) (sym is)
+      subst (λ (o : Option CuUpContext). Does (carried way ue bearer (closes_if way c) (at_bearer r)) (ended_if_over way ue r o)) (sym is)
       (both_if (at_bearer r) (ends way c) (closes ∷ []) [] (ended way r ue c) (nothing r) (closed_here r c order) ((refl, refl), order))
 
   pub over_off : (u : UeId) → eq_by_cmp ue_cmp ue u ≡ false → (r : Record) → BearersInOrder r → Keeps r (end_where_over way u r)
   unfolding end_where_over ended
   over_off u other r order = by (context_of r u)
     where
-      by : (o : Option UpContext) → Keeps r (ended_if_over way u r o)
+      by : (o : Option CuUpContext) → Keeps r (ended_if_over way u r o)
       by None = ((refl, refl), order)
       by (Some c) = keeps_if r (ends way c) (ended way r u c) (nothing r) (
-        (off_closings c.bearers, ap (part_in ue bearer) (find-without-other ue_total r.contexts u ue other)),
+        (off_closings c.bearers, ap (model_in ue bearer) (find-without-other ue_total r.contexts u ue other)),
         order_without r u order,
       ) ((refl, refl), order)
 
-  pub ended_off : (u : UeId) → eq_by_cmp ue_cmp ue u ≡ false → (r : Record) (c : UpContext) → BearersInOrder r → Keeps r (ended way r u c)
+  pub ended_off : (u : UeId) → eq_by_cmp ue_cmp ue u ≡ false → (r : Record) (c : CuUpContext) → BearersInOrder r → Keeps r (ended way r u c)
   unfolding ended
   ended_off u other r c order =
-      ((off_closings c.bearers, ap (part_in ue bearer) (find-without-other ue_total r.contexts u ue other)), order_without r u order)
+      ((off_closings c.bearers, ap (model_in ue bearer) (find-without-other ue_total r.contexts u ue other)), order_without r u order)
 
   -- ---- a context is released
 
-  released_found : (c : UpContext) → find bearer_cmp (map (λ e. (e.0, released e.1)) c.bearers) bearer ≡ option_map released (find bearer_cmp c.bearers bearer)
+  released_found : (c : CuUpContext) → find bearer_cmp (map (λ e. (e.0, released e.1)) c.bearers) bearer ≡ option_map released (find bearer_cmp c.bearers bearer)
   released_found c =
       ap (λ (es : Bearers). find bearer_cmp es bearer) (released_are c.bearers) ∙ find-mapped bearer_cmp released c.bearers bearer
 
-  pub released_sorted : (r : Record) (u : UeId) (c : UpContext) → context_of r u ≡ Some c → BearersInOrder r
+  pub released_sorted : (r : Record) (u : UeId) (c : CuUpContext) → context_of r u ≡ Some c → BearersInOrder r
       → BearersInOrder (with_context u r (as_released way c))
   released_sorted r u c is order =
       order_put r u (as_released way c) order (same_keys (as_released way c).bearers c.bearers (released_keys c.bearers) (order u c is))
 
-  pub release_here : (r : Record) (c : UpContext) → context_of r ue ≡ Some c → BearersInOrder r
+  pub release_here : (r : Record) (c : CuUpContext) → context_of r ue ≡ Some c → BearersInOrder r
       → Does (carried_out way ue bearer releases (at_bearer r)) (gives [] (with_context ue r (as_released way c)))
   release_here r c is order =
-      subst (λ (q : Option UpContext). Does (carried_out way ue bearer releases (part_in ue bearer q)) (gives [] s)) (sym is)
+      subst (λ (q : Option CuUpContext). Does (carried_out way ue bearer releases (model_in ue bearer q)) (gives [] s)) (sym is)
       (by (find bearer_cmp c.bearers bearer) refl)
     where
       s : Record
       s = with_context ue r (as_released way c)
 
-      found : (o : Option UpBearer) → find bearer_cmp c.bearers bearer ≡ o
-          → at_bearer s ≡ part_of_bearer ue (as_released way c) bearer (option_map released o)
+      found : (o : Option CuUpBearer) → find bearer_cmp c.bearers bearer ≡ o
+          → at_bearer s ≡ model_of_bearer ue (as_released way c) bearer (option_map released o)
       found o there =
-          ap (part_in ue bearer) (find-put-same ue_total r.contexts ue (as_released way c))
-          ∙ ap (part_of_bearer ue (as_released way c) bearer) (released_found c ∙ ap (option_map released) there)
+          ap (model_in ue bearer) (find-put-same ue_total r.contexts ue (as_released way c))
+          ∙ ap (model_of_bearer ue (as_released way c) bearer) (released_found c ∙ ap (option_map released) there)
 
-      by : (o : Option UpBearer) → find bearer_cmp c.bearers bearer ≡ o
-          → Does (carried_out way ue bearer releases (part_of_bearer ue c bearer o)) (gives [] s)
+      by : (o : Option CuUpBearer) → find bearer_cmp c.bearers bearer ≡ o
+          → Does (carried_out way ue bearer releases (model_of_bearer ue c bearer o)) (gives [] s)
       by None there = ((refl, found None there), released_sorted r ue c is order)
       by (Some x) there = ((refl, found (Some x) there), released_sorted r ue c is order)
 
   -- ---- a context is made
 
-  off_opened : (ts : List (ℕ × UpTunnel)) → on_bearer {M = M} {P = P} ue bearer (map (λ t. opened t.0) ts) ≡ []
+  off_opened : (ts : List (ℕ × CuUpTunnel)) → on_bearer {M = M} {P = P} ue bearer (map (λ t. opened t.0) ts) ≡ []
   off_opened [] = refl
   off_opened (t ∷ ts) = off_opened ts
 
@@ -352,18 +352,18 @@ module _ {M C P : Type 0} (way : Way M C P) (ue : UeId) (bearer : BearerId) wher
       → Does (carried way ue bearer (makes_with way r.next_teid sn quota target (new_teid way target r.next_teid (bearers_from 1 count) bearer)) (at_bearer r))
       (with_new way ue r teids (new_context way r sn quota target count))
   new_here r teids sn quota target count is order =
-      subst (λ (q : Option UpContext). Does (carried way ue bearer
-      (makes_with way r.next_teid sn quota target (new_teid way target r.next_teid (bearers_from 1 count) bearer)) (part_in ue bearer q))
+      subst (λ (q : Option CuUpContext). Does (carried way ue bearer
+      (makes_with way r.next_teid sn quota target (new_teid way target r.next_teid (bearers_from 1 count) bearer)) (model_in ue bearer q))
       (with_new way ue r teids c)) (sym is) (by (new_teid way target r.next_teid (bearers_from 1 count) bearer) refl)
     where
-      c : UpContext
+      c : CuUpContext
       c = new_context way r sn quota target count
 
       found : (o : Option ℕ) → new_teid way target r.next_teid (bearers_from 1 count) bearer ≡ o
-          → part_in ue bearer (find ue_cmp (put ue_cmp r.contexts ue c) ue) ≡ part_of_bearer ue c bearer (option_map (made target) o)
+          → model_in ue bearer (find ue_cmp (put ue_cmp r.contexts ue c) ue) ≡ model_of_bearer ue c bearer (option_map (made target) o)
       found o there =
-          ap (part_in ue bearer) (find-put-same ue_total r.contexts ue c)
-          ∙ ap (part_of_bearer ue c bearer) (made_found way target r.next_teid (bearers_from 1 count) bearer ∙ ap (option_map (made target)) there)
+          ap (model_in ue bearer) (find-put-same ue_total r.contexts ue c)
+          ∙ ap (model_of_bearer ue c bearer) (made_found way target r.next_teid (bearers_from 1 count) bearer ∙ ap (option_map (made target)) there)
 
       sorted : BearersInOrder (with_context ue r c)
       sorted = order_put r ue c order (made_sorted target r.next_teid count)
@@ -381,51 +381,51 @@ module _ {M C P : Type 0} (way : Way M C P) (ue : UeId) (bearer : BearerId) wher
 
   -- ---- one bearer of a context
 
-  put_sorted : (r : Record) (u : UeId) (c : UpContext) (b : BearerId) (y : UpBearer) → context_of r u ≡ Some c → BearersInOrder r
+  put_sorted : (r : Record) (u : UeId) (c : CuUpContext) (b : BearerId) (y : CuUpBearer) → context_of r u ≡ Some c → BearersInOrder r
       → BearersInOrder (with_context u r (record c { bearers = put bearer_cmp c.bearers b y }))
   put_sorted r u c b y is order =
       order_put r u (record c { bearers = put bearer_cmp c.bearers b y }) order (sorted-put bearer_total c.bearers b y (order u c is))
 
-  pub bearer_here : (r : Record) (c : UpContext) (x : UpBearer) (o : UpOrder P) (a : Answer M P UpBearer) → context_of r ue ≡ Some c
-      → find bearer_cmp c.bearers bearer ≡ Some x → BearersInOrder r → done way o (part_with ue c bearer x) ≡ kept_in (part_with ue c bearer x) a
+  pub bearer_here : (r : Record) (c : CuUpContext) (x : CuUpBearer) (o : ContextStep P) (a : Answer M P CuUpBearer) → context_of r ue ≡ Some c
+      → find bearer_cmp c.bearers bearer ≡ Some x → BearersInOrder r → done way o (model_with ue c bearer x) ≡ kept_in (model_with ue c bearer x) a
       → Does (carried_out way ue bearer o (at_bearer r)) (with_bearer way r ue c bearer a)
   bearer_here r c x o (spent k) is there order does = tt
   bearer_here r c x o (gives os y) is there order does =
-      subst (λ (p : Part). Does (carried_out way ue bearer o p) (with_bearer way r ue c bearer (gives os y)))
-      (sym (ap (part_in ue bearer) is ∙ ap (part_of_bearer ue c bearer) there))
-      (subst (λ (k : Answer M P Part). Does k (with_bearer way r ue c bearer (gives os y))) (sym does) (
+      subst (λ (p : Model). Does (carried_out way ue bearer o p) (with_bearer way r ue c bearer (gives os y)))
+      (sym (ap (model_in ue bearer) is ∙ ap (model_of_bearer ue c bearer) there))
+      (subst (λ (k : Answer M P Model). Does k (with_bearer way r ue c bearer (gives os y))) (sym does) (
         (
           refl,
-          ap (part_in ue bearer) (find-put-same ue_total r.contexts ue now)
-              ∙ ap (part_of_bearer ue now bearer) (find-put-same bearer_total c.bearers bearer y),
+          ap (model_in ue bearer) (find-put-same ue_total r.contexts ue now)
+              ∙ ap (model_of_bearer ue now bearer) (find-put-same bearer_total c.bearers bearer y),
         ),
         put_sorted r ue c bearer y is order,
       ))
     where
-      now : UpContext
+      now : CuUpContext
       now = record c { bearers = put bearer_cmp c.bearers bearer y }
 
-  pub bearer_beside : (r : Record) (c : UpContext) (b : BearerId) (a : Answer M P UpBearer) → eq_by_cmp bearer_cmp bearer b ≡ false
+  pub bearer_beside : (r : Record) (c : CuUpContext) (b : BearerId) (a : Answer M P CuUpBearer) → eq_by_cmp bearer_cmp bearer b ≡ false
       → context_of r ue ≡ Some c → BearersInOrder r → Off way ue bearer a → Keeps r (with_bearer way r ue c b a)
   bearer_beside r c b (spent k) other is order off = tt
   bearer_beside r c b (gives os y) other is order off = (
     (
       off,
-      ap (part_in ue bearer) (find-put-same ue_total r.contexts ue now)
-          ∙ ap (part_of_bearer ue now bearer) (find-put-other bearer_total c.bearers b y bearer other)
-          ∙ by (find bearer_cmp c.bearers bearer) ∙ ap (part_in ue bearer) (sym is),
+      ap (model_in ue bearer) (find-put-same ue_total r.contexts ue now)
+          ∙ ap (model_of_bearer ue now bearer) (find-put-other bearer_total c.bearers b y bearer other)
+          ∙ by (find bearer_cmp c.bearers bearer) ∙ ap (model_in ue bearer) (sym is),
     ),
     put_sorted r ue c b y is order,
   )
     where
-      now : UpContext
+      now : CuUpContext
       now = record c { bearers = put bearer_cmp c.bearers b y }
 
-      by : (q : Option UpBearer) → part_of_bearer ue now bearer q ≡ part_of_bearer ue c bearer q
+      by : (q : Option CuUpBearer) → model_of_bearer ue now bearer q ≡ model_of_bearer ue c bearer q
       by None = refl
       by (Some x) = refl
 
-  pub bearer_off : (u : UeId) → eq_by_cmp ue_cmp ue u ≡ false → (r : Record) (c : UpContext) (b : BearerId) (a : Answer M P UpBearer)
+  pub bearer_off : (u : UeId) → eq_by_cmp ue_cmp ue u ≡ false → (r : Record) (c : CuUpContext) (b : BearerId) (a : Answer M P CuUpBearer)
       → context_of r u ≡ Some c → BearersInOrder r → Off way ue bearer a → Keeps r (with_bearer way r u c b a)
   bearer_off u other r c b (spent k) is order off = tt
   bearer_off u other r c b (gives os y) is order off =

@@ -19,11 +19,11 @@ use Rattle.message_types.specs.declared.e1.E1Message.TheVariants as e1s
 use Rattle.unit_defs.specs.Ways.{Message, e1, Taken, Input, control_input, packet_input, order_input, Way, Answer, gives, spent}
 use Rattle.unit_defs.specs.Messages.{mode_uplinks, mode_switch, mode_freeze, mode_status, mode_resume, channel, are_bearers, bearers_of, statuses_of}
 use Rattle.unit_defs.specs.Transactions.{Kind, request, reply, transfer, kind_of}
-use Rattle.unit_defs.specs.UpRecords.{UpBearer, UpContext, CuUp, UpTunnel, up_at}
-use Rattle.unit_defs.specs.UpBearers.{has_downlink}
-use Rattle.unit_defs.specs.UpItems.{held_reason, took}
-use Rattle.unit_defs.specs.CuUp.{context_of, names, as_released, is_own_cp, ue_in}
-use Rattle.proof_cu_up_orders.specs.context_orders.Orders.{UpOrder, closes, takes, polls, knows, resumes}
+use Rattle.unit_defs.specs.CuUpRecords.{CuUpBearer, CuUpContext, CuUp, CuUpTunnel, cu_up_scope}
+use Rattle.unit_defs.specs.CuUpBearers.{has_downlink}
+use Rattle.unit_defs.specs.CuUpItems.{held_reason, took}
+use Rattle.unit_defs.specs.CuUp.{context_of, names, as_released, is_own_cu_cp, ue_in}
+use Rattle.proof_cu_up_orders.specs.context_orders.Orders.{ContextStep, closes, takes, polls, knows, resumes}
 use Rattle.proof_cu_up_orders.specs.context_orders.Inputs.{only_if, ends, closes_if, closes_after, taken_by, taken_in, taken_of, taken_on, polls_if, polls_on, setup_orders, switches_if, freezes_if, status_in, knows_if, modify_orders, release_orders, asked_orders, new_orders, control_orders, orders_of}
 use Rattle.proof_cu_up_orders.specs.context_orders.Shown.{is_bearer}
 use Rattle.proof_cu_up_orders.specs.context_rows.Released.{AllPass}
@@ -40,7 +40,7 @@ not_resumed true false e = absurd cc
 
 module _ {M C P : Type 0} (way : Way M C P) (r : CuUp M C) (ue : UeId) (bearer : BearerId) where
   abbrev Orders : Type 0
-  Orders = List (UpOrder P)
+  Orders = List (ContextStep P)
 
   pass_if : (t : Bool) (os : Orders) → AllPass os → AllPass (only_if way t os)
   pass_if true os h = h
@@ -53,55 +53,55 @@ module _ {M C P : Type 0} (way : Way M C P) (r : CuUp M C) (ue : UeId) (bearer :
   either true xs ys h k = h
   either false xs ys h k = k
 
-  closes_pass : (d : UpContext) → AllPass (closes_if way d)
+  closes_pass : (d : CuUpContext) → AllPass (closes_if way d)
   closes_pass d = pass_if (ends way d) (closes ∷ []) (tt, tt)
 
   -- ---- items and polls, of whichever context
 
-  after_pass : (d : UpContext) (b : BearerId) (a : Answer M P UpBearer) → AllPass (closes_after way d b a)
+  after_pass : (d : CuUpContext) (b : BearerId) (a : Answer M P CuUpBearer) → AllPass (closes_after way d b a)
   after_pass d b (gives os y) = closes_pass (record d { bearers = put bearer_cmp d.bearers b y })
   after_pass d b (spent k) = tt
 
-  taken_pass : (t : UpTunnel) (teid : ℕ) (item : Taken P) (d : UpContext) (b : UpBearer) (o : Option HeldReason) → AllPass (taken_by way bearer t teid item d b o)
+  taken_pass : (t : CuUpTunnel) (teid : ℕ) (item : Taken P) (d : CuUpContext) (b : CuUpBearer) (o : Option HeldReason) → AllPass (taken_by way bearer t teid item d b o)
   taken_pass t teid item d b (Some reason) = tt
   taken_pass t teid item d b None = by (eq_by_cmp bearer_cmp bearer t.bearer)
     where
-      by : (k : Bool) → AllPass (only_if way k (takes t.kind teid item ∷ []) ++ closes_after way d t.bearer (took way (up_at t.ue d t.bearer) t.kind teid item b))
-      by true = (tt, after_pass d t.bearer (took way (up_at t.ue d t.bearer) t.kind teid item b))
-      by false = after_pass d t.bearer (took way (up_at t.ue d t.bearer) t.kind teid item b)
+      by : (k : Bool) → AllPass (only_if way k (takes t.kind teid item ∷ []) ++ closes_after way d t.bearer (took way (cu_up_scope t.ue d t.bearer) t.kind teid item b))
+      by true = (tt, after_pass d t.bearer (took way (cu_up_scope t.ue d t.bearer) t.kind teid item b))
+      by false = after_pass d t.bearer (took way (cu_up_scope t.ue d t.bearer) t.kind teid item b)
 
-  in_pass : (t : UpTunnel) (teid : ℕ) (item : Taken P) (d : UpContext) (o : Option UpBearer) → AllPass (taken_in way bearer t teid item d o)
+  in_pass : (t : CuUpTunnel) (teid : ℕ) (item : Taken P) (d : CuUpContext) (o : Option CuUpBearer) → AllPass (taken_in way bearer t teid item d o)
   in_pass t teid item d None = tt
-  in_pass t teid item d (Some b) = taken_pass t teid item d b (held_reason (up_at t.ue d t.bearer) b t.kind item)
+  in_pass t teid item d (Some b) = taken_pass t teid item d b (held_reason (cu_up_scope t.ue d t.bearer) b t.kind item)
 
-  of_pass : (t : UpTunnel) (teid : ℕ) (item : Taken P) (o : Option UpContext) → AllPass (taken_of way bearer t teid item o)
+  of_pass : (t : CuUpTunnel) (teid : ℕ) (item : Taken P) (o : Option CuUpContext) → AllPass (taken_of way bearer t teid item o)
   of_pass t teid item None = tt
   of_pass t teid item (Some d) = in_pass t teid item d (find bearer_cmp d.bearers t.bearer)
 
-  on_pass : (teid : ℕ) (item : Taken P) (o : Option UpTunnel) → AllPass (taken_on way r ue bearer teid item o)
+  on_pass : (teid : ℕ) (item : Taken P) (o : Option CuUpTunnel) → AllPass (taken_on way r ue bearer teid item o)
   on_pass teid item None = tt
   on_pass teid item (Some t) = pass_if (eq_by_cmp ue_cmp ue t.ue) (taken_of way bearer t teid item (context_of r t.ue)) (of_pass t teid item (context_of r t.ue))
 
-  poll_pass : (d : UpContext) (o : Option UpBearer) → AllPass (polls_if way d o)
+  poll_pass : (d : CuUpContext) (o : Option CuUpBearer) → AllPass (polls_if way d o)
   poll_pass d None = tt
   poll_pass d (Some b) =
       pass_if (not (length b.sender.unconfirmed == 0 || (d.flags.frozen || not (has_downlink b.downlink)))) (polls ∷ []) (tt, tt)
 
-  polls_pass : (o : Option UpContext) → AllPass (polls_on way bearer o)
+  polls_pass : (o : Option CuUpContext) → AllPass (polls_on way bearer o)
   polls_pass None = tt
   polls_pass (Some d) = poll_pass d (find bearer_cmp d.bearers bearer)
 
   -- ---- requests
 
-  module _ (c : UpContext) (is : context_of r ue ≡ Some c) (gone : c.flags.released ≡ true) where
-    by_terminal : (u : UeId) (os : UeId → Option UpContext → Orders) → AllPass (os ue (Some c))
+  module _ (c : CuUpContext) (is : context_of r ue ≡ Some c) (gone : c.flags.released ≡ true) where
+    by_terminal : (u : UeId) (os : UeId → Option CuUpContext → Orders) → AllPass (os ue (Some c))
         → AllPass (only_if way (eq_by_cmp ue_cmp ue u) (os u (context_of r u)))
     by_terminal u os h = by (eq_by_cmp ue_cmp ue u) refl
       where
         by : (t : Bool) → eq_by_cmp ue_cmp ue u ≡ t → AllPass (only_if way t (os u (context_of r u)))
         by true tie =
             subst (λ (v : UeId). AllPass (os v (context_of r v))) (ue_exact ue u ((Equal-is (ue_cmp ue u)).0 tie))
-            (subst (λ (o : Option UpContext). AllPass (os ue o)) (sym is) h)
+            (subst (λ (o : Option CuUpContext). AllPass (os ue o)) (sym is) h)
         by false off = tt
 
     switch_pass : (du : Option ℕ) (list : Option (List Tunnel)) → AllPass (switches_if way r.gnb bearer du list c)
@@ -155,7 +155,7 @@ module _ {M C P : Type 0} (way : Way M C P) (r : CuUp M C) (ue : UeId) (bearer :
 
     pub orders_pass : (input : Input C P) → AllPass (orders_of way r ue bearer input)
     orders_pass (control_input from m) =
-        pass_if (is_own_cp way r.gnb from) (control_orders way r ue bearer (channel (ue_in way (kind_of m)) from) m (kind_of m))
+        pass_if (is_own_cu_cp way r.gnb from) (control_orders way r ue bearer (channel (ue_in way (kind_of m)) from) m (kind_of m))
         (control_pass (channel (ue_in way (kind_of m)) from) m (kind_of m))
     orders_pass (packet_input teid item) = on_pass teid item (find nat_cmp r.tunnels teid)
     orders_pass (order_input (inputs.Poll u b)) = pass_if (is_bearer ue bearer u b) (polls_on way bearer (context_of r u)) (polls_pass (context_of r u))

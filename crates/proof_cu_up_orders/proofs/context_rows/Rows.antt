@@ -30,14 +30,14 @@ use Rattle.unit_defs.specs.Ways.{Message, e1, Taken, control, no, Input, control
 use Rattle.unit_defs.specs.Messages.{cause_busy, cause_quota, mode_uplinks, mode_switch, mode_freeze, mode_status, mode_resume, channel, are_bearers, bearers_of, statuses_of, teid_of}
 use Rattle.unit_defs.specs.Teids.{teids_are_left, without_each}
 use Rattle.unit_defs.specs.Transactions.{Kind, request, reply, transfer, kind_of, no_instance, Transactions, ask, advance, replied, answered_again, request_by, on_reply, on_request}
-use Rattle.unit_defs.specs.UpRecords.{UpBearer, UpContext, CuUp, UpTunnel, up_at}
-use Rattle.unit_defs.specs.UpBearers.{teids_of_bearer, has_downlink, with_uplink, switched, frozen_to, with_status, resumed, framed}
-use Rattle.unit_defs.specs.UpItems.{held_reason, took}
-use Rattle.unit_defs.specs.CuUp.{with_context, context_of, with_transactions, up_node, bearers_from, each_bearer, answer_with, end_where_over, replies, new_context, with_new, makes, fits, set_up_for, setup_response, setup_on, setup, modified, uplinks_from, teids_from, uplinks_given, add_uplinks, as_switched, switch, as_frozen, peer_node, statuses, freeze, as_known, status_each, take_status, as_resumed, resume, names, switch_if, freeze_if, status_if, resume_if, modify_on, as_released, released_on, release, asked, start, set_up, control_by, ue_in, is_own_cp, control_came, with_bearer, taken_by, taken_in, taken_of, taken_on, take, poll_bearer, poll_on, poll, tick, closed_in, cu_up_acts}
+use Rattle.unit_defs.specs.CuUpRecords.{CuUpBearer, CuUpContext, CuUp, CuUpTunnel, cu_up_scope}
+use Rattle.unit_defs.specs.CuUpBearers.{teids_of_bearer, has_downlink, with_uplink, switched, frozen_to, with_status, resumed, framed}
+use Rattle.unit_defs.specs.CuUpItems.{held_reason, took}
+use Rattle.unit_defs.specs.CuUp.{with_context, context_of, with_transactions, up_node, bearers_from, each_bearer, answer_with, end_where_over, replies, new_context, with_new, makes, fits, set_up_for, setup_response, setup_on, setup, modified, uplinks_from, teids_from, uplinks_given, add_uplinks, as_switched, switch, as_frozen, peer_node, statuses, freeze, as_known, status_each, take_status, as_resumed, resume, names, switch_if, freeze_if, status_if, resume_if, modify_on, as_released, released_on, release, asked, start, set_up, control_by, ue_in, is_own_cu_cp, control_received, with_bearer, taken_by, taken_in, taken_of, taken_on, take, poll_bearer, poll_on, poll, tick, closed_in, cu_up_acts}
 use Rattle.proof_unit_steps.specs.answers.After.{HoldsAfter}
 use Rattle.proof_unit_steps.specs.tunnel_frames.OneTunnel.{BearersInOrder}
 use Rattle.proof_unit_steps.proofs.tunnel_frames.Contexts.{Apart, sorted_apart}
-use Rattle.proof_cu_up_orders.specs.context_orders.Orders.{UpPart, part_with, UpOrder, adds, switches, freezes, knows, resumes, releases, takes, polls, kept_in, carried_out, carried}
+use Rattle.proof_cu_up_orders.specs.context_orders.Orders.{CuUpModel, model_with, ContextStep, adds, switches, freezes, knows, resumes, releases, takes, polls, kept_in, carried_out, carried}
 use Rattle.proof_cu_up_orders.specs.context_orders.Inputs as orders
 use Rattle.proof_cu_up_orders.specs.context_orders.Inputs.{only_if, closes_if, closes_after, new_teid, makes_with, setup_orders, switches_if, freezes_if, status_in, knows_if, modify_orders, release_orders, asked_orders, new_orders, control_orders, orders_of}
 use Rattle.proof_cu_up_orders.specs.context_orders.Shown.{is_bearer, Follows, Untouched}
@@ -50,7 +50,7 @@ module _ {M C P : Type 0} (way : Way M C P) (ue : UeId) (bearer : BearerId) wher
   Record = CuUp M C
 
   abbrev Orders : Type 0
-  Orders = List (UpOrder P)
+  Orders = List (ContextStep P)
 
   -- a row of a terminal's context: what is asked of the bearer, where it is this terminal's
   by_terminal : (r : Record) (u : UeId) (os : UeId → Orders) (a : UeId → Answer M P Record)
@@ -65,7 +65,7 @@ module _ {M C P : Type 0} (way : Way M C P) (ue : UeId) (bearer : BearerId) wher
       by false tie = off tie
 
   module _ (r : Record) (order : BearersInOrder r) where
-    abbrev now : Option UpPart
+    abbrev now : Option CuUpModel
     now = at_bearer way ue bearer r
 
     abbrev Is : Orders → Answer M P Record → Type 0
@@ -82,7 +82,7 @@ module _ {M C P : Type 0} (way : Way M C P) (ue : UeId) (bearer : BearerId) wher
 
     -- ---- setup
 
-    set_up_keeps : (ch : Channel) (u : UeId) (instance : ℕ) (forward : Bool) (s : Record) → BearersInOrder s → (c : Option UpContext)
+    set_up_keeps : (ch : Channel) (u : UeId) (instance : ℕ) (forward : Bool) (s : Record) → BearersInOrder s → (c : Option CuUpContext)
         → Keeps way ue bearer s (set_up_for way ch u instance forward s c)
     set_up_keeps ch u instance forward s ordered None = ((refl, refl), ordered)
     set_up_keeps ch u instance forward s ordered (Some c) = replies_keep way ue bearer ch (setup_response way u instance forward c.bearers) s ordered
@@ -102,7 +102,7 @@ module _ {M C P : Type 0} (way : Way M C P) (ue : UeId) (bearer : BearerId) wher
     makes_off u other sn quota target count = keeps_if way ue bearer r (teids_are_left r.next_teid (count * teids_of_bearer target)) _ (spent teids_spent)
         (new_off way ue bearer u other r (count * teids_of_bearer target) sn quota target count order) tt
 
-    setup_here : (ch : Channel) (instance count : ℕ) (sn : SnBits) (quota : ℕ) (forward : Bool) (o : Option UpContext) → context_of r ue ≡ o
+    setup_here : (ch : Channel) (instance count : ℕ) (sn : SnBits) (quota : ℕ) (forward : Bool) (o : Option CuUpContext) → context_of r ue ≡ o
         → Is (setup_orders way r bearer count sn quota forward o) (setup_on way ch ue instance count sn quota forward r o)
     setup_here ch instance count sn quota forward (Some c) is = replies_keep way ue bearer ch (e1s.BearerContextSetupFailure ue instance cause_busy) r order
     setup_here ch instance count sn quota forward None is = by (fits way count quota r)
@@ -116,7 +116,7 @@ module _ {M C P : Type 0} (way : Way M C P) (ue : UeId) (bearer : BearerId) wher
             (makes_here sn quota forward count is) (λ s ordered. set_up_keeps ch ue instance forward s ordered (context_of s ue))
         by false = replies_keep way ue bearer ch (e1s.BearerContextSetupFailure ue instance cause_quota) r order
 
-    setup_off : (u : UeId) → eq_by_cmp ue_cmp ue u ≡ false → (ch : Channel) (instance count : ℕ) (sn : SnBits) (quota : ℕ) (forward : Bool) (o : Option UpContext)
+    setup_off : (u : UeId) → eq_by_cmp ue_cmp ue u ≡ false → (ch : Channel) (instance count : ℕ) (sn : SnBits) (quota : ℕ) (forward : Bool) (o : Option CuUpContext)
         → Same (setup_on way ch u instance count sn quota forward r o)
     setup_off u other ch instance count sn quota forward (Some c) = replies_keep way ue bearer ch (e1s.BearerContextSetupFailure u instance cause_busy) r order
     setup_off u other ch instance count sn quota forward None =
@@ -127,7 +127,7 @@ module _ {M C P : Type 0} (way : Way M C P) (ue : UeId) (bearer : BearerId) wher
 
     -- ---- modifications of this terminal's context
 
-    module _ (ch : Channel) (instance : ℕ) (c : UpContext) (is : context_of r ue ≡ Some c) where
+    module _ (ch : Channel) (instance : ℕ) (c : CuUpContext) (is : context_of r ue ≡ Some c) where
       apart : Apart c.bearers
       apart = sorted_apart c.bearers (order ue c is)
 
@@ -161,11 +161,11 @@ module _ {M C P : Type 0} (way : Way M C P) (ue : UeId) (bearer : BearerId) wher
           (reply_last (switches (du_id r.gnb d) (teid_of list bearer) ∷ []) (answer_with way r ue (as_switched way c) (each_bearer way row c.bearers))
           (modified way ue instance None None)
           (answer_here way ue bearer r c (as_switched way c) (each_bearer way row c.bearers) (row bearer) (switches (du_id r.gnb d) (teid_of list bearer)) is order
-          (each_step way ue bearer row (λ b x off. off_switched way ue bearer (up_at ue (as_switched way c) b) (is_other b off) (du_id r.gnb d) (teid_of list b) x)
+          (each_step way ue bearer row (λ b x off. off_switched way ue bearer (cu_up_scope ue (as_switched way c) b) (is_other b off) (du_id r.gnb d) (teid_of list b) x)
           c.bearers apart) refl (λ x. refl)))
         where
-          row : BearerId → UpBearer → Answer M P UpBearer
-          row b = switched way (up_at ue (as_switched way c) b) (du_id r.gnb d) (teid_of list b)
+          row : BearerId → CuUpBearer → Answer M P CuUpBearer
+          row b = switched way (cu_up_scope ue (as_switched way c) b) (du_id r.gnb d) (teid_of list b)
       switch_here (Some d) None = unexpected
       switch_here None list = unexpected
 
@@ -181,11 +181,11 @@ module _ {M C P : Type 0} (way : Way M C P) (ue : UeId) (bearer : BearerId) wher
           (answer_here way ue bearer r c (as_frozen way c) (each_bearer way row c.bearers) (row bearer)
           (freezes (peer_node way peer) (teid_of a bearer) (teid_of b bearer)) is order
           (each_step way ue bearer row
-          (λ x y off. off_frozen way ue bearer (up_at ue (as_frozen way c) x) (is_other x off) (peer_node way peer) (teid_of a x) (teid_of b x) y)
+          (λ x y off. off_frozen way ue bearer (cu_up_scope ue (as_frozen way c) x) (is_other x off) (peer_node way peer) (teid_of a x) (teid_of b x) y)
           c.bearers apart) refl (λ x. refl)))
         where
-          row : BearerId → UpBearer → Answer M P UpBearer
-          row x = frozen_to way (up_at ue (as_frozen way c) x) (peer_node way peer) (teid_of a x) (teid_of b x)
+          row : BearerId → CuUpBearer → Answer M P CuUpBearer
+          row x = frozen_to way (cu_up_scope ue (as_frozen way c) x) (peer_node way peer) (teid_of a x) (teid_of b x)
       freeze_here (Some peer) (Some a) None = unexpected
       freeze_here (Some peer) None b = unexpected
       freeze_here None a b = unexpected
@@ -194,7 +194,7 @@ module _ {M C P : Type 0} (way : Way M C P) (ue : UeId) (bearer : BearerId) wher
       unfolding take_status
       status_here (Some ss) = by c.flags.may_serve (are_bearers (names way c) (statuses_of ss)) refl
         where
-          on : UpContext
+          on : CuUpContext
           on = as_known way c
 
           by : (t u : Bool) → are_bearers (names way c) (statuses_of ss) ≡ u → Is (only_if way (not (t || not u)) (knows (status_in way ss bearer) ∷ []))
@@ -205,7 +205,7 @@ module _ {M C P : Type 0} (way : Way M C P) (ue : UeId) (bearer : BearerId) wher
           by false true named = reply_last (knows (status_in way ss bearer) ∷ []) (answer_with way r ue on (status_each way ue on ss c.bearers))
               (modified way ue instance None None)
               (answer_here way ue bearer r c on (status_each way ue on ss c.bearers)
-              (λ x. with_status way (up_at ue on bearer) (status_in way ss bearer) x) (knows (status_in way ss bearer)) is order
+              (λ x. with_status way (cu_up_scope ue on bearer) (status_in way ss bearer) x) (knows (status_in way ss bearer)) is order
               (status_step way ue bearer on ss c.bearers apart named) refl (λ x. refl))
       status_here None = unexpected
 
@@ -215,14 +215,14 @@ module _ {M C P : Type 0} (way : Way M C P) (ue : UeId) (bearer : BearerId) wher
           both_if way ue bearer now (c.flags.frozen && not c.flags.released) (resumes ∷ []) [] _ (drops Unexpected r)
           (reply_last (resumes ∷ []) (answer_with way r ue (as_resumed way c) (each_bearer way row c.bearers)) (modified way ue instance None None)
           (answer_here way ue bearer r c (as_resumed way c) (each_bearer way row c.bearers) (row bearer) resumes is order
-          (each_step way ue bearer row (λ b x off. off_resumed way ue bearer (up_at ue (as_resumed way c) b) (is_other b off) x) c.bearers apart) refl (λ x. refl)))
+          (each_step way ue bearer row (λ b x off. off_resumed way ue bearer (cu_up_scope ue (as_resumed way c) b) (is_other b off) x) c.bearers apart) refl (λ x. refl)))
           unexpected
         where
-          row : BearerId → UpBearer → Answer M P UpBearer
-          row b = resumed way (up_at ue (as_resumed way c) b)
+          row : BearerId → CuUpBearer → Answer M P CuUpBearer
+          row b = resumed way (cu_up_scope ue (as_resumed way c) b)
 
     modify_here : (ch : Channel) (instance : ℕ) (downlinks : Option (List Tunnel)) (mode : ℕ) (peer : Option Peer) (down up : Option (List Tunnel))
-        (ss : Option (List SnStatus)) (du : Option ℕ) (o : Option UpContext) → context_of r ue ≡ o
+        (ss : Option (List SnStatus)) (du : Option ℕ) (o : Option CuUpContext) → context_of r ue ≡ o
         → Is (modify_orders way r bearer (e1s.BearerContextModificationRequest ue instance downlinks mode peer down up ss du) o)
         (modify_on way ch (e1s.BearerContextModificationRequest ue instance downlinks mode peer down up ss du) r o)
     modify_here ch instance downlinks mode peer down up ss du None is = no_context
@@ -236,7 +236,7 @@ module _ {M C P : Type 0} (way : Way M C P) (ue : UeId) (bearer : BearerId) wher
 
     -- ---- and of another's
 
-    module _ (u : UeId) (other : eq_by_cmp ue_cmp ue u ≡ false) (ch : Channel) (instance : ℕ) (c : UpContext) (is : context_of r u ≡ Some c) where
+    module _ (u : UeId) (other : eq_by_cmp ue_cmp ue u ≡ false) (ch : Channel) (instance : ℕ) (c : CuUpContext) (is : context_of r u ≡ Some c) where
       reply_after : (a : Answer M P Record) (m : E1Message) → Same a → Same (a then replies way ch m)
       reply_after a m h = then_keeps way ue bearer (nothing now) a (replies way ch m) h (λ s ordered. replies_keep way ue bearer ch m s ordered)
 
@@ -253,10 +253,10 @@ module _ {M C P : Type 0} (way : Way M C P) (ue : UeId) (bearer : BearerId) wher
       unfolding switch
       switch_off (Some d) (Some list) = keeps_if way ue bearer r (c.flags.released || not (are_bearers (names way c) (bearers_of list))) (drops Unexpected r) _ unexpected
           (reply_after _ _ (answer_off way ue bearer u other r c (as_switched way c) (each_bearer way row c.bearers) is order
-          (off_bearers way ue bearer row (λ b x. off_switched way ue bearer (up_at u (as_switched way c) b) (is_away b) (du_id r.gnb d) (teid_of list b) x) c.bearers)))
+          (off_bearers way ue bearer row (λ b x. off_switched way ue bearer (cu_up_scope u (as_switched way c) b) (is_away b) (du_id r.gnb d) (teid_of list b) x) c.bearers)))
         where
-          row : BearerId → UpBearer → Answer M P UpBearer
-          row b = switched way (up_at u (as_switched way c) b) (du_id r.gnb d) (teid_of list b)
+          row : BearerId → CuUpBearer → Answer M P CuUpBearer
+          row b = switched way (cu_up_scope u (as_switched way c) b) (du_id r.gnb d) (teid_of list b)
       switch_off (Some d) None = unexpected
       switch_off None list = unexpected
 
@@ -270,10 +270,10 @@ module _ {M C P : Type 0} (way : Way M C P) (ue : UeId) (bearer : BearerId) wher
           (replies_keep way ue bearer ch (e1s.BearerContextModificationFailure u instance cause_busy) r order)
           (reply_after _ _ (answer_off way ue bearer u other r c (as_frozen way c) (each_bearer way row c.bearers) is order
           (off_bearers way ue bearer row
-          (λ x y. off_frozen way ue bearer (up_at u (as_frozen way c) x) (is_away x) (peer_node way peer) (teid_of a x) (teid_of b x) y) c.bearers))))
+          (λ x y. off_frozen way ue bearer (cu_up_scope u (as_frozen way c) x) (is_away x) (peer_node way peer) (teid_of a x) (teid_of b x) y) c.bearers))))
         where
-          row : BearerId → UpBearer → Answer M P UpBearer
-          row x = frozen_to way (up_at u (as_frozen way c) x) (peer_node way peer) (teid_of a x) (teid_of b x)
+          row : BearerId → CuUpBearer → Answer M P CuUpBearer
+          row x = frozen_to way (cu_up_scope u (as_frozen way c) x) (peer_node way peer) (teid_of a x) (teid_of b x)
       freeze_off (Some peer) (Some a) None = unexpected
       freeze_off (Some peer) None b = unexpected
       freeze_off None a b = unexpected
@@ -289,13 +289,13 @@ module _ {M C P : Type 0} (way : Way M C P) (ue : UeId) (bearer : BearerId) wher
       unfolding resume
       resume_off = keeps_if way ue bearer r (c.flags.frozen && not c.flags.released) _ (drops Unexpected r)
           (reply_after _ _ (answer_off way ue bearer u other r c (as_resumed way c) (each_bearer way row c.bearers) is order
-          (off_bearers way ue bearer row (λ b x. off_resumed way ue bearer (up_at u (as_resumed way c) b) (is_away b) x) c.bearers))) unexpected
+          (off_bearers way ue bearer row (λ b x. off_resumed way ue bearer (cu_up_scope u (as_resumed way c) b) (is_away b) x) c.bearers))) unexpected
         where
-          row : BearerId → UpBearer → Answer M P UpBearer
-          row b = resumed way (up_at u (as_resumed way c) b)
+          row : BearerId → CuUpBearer → Answer M P CuUpBearer
+          row b = resumed way (cu_up_scope u (as_resumed way c) b)
 
     modify_off : (u : UeId) → eq_by_cmp ue_cmp ue u ≡ false → (ch : Channel) (instance : ℕ) (downlinks : Option (List Tunnel)) (mode : ℕ) (peer : Option Peer)
-        (down up : Option (List Tunnel)) (ss : Option (List SnStatus)) (du : Option ℕ) (o : Option UpContext) → context_of r u ≡ o
+        (down up : Option (List Tunnel)) (ss : Option (List SnStatus)) (du : Option ℕ) (o : Option CuUpContext) → context_of r u ≡ o
         → Same (modify_on way ch (e1s.BearerContextModificationRequest u instance downlinks mode peer down up ss du) r o)
     modify_off u other ch instance downlinks mode peer down up ss du None is = no_context
     modify_off u other ch instance downlinks mode peer down up ss du (Some c) is =
@@ -308,7 +308,7 @@ module _ {M C P : Type 0} (way : Way M C P) (ue : UeId) (bearer : BearerId) wher
 
     -- ---- release
 
-    released_here : (is_final : Bool) (o : Option UpContext) → context_of r ue ≡ o → Is (release_orders way is_final o) (released_on way ue is_final r o)
+    released_here : (is_final : Bool) (o : Option CuUpContext) → context_of r ue ≡ o → Is (release_orders way is_final o) (released_on way ue is_final r o)
     released_here is_final None is = ((refl, refl), order)
     released_here true (Some c) is = closed_here way ue bearer r c order
     released_here false (Some c) is =
@@ -317,7 +317,7 @@ module _ {M C P : Type 0} (way : Way M C P) (ue : UeId) (bearer : BearerId) wher
         (over_here way ue bearer (with_context ue r (as_released way c)) (as_released way c)
         (find-put-same ue_total r.contexts ue (as_released way c)) (released_sorted way ue bearer r ue c is order))
 
-    released_off : (u : UeId) → eq_by_cmp ue_cmp ue u ≡ false → (is_final : Bool) (o : Option UpContext) → context_of r u ≡ o
+    released_off : (u : UeId) → eq_by_cmp ue_cmp ue u ≡ false → (is_final : Bool) (o : Option CuUpContext) → context_of r u ≡ o
         → Same (released_on way u is_final r o)
     released_off u other is_final None is = ((refl, refl), order)
     released_off u other true (Some c) is = ended_off way ue bearer u other r c order
@@ -334,13 +334,13 @@ module _ {M C P : Type 0} (way : Way M C P) (ue : UeId) (bearer : BearerId) wher
   unfolding release replied
   release_does ch u instance is_final r order =
       off_first way ue bearer (carried way ue bearer (only_if way (eq_by_cmp ue_cmp ue u) (release_orders way is_final (context_of r u))) (at_bearer way ue bearer r))
-      (control ch.peer ch.ue (way.spell (e1 (e1s.BearerContextReleaseComplete u instance))) ∷ []) (released_on way u is_final later (context_of later u)) refl
+      (control ch.peer ch.ue (way.encode (e1 (e1s.BearerContextReleaseComplete u instance))) ∷ []) (released_on way u is_final later (context_of later u)) refl
       (by_terminal later u (λ v. release_orders way is_final (context_of later v)) (λ v. released_on way v is_final later (context_of later v))
       (released_here later order is_final (context_of later ue) refl) (λ other. released_off later order u other is_final (context_of later u) refl))
     where
       later : Record
       later = with_transactions r (record r.transactions {
-        callee = keep r.transactions.callee ch (way.spell (e1 (e1s.BearerContextReleaseComplete u instance)));
+        callee = keep r.transactions.callee ch (way.encode (e1 (e1s.BearerContextReleaseComplete u instance)));
       })
 
   asked_does : (ch : Channel) (m : Message C) (r : Record) → BearersInOrder r
@@ -388,42 +388,42 @@ module _ {M C P : Type 0} (way : Way M C P) (ue : UeId) (bearer : BearerId) wher
   -- ---- items, polls, ticks
 
   module _ (r : Record) (order : BearersInOrder r) where
-    abbrev Put : UeId → UpContext → BearerId → UpBearer → Record
+    abbrev Put : UeId → CuUpContext → BearerId → CuUpBearer → Record
     Put u c b y = with_context u r (record c { bearers = put bearer_cmp c.bearers b y })
 
     -- of this terminal's context: the bearer takes it, or another one
-    item_here : (c : UpContext) (x : UpBearer) (t : UpTunnel) (teid : ℕ) (item : Taken P) → context_of r ue ≡ Some c → find bearer_cmp c.bearers bearer ≡ Some x
-        → (a : Answer M P UpBearer) → took way (up_at ue c bearer) t.kind teid item x ≡ a
+    item_here : (c : CuUpContext) (x : CuUpBearer) (t : CuUpTunnel) (teid : ℕ) (item : Taken P) → context_of r ue ≡ Some c → find bearer_cmp c.bearers bearer ≡ Some x
+        → (a : Answer M P CuUpBearer) → took way (cu_up_scope ue c bearer) t.kind teid item x ≡ a
         → Does way ue bearer (carried way ue bearer (takes t.kind teid item ∷ closes_after way c bearer a) (at_bearer way ue bearer r))
         (with_bearer way r ue c bearer a then end_where_over way ue)
     item_here c x t teid item is there (spent k) same = tt
     item_here c x t teid item is there (gives os y) same =
-        let first = bearer_here way ue bearer r c x (takes t.kind teid item) (gives os y) is there order (ap (kept_in (part_with ue c bearer x)) same) in
-        let now : UpContext = record c { bearers = put bearer_cmp c.bearers bearer y } in
+        let first = bearer_here way ue bearer r c x (takes t.kind teid item) (gives os y) is there order (ap (kept_in (model_with ue c bearer x)) same) in
+        let now : CuUpContext = record c { bearers = put bearer_cmp c.bearers bearer y } in
         does_at way ue bearer (carried_out way ue bearer (takes t.kind teid item) (at_bearer way ue bearer r)) (carried way ue bearer (closes_if way now)) os after
         (end_where_over way ue after) first (over_here way ue bearer after now (find-put-same ue_total r.contexts ue now) first.1)
       where
         after : Record
         after = record (with_context ue r (record c { bearers = put bearer_cmp c.bearers bearer y })) { tunnels = without_each r.tunnels (flat_map (closed_in {M = M} {P = P}) os) }
 
-    item_beside : (c : UpContext) (b : BearerId) → eq_by_cmp bearer_cmp bearer b ≡ false → context_of r ue ≡ Some c → (a : Answer M P UpBearer)
+    item_beside : (c : CuUpContext) (b : BearerId) → eq_by_cmp bearer_cmp bearer b ≡ false → context_of r ue ≡ Some c → (a : Answer M P CuUpBearer)
         → Off way ue bearer a
         → Does way ue bearer (carried way ue bearer (closes_after way c b a) (at_bearer way ue bearer r)) (with_bearer way r ue c b a then end_where_over way ue)
     item_beside c b other is (spent k) off = tt
     item_beside c b other is (gives os y) off =
         let first = bearer_beside way ue bearer r c b (gives os y) other is order off in
-        let now : UpContext = record c { bearers = put bearer_cmp c.bearers b y } in
+        let now : CuUpContext = record c { bearers = put bearer_cmp c.bearers b y } in
         off_first way ue bearer (carried way ue bearer (closes_if way now) (at_bearer way ue bearer r)) os (end_where_over way ue after) off
-        (subst (λ (p : Option UpPart). Does way ue bearer (carried way ue bearer (closes_if way now) p) (end_where_over way ue after)) first.0.1
+        (subst (λ (p : Option CuUpModel). Does way ue bearer (carried way ue bearer (closes_if way now) p) (end_where_over way ue after)) first.0.1
         (over_here way ue bearer after now (find-put-same ue_total r.contexts ue now) first.1))
       where
         after : Record
         after = record (with_context ue r (record c { bearers = put bearer_cmp c.bearers b y })) { tunnels = without_each r.tunnels (flat_map (closed_in {M = M} {P = P}) os) }
 
-    abbrev of : UeId → UpTunnel → UpTunnel
+    abbrev of : UeId → CuUpTunnel → CuUpTunnel
     of u t = record t { ue = u }
 
-    taken_here : (t : UpTunnel) (teid : ℕ) (item : Taken P) (c : UpContext) (x : UpBearer) → context_of r ue ≡ Some c → find bearer_cmp c.bearers t.bearer ≡ Some x
+    taken_here : (t : CuUpTunnel) (teid : ℕ) (item : Taken P) (c : CuUpContext) (x : CuUpBearer) → context_of r ue ≡ Some c → find bearer_cmp c.bearers t.bearer ≡ Some x
         → (reason : Option HeldReason)
         → Does way ue bearer (carried way ue bearer (orders.taken_by way bearer (of ue t) teid item c x reason) (at_bearer way ue bearer r))
         (taken_by way r (of ue t) teid item c x reason)
@@ -432,46 +432,46 @@ module _ {M C P : Type 0} (way : Way M C P) (ue : UeId) (bearer : BearerId) wher
       where
         by : (b : Bool) → eq_by_cmp bearer_cmp bearer t.bearer ≡ b
             → Does way ue bearer (carried way ue bearer (only_if way b (takes t.kind teid item ∷ [])
-            ++ closes_after way c t.bearer (took way (up_at ue c t.bearer) t.kind teid item x)) (at_bearer way ue bearer r))
-            (with_bearer way r ue c t.bearer (took way (up_at ue c t.bearer) t.kind teid item x) then end_where_over way ue)
+            ++ closes_after way c t.bearer (took way (cu_up_scope ue c t.bearer) t.kind teid item x)) (at_bearer way ue bearer r))
+            (with_bearer way r ue c t.bearer (took way (cu_up_scope ue c t.bearer) t.kind teid item x) then end_where_over way ue)
         by true tie =
             let same : bearer ≡ t.bearer = bearer_exact bearer t.bearer ((Equal-is (bearer_cmp bearer t.bearer)).0 tie) in
             subst (λ (b : BearerId). Does way ue bearer (carried way ue bearer (takes t.kind teid item
-            ∷ closes_after way c b (took way (up_at ue c b) t.kind teid item x)) (at_bearer way ue bearer r))
-            (with_bearer way r ue c b (took way (up_at ue c b) t.kind teid item x) then end_where_over way ue)) same
+            ∷ closes_after way c b (took way (cu_up_scope ue c b) t.kind teid item x)) (at_bearer way ue bearer r))
+            (with_bearer way r ue c b (took way (cu_up_scope ue c b) t.kind teid item x) then end_where_over way ue)) same
             (item_here c x t teid item is (subst (λ (b : BearerId). find bearer_cmp c.bearers b ≡ Some x) (sym same) there)
-            (took way (up_at ue c bearer) t.kind teid item x) refl)
+            (took way (cu_up_scope ue c bearer) t.kind teid item x) refl)
         by false tie =
-            item_beside c t.bearer tie is (took way (up_at ue c t.bearer) t.kind teid item x)
-            (off_took way ue bearer (up_at ue c t.bearer) (and_false (eq_by_cmp ue_cmp ue ue) (eq_by_cmp bearer_cmp bearer t.bearer) tie) t.kind teid item x)
+            item_beside c t.bearer tie is (took way (cu_up_scope ue c t.bearer) t.kind teid item x)
+            (off_took way ue bearer (cu_up_scope ue c t.bearer) (and_false (eq_by_cmp ue_cmp ue ue) (eq_by_cmp bearer_cmp bearer t.bearer) tie) t.kind teid item x)
 
-    taken_in_here : (t : UpTunnel) (teid : ℕ) (item : Taken P) (c : UpContext) → context_of r ue ≡ Some c → (o : Option UpBearer) → find bearer_cmp c.bearers t.bearer ≡ o
+    taken_in_here : (t : CuUpTunnel) (teid : ℕ) (item : Taken P) (c : CuUpContext) → context_of r ue ≡ Some c → (o : Option CuUpBearer) → find bearer_cmp c.bearers t.bearer ≡ o
         → Does way ue bearer (carried way ue bearer (orders.taken_in way bearer (of ue t) teid item c o) (at_bearer way ue bearer r)) (taken_in way r (of ue t) teid item c o)
     taken_in_here t teid item c is None there = ((refl, refl), order)
-    taken_in_here t teid item c is (Some x) there = taken_here t teid item c x is there (held_reason (up_at ue c t.bearer) x t.kind item)
+    taken_in_here t teid item c is (Some x) there = taken_here t teid item c x is there (held_reason (cu_up_scope ue c t.bearer) x t.kind item)
 
-    taken_of_here : (t : UpTunnel) (teid : ℕ) (item : Taken P) (o : Option UpContext) → context_of r ue ≡ o
+    taken_of_here : (t : CuUpTunnel) (teid : ℕ) (item : Taken P) (o : Option CuUpContext) → context_of r ue ≡ o
         → Does way ue bearer (carried way ue bearer (orders.taken_of way bearer (of ue t) teid item o) (at_bearer way ue bearer r)) (taken_of way r (of ue t) teid item o)
     taken_of_here t teid item None is = ((refl, refl), order)
     taken_of_here t teid item (Some c) is = taken_in_here t teid item c is (find bearer_cmp c.bearers t.bearer) refl
 
-    module _ (t : UpTunnel) (other : eq_by_cmp ue_cmp ue t.ue ≡ false) (teid : ℕ) (item : Taken P) where
-      taken_off : (c : UpContext) (x : UpBearer) → context_of r t.ue ≡ Some c → (reason : Option HeldReason) → Keeps way ue bearer r (taken_by way r t teid item c x reason)
+    module _ (t : CuUpTunnel) (other : eq_by_cmp ue_cmp ue t.ue ≡ false) (teid : ℕ) (item : Taken P) where
+      taken_off : (c : CuUpContext) (x : CuUpBearer) → context_of r t.ue ≡ Some c → (reason : Option HeldReason) → Keeps way ue bearer r (taken_by way r t teid item c x reason)
       taken_off c x is (Some reason) = ((refl, refl), order)
       taken_off c x is None =
           then_keeps way ue bearer (nothing (at_bearer way ue bearer r)) (with_bearer way r t.ue c t.bearer a) (end_where_over way t.ue)
           (bearer_off way ue bearer t.ue other r c t.bearer a is order
-          (off_took way ue bearer (up_at t.ue c t.bearer) (ap (λ (b : Bool). b && eq_by_cmp bearer_cmp bearer t.bearer) other) t.kind teid item x))
+          (off_took way ue bearer (cu_up_scope t.ue c t.bearer) (ap (λ (b : Bool). b && eq_by_cmp bearer_cmp bearer t.bearer) other) t.kind teid item x))
           (λ s ordered. over_off way ue bearer t.ue other s ordered)
         where
-          a : Answer M P UpBearer
-          a = took way (up_at t.ue c t.bearer) t.kind teid item x
+          a : Answer M P CuUpBearer
+          a = took way (cu_up_scope t.ue c t.bearer) t.kind teid item x
 
-      taken_in_off : (c : UpContext) → context_of r t.ue ≡ Some c → (o : Option UpBearer) → Keeps way ue bearer r (taken_in way r t teid item c o)
+      taken_in_off : (c : CuUpContext) → context_of r t.ue ≡ Some c → (o : Option CuUpBearer) → Keeps way ue bearer r (taken_in way r t teid item c o)
       taken_in_off c is None = ((refl, refl), order)
-      taken_in_off c is (Some x) = taken_off c x is (held_reason (up_at t.ue c t.bearer) x t.kind item)
+      taken_in_off c is (Some x) = taken_off c x is (held_reason (cu_up_scope t.ue c t.bearer) x t.kind item)
 
-      taken_of_off : (o : Option UpContext) → context_of r t.ue ≡ o → Keeps way ue bearer r (taken_of way r t teid item o)
+      taken_of_off : (o : Option CuUpContext) → context_of r t.ue ≡ o → Keeps way ue bearer r (taken_of way r t teid item o)
       taken_of_off None is = ((refl, refl), order)
       taken_of_off (Some c) is = taken_in_off c is (find bearer_cmp c.bearers t.bearer)
 
@@ -480,7 +480,7 @@ module _ {M C P : Type 0} (way : Way M C P) (ue : UeId) (bearer : BearerId) wher
     unfolding take
     take_does teid item = by (find nat_cmp r.tunnels teid)
       where
-        by : (o : Option UpTunnel)
+        by : (o : Option CuUpTunnel)
             → Does way ue bearer (carried way ue bearer (orders.taken_on way r ue bearer teid item o) (at_bearer way ue bearer r)) (taken_on way r teid item o)
         by None = ((refl, refl), order)
         by (Some t) =
@@ -489,35 +489,35 @@ module _ {M C P : Type 0} (way : Way M C P) (ue : UeId) (bearer : BearerId) wher
 
     -- ---- a poll
 
-    poll_here : (c : UpContext) → context_of r ue ≡ Some c → (o : Option UpBearer) → find bearer_cmp c.bearers bearer ≡ o
+    poll_here : (c : CuUpContext) → context_of r ue ≡ Some c → (o : Option CuUpBearer) → find bearer_cmp c.bearers bearer ≡ o
         → Does way ue bearer (carried way ue bearer (orders.polls_if way c o) (at_bearer way ue bearer r)) (poll_bearer way r ue c bearer o)
     poll_here c is None there = ((refl, refl), order)
     poll_here c is (Some x) there =
         unless_two way ue bearer (at_bearer way ue bearer r) (length x.sender.unconfirmed == 0) (c.flags.frozen || not (has_downlink x.downlink)) (polls ∷ [])
-        (with_bearer way r ue c bearer (framed way (up_at ue c bearer) true false None Absent x)) (puts (no Empty) r) (puts (no NoRadio) r)
+        (with_bearer way r ue c bearer (framed way (cu_up_scope ue c bearer) true false None Absent x)) (puts (no Empty) r) (puts (no NoRadio) r)
         ((refl, refl), order) ((refl, refl), order)
-        (one_order way ue bearer polls (at_bearer way ue bearer r) (with_bearer way r ue c bearer (framed way (up_at ue c bearer) true false None Absent x))
-        (bearer_here way ue bearer r c x polls (framed way (up_at ue c bearer) true false None Absent x) is there order refl))
+        (one_order way ue bearer polls (at_bearer way ue bearer r) (with_bearer way r ue c bearer (framed way (cu_up_scope ue c bearer) true false None Absent x))
+        (bearer_here way ue bearer r c x polls (framed way (cu_up_scope ue c bearer) true false None Absent x) is there order refl))
 
     -- of another bearer
-    poll_off : (u : UeId) (b : BearerId) → is_bearer ue bearer u b ≡ false → (o : Option UpContext) → context_of r u ≡ o → Keeps way ue bearer r (poll_on way r u b o)
+    poll_off : (u : UeId) (b : BearerId) → is_bearer ue bearer u b ≡ false → (o : Option CuUpContext) → context_of r u ≡ o → Keeps way ue bearer r (poll_on way r u b o)
     poll_off u b other None is = ((refl, refl), order)
     poll_off u b other (Some c) is = in_context (find bearer_cmp c.bearers b)
       where
-        framed_off : (x : UpBearer) → Off way ue bearer (framed way (up_at u c b) true false None Absent x)
-        framed_off x = off_framed way ue bearer (up_at u c b) other true false None Absent x
+        framed_off : (x : CuUpBearer) → Off way ue bearer (framed way (cu_up_scope u c b) true false None Absent x)
+        framed_off x = off_framed way ue bearer (cu_up_scope u c b) other true false None Absent x
 
-        put_frame : (x : UpBearer) (t : Bool) → eq_by_cmp ue_cmp ue u ≡ t
-            → Keeps way ue bearer r (with_bearer way r u c b (framed way (up_at u c b) true false None Absent x))
+        put_frame : (x : CuUpBearer) (t : Bool) → eq_by_cmp ue_cmp ue u ≡ t
+            → Keeps way ue bearer r (with_bearer way r u c b (framed way (cu_up_scope u c b) true false None Absent x))
         put_frame x true tie =
             let same : ue ≡ u = ue_exact ue u ((Equal-is (ue_cmp ue u)).0 tie) in
             let off : eq_by_cmp bearer_cmp bearer b ≡ false = sym (ap (λ (t : Bool). t && eq_by_cmp bearer_cmp bearer b) tie) ∙ other in
-            subst (λ (v : UeId). Off way ue bearer (framed way (up_at v c b) true false None Absent x) → context_of r v ≡ Some c
-            → Keeps way ue bearer r (with_bearer way r v c b (framed way (up_at v c b) true false None Absent x))) same
-            (λ none at. bearer_beside way ue bearer r c b (framed way (up_at ue c b) true false None Absent x) off at order none) (framed_off x) is
-        put_frame x false tie = bearer_off way ue bearer u tie r c b (framed way (up_at u c b) true false None Absent x) is order (framed_off x)
+            subst (λ (v : UeId). Off way ue bearer (framed way (cu_up_scope v c b) true false None Absent x) → context_of r v ≡ Some c
+            → Keeps way ue bearer r (with_bearer way r v c b (framed way (cu_up_scope v c b) true false None Absent x))) same
+            (λ none at. bearer_beside way ue bearer r c b (framed way (cu_up_scope ue c b) true false None Absent x) off at order none) (framed_off x) is
+        put_frame x false tie = bearer_off way ue bearer u tie r c b (framed way (cu_up_scope u c b) true false None Absent x) is order (framed_off x)
 
-        in_context : (o : Option UpBearer) → Keeps way ue bearer r (poll_bearer way r u c b o)
+        in_context : (o : Option CuUpBearer) → Keeps way ue bearer r (poll_bearer way r u c b o)
         in_context None = ((refl, refl), order)
         in_context (Some x) =
             keeps_if way ue bearer r (length x.sender.unconfirmed == 0) (puts (no Empty) r) _ ((refl, refl), order)
@@ -530,7 +530,7 @@ module _ {M C P : Type 0} (way : Way M C P) (ue : UeId) (bearer : BearerId) wher
     unfolding poll
     poll_does u b = by (eq_by_cmp ue_cmp ue u) refl (eq_by_cmp bearer_cmp bearer b) refl
       where
-        on : (o : Option UpContext) → context_of r ue ≡ o
+        on : (o : Option CuUpContext) → context_of r ue ≡ o
             → Does way ue bearer (carried way ue bearer (orders.polls_on way bearer o) (at_bearer way ue bearer r)) (poll_on way r ue bearer o)
         on None is = ((refl, refl), order)
         on (Some c) is = poll_here c is (find bearer_cmp c.bearers bearer) refl
@@ -560,9 +560,9 @@ module _ {M C P : Type 0} (way : Way M C P) (ue : UeId) (bearer : BearerId) wher
 
   pub all_does : (r : Record) (input : Input C P) → BearersInOrder r
       → Does way ue bearer (carried way ue bearer (orders_of way r ue bearer input) (at_bearer way ue bearer r)) (cu_up_acts way r input)
-  unfolding cu_up_acts control_came
+  unfolding cu_up_acts control_received
   all_does r (control_input from m) order =
-      both_if way ue bearer (at_bearer way ue bearer r) (is_own_cp way r.gnb from)
+      both_if way ue bearer (at_bearer way ue bearer r) (is_own_cu_cp way r.gnb from)
       (control_orders way r ue bearer (channel (ue_in way (kind_of m)) from) m (kind_of m)) []
       (control_by way (channel (ue_in way (kind_of m)) from) m r (kind_of m)) (drops Unexpected r)
       (control_does (channel (ue_in way (kind_of m)) from) m r (kind_of m) order) ((refl, refl), order)
@@ -572,11 +572,11 @@ module _ {M C P : Type 0} (way : Way M C P) (ue : UeId) (bearer : BearerId) wher
   all_does r (order_input (inputs.Poll u b)) order = poll_does r order u b
   all_does r input order = ((refl, refl), order)
 
-  pub follows : (a : Answer M P Record) (k : Answer M P (Option UpPart)) → Does way ue bearer k a → Follows ue bearer k a
+  pub follows : (a : Answer M P Record) (k : Answer M P (Option CuUpModel)) → Does way ue bearer k a → Follows ue bearer k a
   follows (gives os s) k h = h.0
   follows (spent c) k h = tt
 
-  pub stays_in_order : (a : Answer M P Record) (k : Answer M P (Option UpPart)) → Does way ue bearer k a → HoldsAfter BearersInOrder a
+  pub stays_in_order : (a : Answer M P Record) (k : Answer M P (Option CuUpModel)) → Does way ue bearer k a → HoldsAfter BearersInOrder a
   stays_in_order (gives os s) k h = h.1
   stays_in_order (spent c) k h = tt
 

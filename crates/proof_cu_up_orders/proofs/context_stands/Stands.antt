@@ -4,25 +4,25 @@ use Rattle.gnb_types.specs.declared.names.UeId.{UeId}
 use Rattle.gnb_types.specs.declared.names.BearerId.{BearerId}
 use Rattle.gnb_types.specs.declared.outputs.Tag.TheVariants.{Absent}
 use Rattle.unit_defs.specs.Ways.{Output, Way, Answer, gives, spent, with_outputs, ◌then◌, nothing}
-use Rattle.unit_defs.specs.UpRecords.{UpBearer}
-use Rattle.unit_defs.specs.UpBearers.{made, with_uplink, switched, frozen_to, with_status, resumed, framed}
-use Rattle.unit_defs.specs.UpItems.{took}
-use Rattle.proof_cu_up_orders.specs.context_orders.Orders.{UpPart, UpOrder, makes, adds, switches, freezes, knows, resumes, releases, closes, takes, polls, on_switch, on_freeze, on_status, on_resume, kept_in, begun, done, carried}
+use Rattle.unit_defs.specs.CuUpRecords.{CuUpBearer}
+use Rattle.unit_defs.specs.CuUpBearers.{made, with_uplink, switched, frozen_to, with_status, resumed, framed}
+use Rattle.unit_defs.specs.CuUpItems.{took}
+use Rattle.proof_cu_up_orders.specs.context_orders.Orders.{CuUpModel, ContextStep, makes, adds, switches, freezes, knows, resumes, releases, closes, takes, polls, on_switch, on_freeze, on_status, on_resume, kept_in, begun, done, carried}
 use Rattle.proof_cu_up_orders.specs.context_tests.Tests.{IsTested, IsBegun, EndsAfter, AreTested}
 use Rattle.proof_cu_up_orders.specs.context_stands.Stands.{Stands, StandsIn, StandsAfter, IsSame, SameAfter}
 use Rattle.proof_cu_up_orders.proofs.context_stands.Hops.{HopIs, hop_framed, hop_uplink, hop_status, hop_after_freeze, hop_after_switch, hop_after_resume, hop_took}
 
 module _ {M C P : Type 0} (way : Way M C P) (ue : UeId) (bearer : BearerId) where
-  abbrev Part : Type 0
-  Part = Option UpPart
+  abbrev Model : Type 0
+  Model = Option CuUpModel
 
   -- a row that leaves the hop as the flags say
-  kept_stands : (q : UpPart) (a : Answer M P UpBearer) → (q.at.flags.frozen ≡ true → q.at.flags.may_serve ≡ true)
+  kept_stands : (q : CuUpModel) (a : Answer M P CuUpBearer) → (q.at.flags.frozen ≡ true → q.at.flags.may_serve ≡ true)
       → (q.at.flags.frozen ≡ true → q.at.flags.arrived ≡ true) → HopIs way q.at.flags.frozen a → StandsAfter (kept_in q a)
   kept_stands q (gives os d) status arrived hop = record { hop = hop; status = status; arrived = arrived }
   kept_stands q (spent k) status arrived hop = tt
 
-  done_stands : (final : Bool) (o : UpOrder P) (p : UpPart) → IsTested final p o → Stands p → StandsAfter (done way o p)
+  done_stands : (final : Bool) (o : ContextStep P) (p : CuUpModel) → IsTested final p o → Stands p → StandsAfter (done way o p)
   done_stands final (makes instance sn quota target teid) p tested s = s
   done_stands final (adds teid) p tested s =
       kept_stands p (with_uplink way teid p.bearer) s.status s.arrived (hop_uplink way p.at p.at.flags.frozen teid p.bearer s.hop)
@@ -48,7 +48,7 @@ module _ {M C P : Type 0} (way : Way M C P) (ue : UeId) (bearer : BearerId) wher
       kept_stands p (framed way p.at true false None Absent p.bearer) s.status s.arrived
       (hop_framed way p.at p.at.flags.frozen true false None Absent p.bearer s.hop)
 
-  begun_stands : (o : UpOrder P) → StandsIn (begun ue bearer o)
+  begun_stands : (o : ContextStep P) → StandsIn (begun ue bearer o)
   unfolding made
   begun_stands (makes instance sn quota target teid) =
       record { hop = refl; status = λ e. absurd (true≢false (sym e)); arrived = λ e. absurd (true≢false (sym e)) }
@@ -64,11 +64,11 @@ module _ {M C P : Type 0} (way : Way M C P) (ue : UeId) (bearer : BearerId) wher
 
   -- ---- and the end then at most
 
-  with_stands : (os : List (Output M P)) (a : Answer M P Part) → StandsAfter a → StandsAfter (with_outputs os a)
+  with_stands : (os : List (Output M P)) (a : Answer M P Model) → StandsAfter a → StandsAfter (with_outputs os a)
   with_stands os (gives more q) h = h
   with_stands os (spent k) h = tt
 
-  then_ends : (os : List (UpOrder P)) (a : Answer M P Part) → EndsAfter os a → StandsAfter a → StandsAfter (a then carried way ue bearer os)
+  then_ends : (os : List (ContextStep P)) (a : Answer M P Model) → EndsAfter os a → StandsAfter a → StandsAfter (a then carried way ue bearer os)
   then_ends os (spent k) ends h = tt
   then_ends [] (gives outputs q) ends h = h
   then_ends (closes ∷ []) (gives outputs None) ends h = tt
@@ -84,7 +84,7 @@ module _ {M C P : Type 0} (way : Way M C P) (ue : UeId) (bearer : BearerId) wher
   then_ends (takes kind teid item ∷ os) (gives outputs q) ends h = absurd ends
   then_ends (polls ∷ os) (gives outputs q) ends h = absurd ends
 
-  pub stand : (final : Bool) (next : ℕ) (os : List (UpOrder P)) (p : Part) → AreTested way ue bearer final next os p → StandsIn p
+  pub stand : (final : Bool) (next : ℕ) (os : List (ContextStep P)) (p : Model) → AreTested way ue bearer final next os p → StandsIn p
       → StandsAfter (carried way ue bearer os p)
   stand final next [] p tested h = h
   stand final next (o ∷ os) None tested h = then_ends os (nothing (begun ue bearer o)) tested.1 (begun_stands o)
@@ -92,11 +92,11 @@ module _ {M C P : Type 0} (way : Way M C P) (ue : UeId) (bearer : BearerId) wher
 
   -- ---- one context
 
-  kept_same : (next : ℕ) (p q : UpPart) (a : Answer M P UpBearer) → q.instance ≡ p.instance → SameAfter next (Some p) (kept_in q a)
+  kept_same : (next : ℕ) (p q : CuUpModel) (a : Answer M P CuUpBearer) → q.instance ≡ p.instance → SameAfter next (Some p) (kept_in q a)
   kept_same next p q (gives os d) same = same
   kept_same next p q (spent k) same = tt
 
-  done_same : (next : ℕ) (o : UpOrder P) (p : UpPart) → SameAfter next (Some p) (done way o p)
+  done_same : (next : ℕ) (o : ContextStep P) (p : CuUpModel) → SameAfter next (Some p) (done way o p)
   done_same next (makes instance sn quota target teid) p = refl
   done_same next (adds teid) p = kept_same next p p (with_uplink way teid p.bearer) refl
   done_same next (switches du teid) p = kept_same next p (on_switch p) (switched way (on_switch p).at du teid p.bearer) refl
@@ -108,7 +108,7 @@ module _ {M C P : Type 0} (way : Way M C P) (ue : UeId) (bearer : BearerId) wher
   done_same next (takes kind teid item) p = kept_same next p p (took way p.at kind teid item p.bearer) refl
   done_same next polls p = kept_same next p p (framed way p.at true false None Absent p.bearer) refl
 
-  begun_same : (next : ℕ) (o : UpOrder P) → IsBegun next o → IsSame next None (begun ue bearer o)
+  begun_same : (next : ℕ) (o : ContextStep P) → IsBegun next o → IsSame next None (begun ue bearer o)
   begun_same next (makes instance sn quota target teid) is = is
   begun_same next (adds teid) is = tt
   begun_same next (switches du teid) is = tt
@@ -120,11 +120,11 @@ module _ {M C P : Type 0} (way : Way M C P) (ue : UeId) (bearer : BearerId) wher
   begun_same next (takes kind teid item) is = tt
   begun_same next polls is = tt
 
-  none_then : (next : ℕ) (p : Part) → IsSame next p None
+  none_then : (next : ℕ) (p : Model) → IsSame next p None
   none_then next None = tt
   none_then next (Some p) = tt
 
-  same_then : (next : ℕ) (p : Part) (os : List (UpOrder P)) (a : Answer M P Part) → EndsAfter os a → SameAfter next p a
+  same_then : (next : ℕ) (p : Model) (os : List (ContextStep P)) (a : Answer M P Model) → EndsAfter os a → SameAfter next p a
       → SameAfter next p (a then carried way ue bearer os)
   same_then next p os (spent k) ends h = tt
   same_then next p [] (gives outputs q) ends h = h
@@ -141,7 +141,7 @@ module _ {M C P : Type 0} (way : Way M C P) (ue : UeId) (bearer : BearerId) wher
   same_then next p (takes kind teid item ∷ os) (gives outputs q) ends h = absurd ends
   same_then next p (polls ∷ os) (gives outputs q) ends h = absurd ends
 
-  pub same : (final : Bool) (next : ℕ) (os : List (UpOrder P)) (p : Part) → AreTested way ue bearer final next os p
+  pub same : (final : Bool) (next : ℕ) (os : List (ContextStep P)) (p : Model) → AreTested way ue bearer final next os p
       → SameAfter next p (carried way ue bearer os p)
   same final next [] None tested = tt
   same final next [] (Some p) tested = refl

@@ -26,17 +26,17 @@ use Rattle.message_types.specs.declared.e1.E1Message.TheVariants as e1s
 use Rattle.unit_defs.specs.Ways.{Message, e1, Taken, Input, control_input, packet_input, order_input, Output, Way, Answer, gives, spent}
 use Rattle.unit_defs.specs.Messages.{mode_uplinks, mode_switch, mode_freeze, mode_status, mode_resume, channel, are_bearers, bearers_of, statuses_of, teid_of}
 use Rattle.unit_defs.specs.Transactions.{Kind, request, reply, transfer, kind_of}
-use Rattle.unit_defs.specs.UpRecords.{TunnelKind, UpBearer, UpContext, CuUp, UpTunnel, up_at}
-use Rattle.unit_defs.specs.UpBearers.{has_downlink, is_over, released}
-use Rattle.unit_defs.specs.UpItems.{held_reason, took}
-use Rattle.unit_defs.specs.CuUp.{context_of, bearers_from, fits, teids_from, peer_node, names, as_released, is_own_cp, ue_in}
-use Rattle.proof_cu_up_orders.specs.context_orders.Orders.{UpPart, part_with, part_of_bearer, part_in, part_of, UpOrder, adds, switches, freezes, knows, resumes, releases, closes, takes, polls, kept_in}
+use Rattle.unit_defs.specs.CuUpRecords.{TunnelKind, CuUpBearer, CuUpContext, CuUp, CuUpTunnel, cu_up_scope}
+use Rattle.unit_defs.specs.CuUpBearers.{has_downlink, is_over, released}
+use Rattle.unit_defs.specs.CuUpItems.{held_reason, took}
+use Rattle.unit_defs.specs.CuUp.{context_of, bearers_from, fits, teids_from, peer_node, names, as_released, is_own_cu_cp, ue_in}
+use Rattle.proof_cu_up_orders.specs.context_orders.Orders.{CuUpModel, model_with, model_of_bearer, model_in, model_of, ContextStep, adds, switches, freezes, knows, resumes, releases, closes, takes, polls, kept_in}
 use Rattle.proof_cu_up_orders.specs.context_orders.Inputs.{only_if, ends, closes_if, closes_after, taken_by, taken_in, taken_of, taken_on, polls_if, polls_on, new_teid, makes_with, setup_orders, switches_if, freezes_if, status_in, knows_if, modify_orders, release_orders, asked_orders, new_orders, control_orders, orders_of}
 use Rattle.proof_cu_up_orders.specs.context_orders.Shown.{is_bearer}
 use Rattle.proof_cu_up_orders.specs.context_tests.Tests.{is_final, IsOver, IsTested, IsBegun, EndsAfter, AreTested}
 
 abbrev Bearers : Type 0
-Bearers = List (BearerId × UpBearer)
+Bearers = List (BearerId × CuUpBearer)
 
 -- ---- tests, one after another
 
@@ -74,7 +74,7 @@ may_resume false g h = absurd cc
 
 -- ---- what is so of all bearers is so of the one that is found
 
-all_found : (test : UpBearer → Bool) (es : Bearers) (bearer : BearerId) (b : UpBearer) → list_all (λ e. test e.1) es ≡ true
+all_found : (test : CuUpBearer → Bool) (es : Bearers) (bearer : BearerId) (b : CuUpBearer) → list_all (λ e. test e.1) es ≡ true
     → find bearer_cmp es bearer ≡ Some b → test b ≡ true
 unfolding find
 all_found test [] bearer b all there = absurd cc
@@ -84,21 +84,21 @@ all_found test (e ∷ es) bearer b all there =
   where
     by : test e.1 ≡ true → (lookup (is_at (bearer_cmp bearer)) es ≡ Some b → test b ≡ true) → (t : Bool)
         → cond t (Some e.1) (lookup (is_at (bearer_cmp bearer)) es) ≡ Some b → test b ≡ true
-    by first later true h = let same : e.1 ≡ b = cc in subst (λ (x : UpBearer). test x ≡ true) same first
+    by first later true h = let same : e.1 ≡ b = cc in subst (λ (x : CuUpBearer). test x ≡ true) same first
     by first later false h = later h
 
-all_released : (test : UpBearer → Bool) (es : Bearers)
-    → list_all (λ (e : BearerId × UpBearer). test e.1) (map (λ (e : BearerId × UpBearer). (e.0, released e.1)) es)
-    ≡ list_all (λ (e : BearerId × UpBearer). test (released e.1)) es
+all_released : (test : CuUpBearer → Bool) (es : Bearers)
+    → list_all (λ (e : BearerId × CuUpBearer). test e.1) (map (λ (e : BearerId × CuUpBearer). (e.0, released e.1)) es)
+    ≡ list_all (λ (e : BearerId × CuUpBearer). test (released e.1)) es
 all_released test [] = refl
 all_released test (e ∷ es) = ap (λ (t : Bool). test (released e.1) && t) (all_released test es)
 
 module _ {M C P : Type 0} (way : Way M C P) (r : CuUp M C) (ue : UeId) (bearer : BearerId) where
   abbrev Orders : Type 0
-  Orders = List (UpOrder P)
+  Orders = List (ContextStep P)
 
-  abbrev now : Option UpPart
-  now = part_of r ue bearer
+  abbrev now : Option CuUpModel
+  now = model_of r ue bearer
 
   abbrev Is : Bool → Orders → Type 0
   Is final os = AreTested way ue bearer final r.next_teid os now
@@ -117,99 +117,99 @@ module _ {M C P : Type 0} (way : Way M C P) (r : CuUp M C) (ue : UeId) (bearer :
 
   -- ---- a context ends
 
-  over_one : (c : UpContext) → ends way c ≡ true → (b : UpBearer) → find bearer_cmp c.bearers bearer ≡ Some b → IsOver (part_with ue c bearer b)
+  over_one : (c : CuUpContext) → ends way c ≡ true → (b : CuUpBearer) → find bearer_cmp c.bearers bearer ≡ Some b → IsOver (model_with ue c bearer b)
   over_one c e b there =
       let both = both_true c.flags.released (list_all (λ e. is_over c.flags e.1) c.bearers) e in
       (both.0, all_found (λ x. is_over c.flags x) c.bearers bearer b both.1 there)
 
-  ends_after : (c : UpContext) (o : Option UpBearer) → find bearer_cmp c.bearers bearer ≡ o → (outputs : List (Output M P))
-      → EndsAfter (closes_if way c) (gives outputs (part_of_bearer ue c bearer o))
+  ends_after : (c : CuUpContext) (o : Option CuUpBearer) → find bearer_cmp c.bearers bearer ≡ o → (outputs : List (Output M P))
+      → EndsAfter (closes_if way c) (gives outputs (model_of_bearer ue c bearer o))
   ends_after c o there outputs = by (ends way c) refl o there
     where
-      by : (t : Bool) → ends way c ≡ t → (o : Option UpBearer) → find bearer_cmp c.bearers bearer ≡ o
-          → EndsAfter (only_if way t (closes ∷ [])) (gives outputs (part_of_bearer ue c bearer o))
+      by : (t : Bool) → ends way c ≡ t → (o : Option CuUpBearer) → find bearer_cmp c.bearers bearer ≡ o
+          → EndsAfter (only_if way t (closes ∷ [])) (gives outputs (model_of_bearer ue c bearer o))
       by true e None there = tt
       by true e (Some b) there = over_one c e b there
       by false e o there = tt
 
-  ends_first : (c : UpContext) (o : Option UpBearer) → find bearer_cmp c.bearers bearer ≡ o
-      → AreTested way ue bearer false r.next_teid (closes_if way c) (part_of_bearer ue c bearer o)
+  ends_first : (c : CuUpContext) (o : Option CuUpBearer) → find bearer_cmp c.bearers bearer ≡ o
+      → AreTested way ue bearer false r.next_teid (closes_if way c) (model_of_bearer ue c bearer o)
   ends_first c o there = by (ends way c) refl o there
     where
-      by : (t : Bool) → ends way c ≡ t → (o : Option UpBearer) → find bearer_cmp c.bearers bearer ≡ o
-          → AreTested way ue bearer false r.next_teid (only_if way t (closes ∷ [])) (part_of_bearer ue c bearer o)
+      by : (t : Bool) → ends way c ≡ t → (o : Option CuUpBearer) → find bearer_cmp c.bearers bearer ≡ o
+          → AreTested way ue bearer false r.next_teid (only_if way t (closes ∷ [])) (model_of_bearer ue c bearer o)
       by true e None there = (tt, tt)
       by true e (Some b) there = (λ f. over_one c e b there, tt)
       by false e o there = tt
 
   -- ---- items of this terminal's tunnels
 
-  module _ (c : UpContext) (is : context_of r ue ≡ Some c) where
-    now_is : now ≡ part_of_bearer ue c bearer (find bearer_cmp c.bearers bearer)
-    now_is = ap (part_in ue bearer) is
+  module _ (c : CuUpContext) (is : context_of r ue ≡ Some c) where
+    now_is : now ≡ model_of_bearer ue c bearer (find bearer_cmp c.bearers bearer)
+    now_is = ap (model_in ue bearer) is
 
-    item_ends : (b : UpBearer) (a : Answer M P UpBearer)
-        → EndsAfter (closes_after way c bearer a) (kept_in (part_with ue c bearer b) a)
+    item_ends : (b : CuUpBearer) (a : Answer M P CuUpBearer)
+        → EndsAfter (closes_after way c bearer a) (kept_in (model_with ue c bearer b) a)
     item_ends b (gives os y) =
         ends_after (record c { bearers = put bearer_cmp c.bearers bearer y }) (Some y) (find-put-same bearer_total c.bearers bearer y) os
     item_ends b (spent k) = tt
 
-    item_here : (kind : TunnelKind) (teid : ℕ) (item : Taken P) (b : UpBearer) → find bearer_cmp c.bearers bearer ≡ Some b
-        → held_reason (up_at ue c bearer) b kind item ≡ None
-        → Is false (takes kind teid item ∷ closes_after way c bearer (took way (up_at ue c bearer) kind teid item b))
+    item_here : (kind : TunnelKind) (teid : ℕ) (item : Taken P) (b : CuUpBearer) → find bearer_cmp c.bearers bearer ≡ Some b
+        → held_reason (cu_up_scope ue c bearer) b kind item ≡ None
+        → Is false (takes kind teid item ∷ closes_after way c bearer (took way (cu_up_scope ue c bearer) kind teid item b))
     item_here kind teid item b there passes =
-        subst (λ (p : Option UpPart). AreTested way ue bearer false r.next_teid
-        (takes kind teid item ∷ closes_after way c bearer (took way (up_at ue c bearer) kind teid item b)) p)
-        (sym (now_is ∙ ap (part_of_bearer ue c bearer) there))
-        (passes, item_ends b (took way (up_at ue c bearer) kind teid item b))
+        subst (λ (p : Option CuUpModel). AreTested way ue bearer false r.next_teid
+        (takes kind teid item ∷ closes_after way c bearer (took way (cu_up_scope ue c bearer) kind teid item b)) p)
+        (sym (now_is ∙ ap (model_of_bearer ue c bearer) there))
+        (passes, item_ends b (took way (cu_up_scope ue c bearer) kind teid item b))
 
-    item_beside : (other : BearerId) → eq_by_cmp bearer_cmp bearer other ≡ false → (a : Answer M P UpBearer) → Is false (closes_after way c other a)
+    item_beside : (other : BearerId) → eq_by_cmp bearer_cmp bearer other ≡ false → (a : Answer M P CuUpBearer) → Is false (closes_after way c other a)
     item_beside other off (spent k) = tt
     item_beside other off (gives os y) =
-        subst (λ (p : Option UpPart). AreTested way ue bearer false r.next_teid (closes_if way on) p) (sym (now_is ∙ alike (find bearer_cmp c.bearers bearer)))
+        subst (λ (p : Option CuUpModel). AreTested way ue bearer false r.next_teid (closes_if way on) p) (sym (now_is ∙ alike (find bearer_cmp c.bearers bearer)))
         (ends_first on (find bearer_cmp c.bearers bearer) (find-put-other bearer_total c.bearers other y bearer off))
       where
-        on : UpContext
+        on : CuUpContext
         on = record c { bearers = put bearer_cmp c.bearers other y }
 
-        alike : (o : Option UpBearer) → part_of_bearer ue c bearer o ≡ part_of_bearer ue on bearer o
+        alike : (o : Option CuUpBearer) → model_of_bearer ue c bearer o ≡ model_of_bearer ue on bearer o
         alike None = refl
         alike (Some b) = refl
 
-    taken_tested : (t : UpTunnel) (teid : ℕ) (item : Taken P) (b : UpBearer) → find bearer_cmp c.bearers t.bearer ≡ Some b → (o : Option HeldReason)
-        → held_reason (up_at ue c t.bearer) b t.kind item ≡ o → Is false (taken_by way bearer (record t { ue = ue }) teid item c b o)
+    taken_tested : (t : CuUpTunnel) (teid : ℕ) (item : Taken P) (b : CuUpBearer) → find bearer_cmp c.bearers t.bearer ≡ Some b → (o : Option HeldReason)
+        → held_reason (cu_up_scope ue c t.bearer) b t.kind item ≡ o → Is false (taken_by way bearer (record t { ue = ue }) teid item c b o)
     taken_tested t teid item b there (Some reason) held = tt
     taken_tested t teid item b there None passes = by (eq_by_cmp bearer_cmp bearer t.bearer) refl
       where
         by : (k : Bool) → eq_by_cmp bearer_cmp bearer t.bearer ≡ k
-            → Is false (only_if way k (takes t.kind teid item ∷ []) ++ closes_after way c t.bearer (took way (up_at ue c t.bearer) t.kind teid item b))
+            → Is false (only_if way k (takes t.kind teid item ∷ []) ++ closes_after way c t.bearer (took way (cu_up_scope ue c t.bearer) t.kind teid item b))
         by true tie =
             let same : bearer ≡ t.bearer = bearer_exact bearer t.bearer ((Equal-is (bearer_cmp bearer t.bearer)).0 tie) in
-            subst (λ (v : BearerId). Is false (takes t.kind teid item ∷ closes_after way c v (took way (up_at ue c v) t.kind teid item b))) same
+            subst (λ (v : BearerId). Is false (takes t.kind teid item ∷ closes_after way c v (took way (cu_up_scope ue c v) t.kind teid item b))) same
             (item_here t.kind teid item b (subst (λ (v : BearerId). find bearer_cmp c.bearers v ≡ Some b) (sym same) there)
-            (subst (λ (v : BearerId). held_reason (up_at ue c v) b t.kind item ≡ None) (sym same) passes))
-        by false off = item_beside t.bearer off (took way (up_at ue c t.bearer) t.kind teid item b)
+            (subst (λ (v : BearerId). held_reason (cu_up_scope ue c v) b t.kind item ≡ None) (sym same) passes))
+        by false off = item_beside t.bearer off (took way (cu_up_scope ue c t.bearer) t.kind teid item b)
 
-    in_tested : (t : UpTunnel) (teid : ℕ) (item : Taken P) (o : Option UpBearer) → find bearer_cmp c.bearers t.bearer ≡ o
+    in_tested : (t : CuUpTunnel) (teid : ℕ) (item : Taken P) (o : Option CuUpBearer) → find bearer_cmp c.bearers t.bearer ≡ o
         → Is false (taken_in way bearer (record t { ue = ue }) teid item c o)
     in_tested t teid item None there = tt
-    in_tested t teid item (Some b) there = taken_tested t teid item b there (held_reason (up_at ue c t.bearer) b t.kind item) refl
+    in_tested t teid item (Some b) there = taken_tested t teid item b there (held_reason (cu_up_scope ue c t.bearer) b t.kind item) refl
 
     -- ---- one order, where the bearer's state allows it
 
-    one_tested : (final : Bool) (o : UpOrder P) → IsBegun r.next_teid o → ((b : UpBearer) → IsTested final (part_with ue c bearer b) o) → Is final (o ∷ [])
+    one_tested : (final : Bool) (o : ContextStep P) → IsBegun r.next_teid o → ((b : CuUpBearer) → IsTested final (model_with ue c bearer b) o) → Is final (o ∷ [])
     one_tested final o begins may =
-        subst (λ (p : Option UpPart). AreTested way ue bearer final r.next_teid (o ∷ []) p) (sym now_is) (by (find bearer_cmp c.bearers bearer))
+        subst (λ (p : Option CuUpModel). AreTested way ue bearer final r.next_teid (o ∷ []) p) (sym now_is) (by (find bearer_cmp c.bearers bearer))
       where
-        by : (q : Option UpBearer) → AreTested way ue bearer final r.next_teid (o ∷ []) (part_of_bearer ue c bearer q)
+        by : (q : Option CuUpBearer) → AreTested way ue bearer final r.next_teid (o ∷ []) (model_of_bearer ue c bearer q)
         by None = (begins, tt)
         by (Some b) = (may b, tt)
 
-    poll_tested : (o : Option UpBearer) → find bearer_cmp c.bearers bearer ≡ o → Is false (polls_if way c o)
+    poll_tested : (o : Option CuUpBearer) → find bearer_cmp c.bearers bearer ≡ o → Is false (polls_if way c o)
     poll_tested None there = tt
     poll_tested (Some b) there =
         only_tested false (not (length b.sender.unconfirmed == 0 || (c.flags.frozen || not (has_downlink b.downlink)))) (polls ∷ [])
-        (λ e. subst (λ (p : Option UpPart). AreTested way ue bearer false r.next_teid (polls ∷ []) p) (sym (now_is ∙ ap (part_of_bearer ue c bearer) there))
+        (λ e. subst (λ (p : Option CuUpModel). AreTested way ue bearer false r.next_teid (polls ∷ []) p) (sym (now_is ∙ ap (model_of_bearer ue c bearer) there))
         (may_poll (length b.sender.unconfirmed == 0) c.flags.frozen (has_downlink b.downlink) e, tt))
 
     switch_tested : (du : Option ℕ) (list : Option (List Tunnel)) → Is false (switches_if way r.gnb bearer du list c)
@@ -221,7 +221,7 @@ module _ {M C P : Type 0} (way : Way M C P) (r : CuUp M C) (ue : UeId) (bearer :
 
     freeze_tested : (peer : Option Peer) (down up : Option (List Tunnel)) → Is false (freezes_if way bearer peer down up c)
     freeze_tested (Some peer) (Some down) (Some up) =
-        let order : UpOrder P = freezes (peer_node way peer) (teid_of down bearer) (teid_of up bearer) in
+        let order : ContextStep P = freezes (peer_node way peer) (teid_of down bearer) (teid_of up bearer) in
         only_tested false (not (c.flags.frozen || c.flags.released || not c.flags.arrived || not (are_bearers (names way c) (bearers_of down))
         || not (are_bearers (names way c) (bearers_of up))) && c.flags.may_serve) (order ∷ [])
         (λ e. one_tested false order tt (λ b. may_freeze c.flags.frozen c.flags.released c.flags.arrived (are_bearers (names way c) (bearers_of down))
@@ -248,17 +248,17 @@ module _ {M C P : Type 0} (way : Way M C P) (r : CuUp M C) (ue : UeId) (bearer :
         (either false (mode == mode_resume) (only_if way (c.flags.frozen && not c.flags.released) (resumes ∷ [])) []
         (only_tested false (c.flags.frozen && not c.flags.released) (resumes ∷ []) (λ e. one_tested false resumes tt (λ b. may_resume c.flags.frozen c.flags.released e))) tt))))
       where
-        one : UpOrder P
+        one : ContextStep P
         one = adds (teid_of (teids_from way r.next_teid c.bearers) bearer)
 
     -- ---- release: what is over then
 
-    release_ends : (o : Option UpBearer) → find bearer_cmp c.bearers bearer ≡ o
-        → AreTested way ue bearer false r.next_teid (releases ∷ closes_if way (as_released way c)) (part_of_bearer ue c bearer o)
+    release_ends : (o : Option CuUpBearer) → find bearer_cmp c.bearers bearer ≡ o
+        → AreTested way ue bearer false r.next_teid (releases ∷ closes_if way (as_released way c)) (model_of_bearer ue c bearer o)
     release_ends o there = by (ends way (as_released way c)) refl o there
       where
-        by : (t : Bool) → ends way (as_released way c) ≡ t → (o : Option UpBearer) → find bearer_cmp c.bearers bearer ≡ o
-            → AreTested way ue bearer false r.next_teid (releases ∷ only_if way t (closes ∷ [])) (part_of_bearer ue c bearer o)
+        by : (t : Bool) → ends way (as_released way c) ≡ t → (o : Option CuUpBearer) → find bearer_cmp c.bearers bearer ≡ o
+            → AreTested way ue bearer false r.next_teid (releases ∷ only_if way t (closes ∷ [])) (model_of_bearer ue c bearer o)
         by true e None there = (tt, tt)
         by true e (Some b) there = (
           refl,
@@ -271,16 +271,16 @@ module _ {M C P : Type 0} (way : Way M C P) (r : CuUp M C) (ue : UeId) (bearer :
         by false e None there = (tt, tt)
         by false e (Some b) there = (refl, tt)
 
-  released_tested : (final : Bool) (o : Option UpContext) → context_of r ue ≡ o → Is final (release_orders way final o)
+  released_tested : (final : Bool) (o : Option CuUpContext) → context_of r ue ≡ o → Is final (release_orders way final o)
   released_tested final None is = tt
   released_tested true (Some c) is = one_tested c is true closes tt (λ b f. absurd cc)
   released_tested false (Some c) is =
-      subst (λ (p : Option UpPart). AreTested way ue bearer false r.next_teid (releases ∷ closes_if way (as_released way c)) p) (sym (now_is c is))
+      subst (λ (p : Option CuUpModel). AreTested way ue bearer false r.next_teid (releases ∷ closes_if way (as_released way c)) p) (sym (now_is c is))
       (release_ends c is (find bearer_cmp c.bearers bearer) refl)
 
   -- ---- setup
 
-  setup_tested : (count : ℕ) (sn : SnBits) (quota : ℕ) (target : Bool) (o : Option UpContext) → context_of r ue ≡ o
+  setup_tested : (count : ℕ) (sn : SnBits) (quota : ℕ) (target : Bool) (o : Option CuUpContext) → context_of r ue ≡ o
       → Is false (setup_orders way r bearer count sn quota target o)
   setup_tested count sn quota target (Some c) is = tt
   setup_tested count sn quota target None is =
@@ -289,11 +289,11 @@ module _ {M C P : Type 0} (way : Way M C P) (r : CuUp M C) (ue : UeId) (bearer :
       by : (o : Option ℕ) → Is false (makes_with way r.next_teid sn quota target o)
       by None = tt
       by (Some teid) =
-          subst (λ (p : Option UpPart). AreTested way ue bearer false r.next_teid (makes_with way r.next_teid sn quota target (Some teid)) p)
-          (sym (ap (part_in ue bearer) is)) (refl, tt)
+          subst (λ (p : Option CuUpModel). AreTested way ue bearer false r.next_teid (makes_with way r.next_teid sn quota target (Some teid)) p)
+          (sym (ap (model_in ue bearer) is)) (refl, tt)
 
   modification_tested : (u : UeId) (instance : ℕ) (downlinks : Option (List Tunnel)) (mode : ℕ) (peer : Option Peer) (down up : Option (List Tunnel))
-      (ss : Option (List SnStatus)) (du : Option ℕ) (o : Option UpContext) → context_of r ue ≡ o
+      (ss : Option (List SnStatus)) (du : Option ℕ) (o : Option CuUpContext) → context_of r ue ≡ o
       → Is false (modify_orders way r bearer (e1s.BearerContextModificationRequest u instance downlinks mode peer down up ss du) o)
   modification_tested u instance downlinks mode peer down up ss du None is = tt
   modification_tested u instance downlinks mode peer down up ss du (Some c) is = modify_tested c is u instance downlinks mode peer down up ss du
@@ -322,12 +322,12 @@ module _ {M C P : Type 0} (way : Way M C P) (r : CuUp M C) (ue : UeId) (bearer :
   control_tested from m ch (reply u instance) = tt
   control_tested from m ch (transfer u) = tt
 
-  items_tested : (teid : ℕ) (item : Taken P) (o : Option UpTunnel) → Is false (taken_on way r ue bearer teid item o)
+  items_tested : (teid : ℕ) (item : Taken P) (o : Option CuUpTunnel) → Is false (taken_on way r ue bearer teid item o)
   items_tested teid item None = tt
   items_tested teid item (Some t) =
       by_terminal false t.ue (λ v. taken_of way bearer (record t { ue = v }) teid item (context_of r v)) (by (context_of r ue) refl)
     where
-      by : (o : Option UpContext) → context_of r ue ≡ o → Is false (taken_of way bearer (record t { ue = ue }) teid item o)
+      by : (o : Option CuUpContext) → context_of r ue ≡ o → Is false (taken_of way bearer (record t { ue = ue }) teid item o)
       by None is = tt
       by (Some c) is = in_tested c is t teid item (find bearer_cmp c.bearers t.bearer) refl
 
@@ -337,13 +337,13 @@ module _ {M C P : Type 0} (way : Way M C P) (r : CuUp M C) (ue : UeId) (bearer :
       (ue_exact ue u ((Equal-is (ue_cmp ue u)).0 (both_true (eq_by_cmp ue_cmp ue u) (eq_by_cmp bearer_cmp bearer b) e).0))
       (by (context_of r ue) refl))
     where
-      by : (o : Option UpContext) → context_of r ue ≡ o → Is false (polls_on way bearer o)
+      by : (o : Option CuUpContext) → context_of r ue ≡ o → Is false (polls_on way bearer o)
       by None is = tt
       by (Some c) is = poll_tested c is (find bearer_cmp c.bearers bearer) refl
 
   pub orders_tested : (input : Input C P) → Is (is_final input) (orders_of way r ue bearer input)
   orders_tested (control_input from m) =
-      only_tested (is_final {P = P} (control_input from m)) (is_own_cp way r.gnb from)
+      only_tested (is_final {P = P} (control_input from m)) (is_own_cu_cp way r.gnb from)
       (control_orders way r ue bearer (channel (ue_in way (kind_of m)) from) m (kind_of m))
       (λ e. control_tested from m (channel (ue_in way (kind_of m)) from) (kind_of m))
   orders_tested (packet_input teid item) = items_tested teid item (find nat_cmp r.tunnels teid)

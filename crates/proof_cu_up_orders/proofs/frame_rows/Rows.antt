@@ -10,12 +10,12 @@ use Rattle.gnb_types.specs.declared.reasons.DropReason.TheVariants.{Duplicate, U
 use Rattle.pdcp_defs.specs.Receivers.{deliver, received_bits}
 use Rattle.pdcp_defs.specs.Senders.{may_restore, confirmed_by}
 use Rattle.unit_defs.specs.Ways.{packet_pdu, packet_content, report_content, fresh, numbered, Output, Taken, fresh_item, numbered_item, uplink_item, status_item, end_item, Way, Answer, gives, spent, with_outputs, ◌then◌, nothing, drops}
-use Rattle.unit_defs.specs.UpRecords.{UpAt, UpBearer, TunnelKind, n3, f1u_uplink, forwarding_down, forwarding_up}
-use Rattle.unit_defs.specs.UpBearers.{has_downlink, bits_in, owed, thawed, forwarded_down, framed, sent, sent_again as row_sends, number_waiting, deliver_stored, begin_downlink, switched, with_status, resumed, delivered}
-use Rattle.unit_defs.specs.UpItems.{took, took_fresh, took_numbered, took_report, took_delivery_status, lost_frames}
+use Rattle.unit_defs.specs.CuUpRecords.{CuUpScope, CuUpBearer, TunnelKind, n3, f1u_uplink, forwarding_down, forwarding_up}
+use Rattle.unit_defs.specs.CuUpBearers.{has_downlink, bits_in, owed, thawed, forwarded_down, framed, sent, sent_again as row_sends, number_waiting, deliver_stored, begin_downlink, switched, with_status, resumed, delivered}
+use Rattle.unit_defs.specs.CuUpItems.{took, took_fresh, took_numbered, took_report, took_delivery_status, lost_frames}
 use Rattle.bearer_defs.specs.chain_defs.Orders.{known, waits, holds}
 use Rattle.proof_cu_up_orders.specs.chain_rows.Shown.{numbered_packets}
-use Rattle.proof_cu_up_orders.specs.context_orders.Orders.{UpPart, UpOrder, on_switch, on_freeze, on_status, on_resume, kept_in, done}
+use Rattle.proof_cu_up_orders.specs.context_orders.Orders.{CuUpModel, ContextStep, on_switch, on_freeze, on_status, on_resume, kept_in, done}
 use Rattle.proof_cu_up_orders.specs.context_orders.Orders as ups
 use Rattle.law_downlink_order.specs.path.Paths.{Sending, frame_on, packets_sent}
 use Rattle.law_downlink_order.specs.path.Steps.{anew, sent_again, sent_anew}
@@ -44,17 +44,17 @@ none_served true r h e = refl
 none_served false true h e = refl
 none_served false false h e = absurd cc
 
-module _ {M C P : Type 0} (way : Way M C P) (at : UpAt) where
+module _ {M C P : Type 0} (way : Way M C P) (at : CuUpScope) where
   abbrev Row : Type 0
-  Row = Answer M P UpBearer
+  Row = Answer M P CuUpBearer
 
   -- where no frame is put
-  still : (b c : UpBearer) (a : Row) → b.downlink ≡ c.downlink → b.restart ≡ c.restart → Still way at b.downlink b.restart a → Puts way at (end_of c.downlink) (none_sent c) a
+  still : (b c : CuUpBearer) (a : Row) → b.downlink ≡ c.downlink → b.restart ≡ c.restart → Still way at b.downlink b.restart a → Puts way at (end_of c.downlink) (none_sent c) a
   still b c (gives os d) down mark h =
       (h.0 ∙ put_nil way at.sn (end_of c.downlink), h.1.0 ∙ down, h.1.1 ∙ mark, ap end_of (h.1.0 ∙ down))
   still b c (spent k) down mark h = tt
 
-  module _ (b : UpBearer) where
+  module _ (b : CuUpBearer) where
     abbrev e : Option TunnelEnd
     e = end_of b.downlink
 
@@ -64,7 +64,7 @@ module _ {M C P : Type 0} (way : Way M C P) (at : UpAt) where
     unfolding took_fresh packets_sent
     fresh_one packet = by at.flags.released refl at.flags.frozen refl
       where
-        on : UpBearer
+        on : CuUpBearer
         on = waits b packet
 
         nothing_more : serves_none at on ≡ true → (a : Row) → Still way at b.downlink b.restart a
@@ -94,7 +94,7 @@ module _ {M C P : Type 0} (way : Way M C P) (at : UpAt) where
     one_packet : (count : ℕ) (packet : List ℕ) → Puts way at e (packets_sent ((count, packet) ∷ []) b) (sent way at count packet same_tag (holds b count packet))
     unfolding sent packets_sent
     one_packet count packet =
-        let on : UpBearer = holds b count packet in
+        let on : CuUpBearer = holds b count packet in
         let one = frame_on false on.restart (Some (packet_pdu count packet)) on on.downlink in
         let row = framed way at false on.restart (Some (way.write at.sn (packet_pdu count packet))) same_tag on in
         puts_same way at e (packets_sent ((count, packet) ∷ []) on) (packets_sent ((count, packet) ∷ []) b) row
@@ -113,10 +113,10 @@ module _ {M C P : Type 0} (way : Way M C P) (at : UpAt) where
     unfolding took_numbered
     numbered_one count packet = by at.flags.released (may_restore at.sn at.quota b.sender count) at.flags.frozen
       where
-        on : UpBearer
+        on : CuUpBearer
         on = holds b count packet
 
-        held : UpBearer
+        held : CuUpBearer
         held = record on { taken_while_frozen = b.taken_while_frozen ++ count ∷ [] }
 
         by : (r k f : Bool) → Puts way at e (if r then none_sent b else
@@ -136,11 +136,11 @@ module _ {M C P : Type 0} (way : Way M C P) (at : UpAt) where
         → Puts way at e (packets_sent (packets_if at (record b { sender = confirmed_by b.sender fmc bits })) b) (took_report way at fmc bits b)
     unfolding took_report
     report_one fmc bits =
-        let c : UpBearer = record b { sender = confirmed_by b.sender fmc bits } in
+        let c : CuUpBearer = record b { sender = confirmed_by b.sender fmc bits } in
         puts_same way at e (packets_sent (packets_if at c) c) (packets_sent (packets_if at c) b) (number_waiting way at c)
         (packets_same (packets_if at c) c b refl refl) (puts_waiting way at e c refl)
 
-    status_then : (lost : List (ℕ × ℕ)) (c : UpBearer) → end_of c.downlink ≡ e
+    status_then : (lost : List (ℕ × ℕ)) (c : CuUpBearer) → end_of c.downlink ≡ e
         → Puts way at e (and_then (sent_again at.flags.frozen lost c) (λ d. packets_sent (packets_if at c) d)) (lost_frames way at lost c then number_waiting way at)
     status_then lost c there =
         puts_then way at e (sent_again at.flags.frozen lost c) (lost_frames way at lost c) (λ d. packets_sent (packets_if at c) d) (λ d. number_waiting way at d)
@@ -156,7 +156,7 @@ module _ {M C P : Type 0} (way : Way M C P) (at : UpAt) where
 
     -- ---- control
 
-    begins : (fmc : ℕ) (bits : List Bool) (c : UpBearer) → end_of c.downlink ≡ e
+    begins : (fmc : ℕ) (bits : List Bool) (c : CuUpBearer) → end_of c.downlink ≡ e
         → Puts way at e (and_then (sent_anew fmc bits (handed_up c)) (λ d. packets_sent (packets_if at (handed_up c)) d))
         (deliver_stored way at c then begin_downlink way at fmc bits)
     unfolding deliver_stored
@@ -178,27 +178,27 @@ module _ {M C P : Type 0} (way : Way M C P) (at : UpAt) where
         by true = begins s.ul_first (bits_in s.ul_received) (known b s) refl
         by false = still b b (nothing (known b s)) refl refl (stays way at b.downlink b.restart (known b s) (refl, refl))
 
-    resumed_one : let c : UpBearer = record (thawed b) { restart = b.restart || b.loss_while_frozen } in
+    resumed_one : let c : CuUpBearer = record (thawed b) { restart = b.restart || b.loss_while_frozen } in
         Puts way at e (and_then (packets_sent (owed b) c) (λ d. packets_sent (packets_if at c) d)) (resumed way at b)
     unfolding resumed deliver_stored
     resumed_one =
-        let c : UpBearer = record (thawed b) { restart = b.restart || b.loss_while_frozen } in
+        let c : CuUpBearer = record (thawed b) { restart = b.restart || b.loss_while_frozen } in
         subst (λ (a : Row). Puts way at e (and_then (packets_sent (owed b) c) (λ d. packets_sent (packets_if at c) d)) a)
         (sym (then_assoc (row_sends way at (owed b) c) (λ d. deliver_stored way at d) (λ d. number_waiting way at d)))
         (puts_then way at e (packets_sent (owed b) c) (row_sends way at (owed b) c) (λ d. packets_sent (packets_if at c) d)
         (λ d. deliver_stored way at d then number_waiting way at) (puts_packets way at e (owed b) c refl)
         (λ k. last c (packets_sent (owed b) c).bearer (packets_keep (owed b) c) refl))
       where
-        last : (c d : UpBearer) → Keeps c d → end_of c.downlink ≡ e
+        last : (c d : CuUpBearer) → Keeps c d → end_of c.downlink ≡ e
             → Puts way at e (packets_sent (packets_if at c) d) (deliver_stored way at d then number_waiting way at)
         last c d k there =
-            let up : UpBearer = handed_up d in
+            let up : CuUpBearer = handed_up d in
             puts_behind way at e (packets_sent (packets_if at c) d) (deliver d.receiver).packets (number_waiting way at up)
             (puts_same way at e (packets_sent (packets_if at c) up) (packets_sent (packets_if at c) d) (number_waiting way at up)
             (packets_same (packets_if at c) up d refl refl)
             (puts_those way at e c up (record { sender = k.sender; waiting = k.waiting; there = k.there; end = k.end }) there))
 
-  switched_one : (b : UpBearer) (du : NodeId) (teid : ℕ)
+  switched_one : (b : CuUpBearer) (du : NodeId) (teid : ℕ)
       → let c = handed_up (anew b (record { du = du; teid = teid; next = 0 })) in
       Puts way at (Some (record { node = du; teid = teid })) (if at.flags.may_serve
       then and_then (sent_anew c.receiver.deliv (received_bits c.receiver) c) (λ d. packets_sent (packets_if at c) d) else none_sent c)
@@ -206,10 +206,10 @@ module _ {M C P : Type 0} (way : Way M C P) (at : UpAt) where
   unfolding switched deliver_stored
   switched_one b du teid = by at.flags.may_serve
     where
-      on : UpBearer
+      on : CuUpBearer
       on = anew b (record { du = du; teid = teid; next = 0 })
 
-      c : UpBearer
+      c : CuUpBearer
       c = handed_up on
 
       all : Sending
@@ -226,14 +226,14 @@ module _ {M C P : Type 0} (way : Way M C P) (at : UpAt) where
 
 -- ---- an order
 
-module _ {M C P : Type 0} (way : Way M C P) (p : UpPart) where
-  abbrev b : UpBearer
+module _ {M C P : Type 0} (way : Way M C P) (p : CuUpModel) where
+  abbrev b : CuUpBearer
   b = p.bearer
 
-  in_part : (q : UpPart) (end : Option TunnelEnd) (s : Sending) (a : Answer M P UpBearer) → q.at.sn ≡ p.at.sn → Puts way q.at end s a
+  in_model : (q : CuUpModel) (end : Option TunnelEnd) (s : Sending) (a : Answer M P CuUpBearer) → q.at.sn ≡ p.at.sn → Puts way q.at end s a
       → PutsSent way p.at.sn s (kept_in q a)
-  in_part q end s (spent k) same h = tt
-  in_part q end s (gives os d) same h =
+  in_model q end s (spent k) same h = tt
+  in_model q end s (gives os d) same h =
       (h.0 ∙ ap (λ n. put_at way n end s.frames) same ∙ ap (λ o. put_at way p.at.sn o s.frames) (sym h.3), h.1, h.2)
 
   item_puts : (kind : TunnelKind) (teid : ℕ) (item : Taken P) → Puts way p.at (end_of b.downlink) (sent_for_item p kind item) (took way p.at kind teid item b)
@@ -256,19 +256,19 @@ module _ {M C P : Type 0} (way : Way M C P) (p : UpPart) where
   item_puts forwarding_up teid end_item = still way p.at b b _ refl refl (still_up_end way p.at b.downlink b.restart b (refl, refl))
   item_puts kind teid item = still way p.at b b (drops Unexpected b) refl refl (unexpected way p.at b.downlink b.restart b (refl, refl))
 
-  pub order_puts : (order : UpOrder P) → PutsSent way p.at.sn (sent_by p order) (done way order p)
+  pub order_puts : (order : ContextStep P) → PutsSent way p.at.sn (sent_by p order) (done way order p)
   unfolding frames_of
   order_puts (ups.makes instance sn quota target teid) = (put_nil way p.at.sn (end_of b.downlink), refl, refl)
-  order_puts (ups.adds teid) = in_part p (end_of b.downlink) (none_sent b) _ refl
+  order_puts (ups.adds teid) = in_model p (end_of b.downlink) (none_sent b) _ refl
       (still way p.at b b _ refl refl (adds_none way p.at b.downlink b.restart teid b (refl, refl)))
-  order_puts (ups.switches du teid) = in_part (on_switch p) (Some (record { node = du; teid = teid })) (sent_by_switch p du teid) _ refl
+  order_puts (ups.switches du teid) = in_model (on_switch p) (Some (record { node = du; teid = teid })) (sent_by_switch p du teid) _ refl
       (switched_one way (on_switch p).at b du teid)
-  order_puts (ups.freezes peer down up) = in_part (on_freeze p) (end_of b.downlink) (none_sent b) _ refl
+  order_puts (ups.freezes peer down up) = in_model (on_freeze p) (end_of b.downlink) (none_sent b) _ refl
       (still way (on_freeze p).at b b _ refl refl (still_frozen way (on_freeze p).at b.downlink b.restart peer down up b (refl, refl)))
-  order_puts (ups.knows status) = in_part (on_status p) (end_of b.downlink) (sent_by {P = P} p (ups.knows status)) _ refl (status_known way (on_status p).at b status)
-  order_puts ups.resumes = in_part (on_resume p) (end_of b.downlink) (sent_by {P = P} p ups.resumes) _ refl (resumed_one way (on_resume p).at b)
+  order_puts (ups.knows status) = in_model (on_status p) (end_of b.downlink) (sent_by {P = P} p (ups.knows status)) _ refl (status_known way (on_status p).at b status)
+  order_puts ups.resumes = in_model (on_resume p) (end_of b.downlink) (sent_by {P = P} p ups.resumes) _ refl (resumed_one way (on_resume p).at b)
   order_puts ups.releases = (put_nil way p.at.sn (end_of b.downlink), refl, refl)
   order_puts ups.closes = refl
-  order_puts (ups.takes kind teid item) = in_part p (end_of b.downlink) (sent_for_item p kind item) _ refl (item_puts kind teid item)
-  order_puts ups.polls = in_part p (end_of b.downlink) (sent_by {P = P} p ups.polls) _ refl
+  order_puts (ups.takes kind teid item) = in_model p (end_of b.downlink) (sent_for_item p kind item) _ refl (item_puts kind teid item)
+  order_puts ups.polls = in_model p (end_of b.downlink) (sent_by {P = P} p ups.polls) _ refl
       (puts_exactly way p.at (end_of b.downlink) (sent_by {P = P} p ups.polls) _ (puts_frame way p.at (end_of b.downlink) true false None Absent b refl))

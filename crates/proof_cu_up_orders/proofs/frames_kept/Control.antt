@@ -6,20 +6,20 @@ use Rattle.gnb_types.specs.declared.plans.SnStatus.{SnStatus}
 use Rattle.intervals.specs.Intervals.{HasNoGap, reach}
 use Rattle.intervals.proofs.Intervals.{reach-le}
 use Rattle.bearer_defs.specs.chain_defs.Orders.{knows, resumes, freezes, releases, sends_again, forwards, frozen, known, changed, sent, after, run}
-use Rattle.bearer_defs.specs.chain_defs.Parts.{Member, Part, set}
+use Rattle.bearer_defs.specs.chain_defs.Models.{Member, Model, set}
 use Rattle.law_downlink_order.proofs.chain.Frames.{set_here, set_far}
 use Rattle.unit_defs.specs.Ways.{report_pdu}
-use Rattle.unit_defs.specs.UpBearers.{bits_in, is_one_of, owed, thawed, released}
-use Rattle.unit_defs.specs.UpRecords.{SourceHop, UpBearer, UpFlags}
-use Rattle.proof_cu_up_orders.specs.context_orders.Orders.{UpPart, on_status, on_resume}
+use Rattle.unit_defs.specs.CuUpBearers.{bits_in, is_one_of, owed, thawed, released}
+use Rattle.unit_defs.specs.CuUpRecords.{SourceHop, CuUpBearer, CuUpFlags}
+use Rattle.proof_cu_up_orders.specs.context_orders.Orders.{CuUpModel, on_status, on_resume}
 use Rattle.law_downlink_order.specs.path.Paths.{Frame, Sending, frame_on, packets_sent}
 use Rattle.law_downlink_order.specs.path.Steps.{sent_anew}
 use Rattle.proof_cu_up_orders.specs.handover_rows.Shown.{handed_up}
-use Rattle.law_downlink_order.specs.heard_packets.Heard.{WasPut}
+use Rattle.law_downlink_order.specs.received_packets.Received.{WasPut}
 use Rattle.law_downlink_order.specs.sent_frames.Senders.{IsSender}
 use Rattle.law_downlink_order.proofs.sent_frames.Sends.{sends as packets_go, reports as report_goes}
 use Rattle.proof_cu_up_orders.specs.down_orders.Down.{IsDown, numbers_if, packets_if, status_orders}
-use Rattle.proof_cu_up_orders.proofs.down_orders.Parts.{went_kept, went_sent, went_more}
+use Rattle.proof_cu_up_orders.proofs.down_orders.Models.{went_kept, went_sent, went_more}
 use Rattle.proof_cu_up_orders.specs.frame_rows.Sent.{none_sent, and_then}
 use Rattle.proof_cu_up_orders.proofs.frame_rows.Sends.{frame_keeps}
 use Rattle.proof_cu_up_orders.specs.sending_contexts.Sending.{Tunnel, with_frames, IsSending}
@@ -31,14 +31,14 @@ use Rattle.proof_cu_up_orders.proofs.frames_kept.Items.{Sends, nothing_sent, sen
 abbrev Packets : Type 0
 Packets = List (ℕ × List ℕ)
 
-module _ (s : Part) (x : ℕ) (p : UpPart) (is : IsDown (s.members x) p) (facts : Facts s (s.members x)) (w : Tunnel) (i : IsSending s x p.bearer w) where
+module _ (s : Model) (x : ℕ) (p : CuUpModel) (is : IsDown (s.members x) p) (facts : Facts s (s.members x)) (w : Tunnel) (i : IsSending s x p.bearer w) where
   abbrev m : Member
   m = s.members x
 
-  abbrev b : UpBearer
+  abbrev b : CuUpBearer
   b = p.bearer
 
-  abbrev Goes_on : Part → Sending → Type 0
+  abbrev Goes_on : Model → Sending → Type 0
   Goes_on t one = Sends s x p is facts w i t one
 
   pub status_one : (status : SnStatus) → (p.at.flags.arrived ≡ true → m.flags.frozen ≡ false) → Goes_on (run s (status_orders x status p))
@@ -48,19 +48,19 @@ module _ (s : Part) (x : ℕ) (p : UpPart) (is : IsDown (s.members x) p) (facts 
   unfolding run after
   status_one status free = by p.at.flags.arrived refl
     where
-      c : UpBearer
+      c : CuUpBearer
       c = handed_up (known b status)
 
       n : Member
       n = record m { flags = record m.flags { may_serve = true }; bearer = known m.bearer status }
 
-      t0 : Part
+      t0 : Model
       t0 = changed s x n
 
       more : Packets
       more = (t0.members x).bearer.sender.unconfirmed
 
-      t1 : Part
+      t1 : Model
       t1 = sent t0 (t0.members x) more
 
       here : t0.members x ≡ n
@@ -72,8 +72,8 @@ module _ (s : Part) (x : ℕ) (p : UpPart) (is : IsDown (s.members x) p) (facts 
           let es = packets_if (on_status p).at c in
           let t = run t1 (numbers_if x (on_status p).at (known b status)) in
           let k = numbers_go s t1 x n more (on_status p).at (known b status) (went_more s x t0 n [] (went_kept s x n) here more) i.epoch is.there here
-          (ap (λ (u : UpBearer). u.waiting) is.bearer) (ap (λ (u : UpBearer). (known u status).sender) is.bearer) in
-          let un : m.bearer.sender.unconfirmed ≡ b.sender.unconfirmed = ap (λ (u : UpBearer). u.sender.unconfirmed) is.bearer in
+          (ap (λ (u : CuUpBearer). u.waiting) is.bearer) (ap (λ (u : CuUpBearer). (known u status).sender) is.bearer) in
+          let un : m.bearer.sender.unconfirmed ≡ b.sender.unconfirmed = ap (λ (u : CuUpBearer). u.sender.unconfirmed) is.bearer in
           let all_there : more ≡ b.sender.unconfirmed = ap (λ (o : Member). o.bearer.sender.unconfirmed) here ∙ un in
           let fmc = status.ul_first in
           let bits = bits_in status.ul_received in
@@ -85,7 +85,7 @@ module _ (s : Part) (x : ℕ) (p : UpPart) (is : IsDown (s.members x) p) (facts 
           (all_first (λ (v : ℕ × List ℕ). WasPut t v.0 v.1) more es (all_put s t x k.member (more ++ es) k.goes_so)) in
           status_then t k serves behind fmc bits one said un kept put
         where
-          status_then : (t : Part) → Numbered s t x n more (packets_if (on_status p).at c) → m.flags.frozen ≡ false → Later t x → (fmc : ℕ) (bits : List Bool) (one : Sending)
+          status_then : (t : Model) → Numbered s t x n more (packets_if (on_status p).at c) → m.flags.frozen ≡ false → Later t x → (fmc : ℕ) (bits : List Bool) (one : Sending)
               → IsSender t one.bearer w.du (w.frames ++ one.frames) w.waits i.cursor → m.bearer.sender.unconfirmed ≡ b.sender.unconfirmed
               → one.bearer.sender ≡ c.sender → AllByRecursion (λ (v : ℕ × List ℕ). WasPut t v.0 v.1) b.sender.unconfirmed
               → let all = packets_sent one.bearer.sender.unconfirmed one.bearer in
@@ -149,29 +149,29 @@ module _ (s : Part) (x : ℕ) (p : UpPart) (is : IsDown (s.members x) p) (facts 
 
   -- ---- a resume
 
-  pub resume_one : m.flags.frozen ≡ true → let c : UpBearer = record (thawed b) { restart = b.restart || b.loss_while_frozen } in
+  pub resume_one : m.flags.frozen ≡ true → let c : CuUpBearer = record (thawed b) { restart = b.restart || b.loss_while_frozen } in
       Goes_on (run s (resumes x ∷ numbers_if x (on_resume p).at (thawed b)))
       (and_then (packets_sent (owed b) c) (λ d. packets_sent (packets_if (on_resume p).at c) d))
   unfolding run after
   resume_one f behind =
-      let c : UpBearer = record (thawed b) { restart = b.restart || b.loss_while_frozen } in
+      let c : CuUpBearer = record (thawed b) { restart = b.restart || b.loss_while_frozen } in
       let n : Member = record m { flags = record m.flags { frozen = false }; bearer = thawed m.bearer } in
       let first = owed m.bearer in
       let t1 = sent (changed s x n) m first in
       let es = packets_if (on_resume p).at c in
       let t = run t1 (numbers_if x (on_resume p).at (thawed b)) in
       let k = numbers_go s t1 x n first (on_resume p).at (thawed b) (went_sent s x n m first refl) i.epoch is.there (set_here s.members x n)
-      (ap (λ (u : UpBearer). u.waiting) is.bearer) (ap (λ (u : UpBearer). u.sender) is.bearer) in
-      let member_free : k.member.flags.frozen ≡ false = ap (λ (g : UpFlags). g.frozen) k.flags in
+      (ap (λ (u : CuUpBearer). u.waiting) is.bearer) (ap (λ (u : CuUpBearer). u.sender) is.bearer) in
+      let member_free : k.member.flags.frozen ≡ false = ap (λ (g : CuUpFlags). g.frozen) k.flags in
       let keeps_member : k.member.flags.released ≡ false =
       ap (λ (o : Member). o.flags.released) (sym k.goes_so.here) ∙ (facts_here s t x k.member (first ++ es) k.goes_so behind).serves (ap (λ (o : Member). o.flags.frozen) k.goes_so.here ∙ member_free) in
-      let keeps : m.flags.released ≡ false = ap (λ (g : UpFlags). g.released) (sym k.flags) ∙ keeps_member in
+      let keeps : m.flags.released ≡ false = ap (λ (g : CuUpFlags). g.released) (sym k.flags) ∙ keeps_member in
       let now = later s t x k.member (first ++ es) k.goes_so b w.du w.frames w.waits i.cursor i.sender in
       let same : s.terminal.deliv ≡ t.terminal.deliv = ap (λ r. r.deliv) (sym k.goes_so.terminal) in
       let put = all_first (λ (v : ℕ × List ℕ). WasPut t v.0 v.1) first es (all_put s t x k.member (first ++ es) k.goes_so) in
       let no_gap : HasNoGap s.terminal.deliv m.bearer.sender.unconfirmed = facts.no_gap keeps in
-      let owes : first ≡ owed b = ap (λ (u : UpBearer). owed u) is.bearer in
-      let loss : m.bearer.loss_while_frozen ≡ b.loss_while_frozen = ap (λ (u : UpBearer). u.loss_while_frozen) is.bearer in
+      let assumes : first ≡ owed b = ap (λ (u : CuUpBearer). owed u) is.bearer in
+      let loss : m.bearer.loss_while_frozen ≡ b.loss_while_frozen = ap (λ (u : CuUpBearer). u.loss_while_frozen) is.bearer in
       let from = which t same now (i.frozen f keeps) no_gap loss in
       let sent_first = packets_go t w.du w.waits c w.frames from.0 first from.1 put from.3 in
       let far = reach-le from.0 first in
@@ -180,12 +180,12 @@ module _ (s : Part) (x : ℕ) (p : UpPart) (is : IsDown (s.members x) p) (facts 
       let at_last = ends_so s t x n first es k behind (packets_sent first c).bearer w.du (w.frames ++ (packets_sent first c).frames) w.waits (reach from.0 first) sent_first
       (omega (arith, far, least)) (λ e. absurd (true≢false (sym e))) (λ e. from.4) (λ e. absurd (true≢false (sym e))) in
       subst (λ (xs : Packets). IsSending t x (packets_sent es (packets_sent xs c).bearer).bearer
-      (with_frames w ((packets_sent xs c).frames ++ (packets_sent es (packets_sent xs c).bearer).frames))) owes
+      (with_frames w ((packets_sent xs c).frames ++ (packets_sent es (packets_sent xs c).bearer).frames))) assumes
       (subst (λ (fs : List Frame). IsSending t x (packets_sent es (packets_sent first c).bearer).bearer (record w { frames = fs }))
       (append_assoc w.frames (packets_sent first c).frames (packets_sent es (packets_sent first c).bearer).frames) at_last)
     where
       -- after a loss all is sent with the restart mark, else what came while frozen
-      which : (t : Part) → s.terminal.deliv ≡ t.terminal.deliv → IsSender t b w.du w.frames w.waits i.cursor
+      which : (t : Model) → s.terminal.deliv ≡ t.terminal.deliv → IsSender t b w.du w.frames w.waits i.cursor
           → HasNoGap i.cursor (owed m.bearer) × (reach s.terminal.deliv m.bearer.sender.unconfirmed ≤ reach i.cursor (owed m.bearer))
           → HasNoGap s.terminal.deliv m.bearer.sender.unconfirmed → m.bearer.loss_while_frozen ≡ b.loss_while_frozen
           → (cursor : ℕ) × IsSender t (record (thawed b) { restart = b.restart || b.loss_while_frozen }) w.du w.frames w.waits cursor × (s.terminal.deliv ≤ cursor)
@@ -200,7 +200,7 @@ module _ (s : Part) (x : ℕ) (p : UpPart) (is : IsDown (s.members x) p) (facts 
           or_false true = refl
           or_false false = refl
 
-          c : UpBearer
+          c : CuUpBearer
           c = record (thawed b) { restart = b.restart || b.loss_while_frozen }
 
           by : (u : Bool) → m.bearer.loss_while_frozen ≡ u
@@ -208,7 +208,7 @@ module _ (s : Part) (x : ℕ) (p : UpPart) (is : IsDown (s.members x) p) (facts 
               × HasNoGap cursor (owed m.bearer) × (reach s.terminal.deliv m.bearer.sender.unconfirmed ≤ reach cursor (owed m.bearer))
           by true e =
               let lost : c.restart ≡ true = ap (λ (u : Bool). b.restart || u) (sym loss ∙ e) ∙ or_true b.restart in
-              let owes : owed m.bearer ≡ m.bearer.sender.unconfirmed =
+              let assumes : owed m.bearer ≡ m.bearer.sender.unconfirmed =
               ap (λ (u : Bool). if u then m.bearer.sender.unconfirmed else filter (λ (v : ℕ × List ℕ). is_one_of m.bearer.taken_while_frozen v.0) m.bearer.sender.unconfirmed) e in
               let mark : IsSender t c w.du w.frames w.waits s.terminal.deliv = record {
                 downlink = now.downlink;
@@ -220,8 +220,8 @@ module _ (s : Part) (x : ℕ) (p : UpPart) (is : IsDown (s.members x) p) (facts 
                 s.terminal.deliv,
                 mark,
                 omega arith,
-                subst (λ (xs : Packets). HasNoGap s.terminal.deliv xs) (sym owes) no_gap,
-                subst (λ (xs : Packets). reach s.terminal.deliv m.bearer.sender.unconfirmed ≤ reach s.terminal.deliv xs) (sym owes) (omega arith),
+                subst (λ (xs : Packets). HasNoGap s.terminal.deliv xs) (sym assumes) no_gap,
+                subst (λ (xs : Packets). reach s.terminal.deliv m.bearer.sender.unconfirmed ≤ reach s.terminal.deliv xs) (sym assumes) (omega arith),
               )
           by false e =
               let as_was : c.restart ≡ b.restart = ap (λ (u : Bool). b.restart || u) (sym loss ∙ e) ∙ or_false b.restart in

@@ -5,21 +5,21 @@ use Rattle.std.proofs.lemmas.List.{append-nil}
 use Rattle.intervals.specs.Intervals.{HasNoGap, reach}
 use Rattle.intervals.proofs.Intervals.{reach-append, reach-le, HasNoGap-append}
 use Rattle.pdcp_defs.specs.Senders.{confirmed_to, confirmed_by, is_reported, may_restore, restored}
-use Rattle.bearer_defs.specs.chain_defs.Orders.{keeps_n3, keeps_fresh, passes_n3, passes_fresh, sends, passes_numbered, drops, reports, tells_loss, sends_again, waits, waits_unless, takes_unless, holds, changed, passed, sent, after, run}
-use Rattle.bearer_defs.specs.chain_defs.Parts.{Item, numbered, fresh, Member, Part}
+use Rattle.bearer_defs.specs.chain_defs.Orders.{keeps_n3, keeps_fresh, passes_n3, passes_fresh, sends, passes_numbered, drops, reports, reports_loss, sends_again, waits, waits_unless, takes_unless, holds, changed, passed, sent, after, run}
+use Rattle.bearer_defs.specs.chain_defs.Models.{Item, numbered, fresh, Member, Model}
 use Rattle.law_downlink_order.proofs.chain.Frames.{set_here}
 use Rattle.unit_defs.specs.Du.{DuBearer}
-use Rattle.unit_defs.specs.UpBearers.{has_downlink, is_one_of, owed}
-use Rattle.unit_defs.specs.UpRecords.{UpBearer, UpFlags}
+use Rattle.unit_defs.specs.CuUpBearers.{has_downlink, is_one_of, owed}
+use Rattle.unit_defs.specs.CuUpRecords.{CuUpBearer, CuUpFlags}
 use Rattle.proof_cu_up_orders.specs.chain_rows.Shown.{numbered_packets}
-use Rattle.proof_cu_up_orders.specs.context_orders.Orders.{UpPart}
+use Rattle.proof_cu_up_orders.specs.context_orders.Orders.{CuUpModel}
 use Rattle.law_downlink_order.specs.path.Paths.{Frame, Sending, packets_sent}
 use Rattle.law_downlink_order.specs.path.Steps.{sent_again}
-use Rattle.law_downlink_order.specs.heard_packets.Heard.{WasPut}
+use Rattle.law_downlink_order.specs.received_packets.Received.{WasPut}
 use Rattle.law_downlink_order.specs.sent_frames.Senders.{IsSender}
 use Rattle.law_downlink_order.proofs.sent_frames.Sends.{sends as packets_go}
 use Rattle.proof_cu_up_orders.specs.down_orders.Down.{IsDown, confirms_if, confirmed_if, fresh_orders, losses, numbered_order, numbers_if, packets_if, Went}
-use Rattle.proof_cu_up_orders.proofs.down_orders.Parts.{went_same, went_kept, went_sent, went_passed, went_changed, went_more}
+use Rattle.proof_cu_up_orders.proofs.down_orders.Models.{went_same, went_kept, went_sent, went_passed, went_changed, went_more}
 use Rattle.proof_cu_up_orders.specs.frame_rows.Sent.{none_sent, and_then, sent_numbered, sent_for_status}
 use Rattle.proof_cu_up_orders.specs.sending_contexts.Sending.{Tunnel, with_frames, IsSending}
 use Rattle.proof_cu_up_orders.proofs.sending_contexts.Lists.{reach_later, no_gap_first, no_gap_rest, all_first, reach_left, no_gap_left, reach_same, filters_turn, taken_more}
@@ -30,7 +30,7 @@ abbrev Packets : Type 0
 Packets = List (ℕ × List ℕ)
 
 -- with the restart mark, all that wasn't received may follow
-pub marked : (s t : Part) (c : UpBearer) (b : DuBearer) (frames : List Frame) (waits : Packets) (cursor : ℕ) → s.terminal.deliv ≡ t.terminal.deliv
+pub marked : (s t : Model) (c : CuUpBearer) (b : DuBearer) (frames : List Frame) (waits : Packets) (cursor : ℕ) → s.terminal.deliv ≡ t.terminal.deliv
     → c.restart ≡ true → IsSender t c b frames waits cursor → IsSender t c b frames waits s.terminal.deliv
 marked s t c b frames waits cursor same mark h = record {
   downlink = h.downlink;
@@ -41,7 +41,7 @@ marked s t c b frames waits cursor same mark h = record {
 }
 
 -- of bearers the downlink and the restart mark are looked at
-pub sender_of : (t : Part) (c d : UpBearer) (b : DuBearer) (frames : List Frame) (waits : Packets) (cursor : ℕ) → d.downlink ≡ c.downlink
+pub sender_of : (t : Model) (c d : CuUpBearer) (b : DuBearer) (frames : List Frame) (waits : Packets) (cursor : ℕ) → d.downlink ≡ c.downlink
     → d.restart ≡ c.restart → IsSender t c b frames waits cursor → IsSender t d b frames waits cursor
 sender_of t c d b frames waits cursor down mark h = record {
   downlink = h.downlink;
@@ -55,14 +55,14 @@ abbrev pub IsConfirmed : Option ℕ → ℕ → Type 0
 IsConfirmed None deliv = Unit {0}
 IsConfirmed (Some count) deliv = count < deliv
 
-module _ (s : Part) (x : ℕ) (p : UpPart) (is : IsDown (s.members x) p) (facts : Facts s (s.members x)) (w : Tunnel) (i : IsSending s x p.bearer w) where
+module _ (s : Model) (x : ℕ) (p : CuUpModel) (is : IsDown (s.members x) p) (facts : Facts s (s.members x)) (w : Tunnel) (i : IsSending s x p.bearer w) where
   abbrev m : Member
   m = s.members x
 
-  abbrev b : UpBearer
+  abbrev b : CuUpBearer
   b = p.bearer
 
-  abbrev pub Sends : Part → Sending → Type 0
+  abbrev pub Sends : Model → Sending → Type 0
   Sends t sent = Later t x → IsSending t x sent.bearer (with_frames w sent.frames)
 
   abbrev pub Served : Member → ℕ → Type 0
@@ -75,7 +75,7 @@ module _ (s : Part) (x : ℕ) (p : UpPart) (is : IsDown (s.members x) p) (facts 
 
   -- ---- nothing is sent
 
-  pub nothing_sent : (t : Part) (k : Member) (items : List Item) → Went s t x k items [] → (k.epoch ≡ m.epoch) × (k.is_there ≡ m.is_there) → Served k i.cursor → Frozen k i.cursor
+  pub nothing_sent : (t : Model) (k : Member) (items : List Item) → Went s t x k items [] → (k.epoch ≡ m.epoch) × (k.is_there ≡ m.is_there) → Served k i.cursor → Frozen k i.cursor
       → IsSending t x b (with_frames w [])
   unfolding packets_sent HasNoGap reach
   nothing_sent t k items went epoch served frozen =
@@ -85,13 +85,13 @@ module _ (s : Part) (x : ℕ) (p : UpPart) (is : IsDown (s.members x) p) (facts 
   pub as_before : IsSending s x b (with_frames w [])
   as_before = subst (λ (fs : List Frame). IsSending s x b (record w { frames = fs })) (sym (append-nil w.frames)) i
 
-  frozen_none : (c : UpBearer) → p.at.flags.frozen ≡ true → packets_if p.at c ≡ []
+  frozen_none : (c : CuUpBearer) → p.at.flags.frozen ≡ true → packets_if p.at c ≡ []
   frozen_none c f =
       ap (λ (t : Bool). if t || p.at.flags.released || not (has_downlink c.downlink) then [] else numbered_packets p.at.sn p.at.quota c.waiting c.sender) f
 
   -- ---- what waits gets its COUNT, from this bearer on
 
-  pub numbers_on : (t : Part) (k : Member) (c u : UpBearer) → IsSender s u w.du w.frames w.waits i.cursor → Went s t x k [] [] → (k.epoch ≡ m.epoch) × (k.is_there ≡ m.is_there)
+  pub numbers_on : (t : Model) (k : Member) (c u : CuUpBearer) → IsSender s u w.du w.frames w.waits i.cursor → Went s t x k [] [] → (k.epoch ≡ m.epoch) × (k.is_there ≡ m.is_there)
       → t.members x ≡ k → k.bearer.waiting ≡ c.waiting → k.bearer.sender ≡ c.sender → k.flags ≡ p.at.flags → Served k i.cursor → Frozen k i.cursor
       → Sends (run t (numbers_if x p.at c)) (packets_sent (packets_if p.at c) u)
   numbers_on t k c u h went epoch exact waiting sender flags served frozen facts_then =
@@ -99,15 +99,15 @@ module _ (s : Part) (x : ℕ) (p : UpPart) (is : IsDown (s.members x) p) (facts 
       let n = numbers_go s t x k [] p.at c went (epoch.0 ∙ i.epoch) (epoch.1 ∙ is.there) exact waiting sender in
       ends_so s after x k [] (packets_if p.at c) n facts_then u w.du w.frames w.waits i.cursor
       (later s after x n.member (packets_if p.at c) n.goes_so u w.du w.frames w.waits i.cursor h) i.received
-      (λ e. frozen_none c (ap (λ (f : UpFlags). f.frozen) (sym flags) ∙ e)) served frozen
+      (λ e. frozen_none c (ap (λ (f : CuUpFlags). f.frozen) (sym flags) ∙ e)) served frozen
 
   -- ---- packets without a COUNT
 
   module _ (packet : List ℕ) (rest : List Item) where
-    abbrev on : UpBearer
+    abbrev on : CuUpBearer
     on = waits b packet
 
-    passes_one : (t : Part) (k : Member) (items : List Item) → Went s t x k items [] → (k.epoch ≡ m.epoch) × (k.is_there ≡ m.is_there) → Served k i.cursor → Frozen k i.cursor
+    passes_one : (t : Model) (k : Member) (items : List Item) → Went s t x k items [] → (k.epoch ≡ m.epoch) × (k.is_there ≡ m.is_there) → Served k i.cursor → Frozen k i.cursor
         → p.at.flags.frozen ≡ true → IsSending t x (packets_sent (packets_if p.at on) b).bearer (with_frames w (packets_sent (packets_if p.at on) b).frames)
     unfolding packets_sent
     passes_one t k items went epoch served frozen f =
@@ -126,7 +126,7 @@ module _ (s : Part) (x : ℕ) (p : UpPart) (is : IsDown (s.members x) p) (facts 
         by false f held =
             let k : Member = record m { n3 = rest; bearer = waits m.bearer packet } in
             numbers_on (changed s x k) k on b i.sender (went_kept s x k) (refl, refl) (set_here s.members x k)
-            (ap (λ (u : UpBearer). u.waiting ++ packet ∷ []) is.bearer) (ap (λ (u : UpBearer). u.sender) is.bearer) is.flags i.served i.frozen held
+            (ap (λ (u : CuUpBearer). u.waiting ++ packet ∷ []) is.bearer) (ap (λ (u : CuUpBearer). u.sender) is.bearer) is.flags i.served i.frozen held
 
     pub forwarded_one : Sends (run s (fresh_orders x p.at b packet (passes_fresh x packet rest) (keeps_fresh x packet rest))) (packets_sent (packets_if p.at on) b)
     unfolding run after
@@ -140,7 +140,7 @@ module _ (s : Part) (x : ℕ) (p : UpPart) (is : IsDown (s.members x) p) (facts 
         by false f held =
             let k : Member = record m { forwarded = rest; bearer = waits m.bearer packet } in
             numbers_on (changed s x k) k on b i.sender (went_kept s x k) (refl, refl) (set_here s.members x k)
-            (ap (λ (u : UpBearer). u.waiting ++ packet ∷ []) is.bearer) (ap (λ (u : UpBearer). u.sender) is.bearer) is.flags i.served i.frozen held
+            (ap (λ (u : CuUpBearer). u.waiting ++ packet ∷ []) is.bearer) (ap (λ (u : CuUpBearer). u.sender) is.bearer) is.flags i.served i.frozen held
 
   -- ---- a packet with its COUNT
 
@@ -156,9 +156,9 @@ module _ (s : Part) (x : ℕ) (p : UpPart) (is : IsDown (s.members x) p) (facts 
     unfolding restored
     keeps_it r = ap (λ (t : Bool). if t then m.bearer.sender.unconfirmed else m.bearer.sender.unconfirmed ++ e ∷ []) r
 
-    owes_it : m.flags.released ≡ false → AllByRecursion (λ (u : ℕ × List ℕ). u.0 < count) m.bearer.sender.unconfirmed
+    assumes_it : m.flags.released ≡ false → AllByRecursion (λ (u : ℕ × List ℕ). u.0 < count) m.bearer.sender.unconfirmed
         → owed kept.bearer ≡ owed m.bearer ++ e ∷ []
-    owes_it r below =
+    assumes_it r below =
         (λ k. if m.bearer.loss_while_frozen then keeps_it r k
         else filter (λ (u : ℕ × List ℕ). is_one_of (if r k then m.bearer.taken_while_frozen else m.bearer.taken_while_frozen ++ count ∷ []) u.0) (keeps_it r k))
         ∙ by m.bearer.loss_while_frozen
@@ -182,16 +182,16 @@ module _ (s : Part) (x : ℕ) (p : UpPart) (is : IsDown (s.members x) p) (facts 
         let more = had.1 in
         let stands : (t.members x).bearer.sender.unconfirmed ≡ us ++ e ∷ [] = ap (λ (k : Member). k.bearer.sender.unconfirmed) g.here ∙ keeps_it r in
         let below = (facts_here s t x kept [] g held).below (ap (λ (k : Member). k.flags.released) g.here ∙ r) us e stands in
-        let owes = owes_it r below in
+        let assumes = assumes_it r below in
         let no_gap : HasNoGap s.terminal.deliv (us ++ e ∷ []) =
         subst (λ (xs : Packets). HasNoGap s.terminal.deliv xs) (keeps_it r) (no_gap_here s t x kept [] g held r) in
         let next : count ≤ reach s.terminal.deliv us = (no_gap_rest s.terminal.deliv us (e ∷ []) no_gap).0 in
         let both = reach_later (reach s.terminal.deliv us) (reach i.cursor (owed m.bearer)) (e ∷ []) more in (
-          subst (λ (xs : Packets). HasNoGap i.cursor xs) (sym owes) (HasNoGap-append i.cursor (owed m.bearer) (e ∷ []) had.0 (omega (arith, next, more), tt)),
+          subst (λ (xs : Packets). HasNoGap i.cursor xs) (sym assumes) (HasNoGap-append i.cursor (owed m.bearer) (e ∷ []) had.0 (omega (arith, next, more), tt)),
           subst (λ (n : ℕ). n ≤ reach i.cursor (owed kept.bearer))
               (sym (ap (λ (xs : Packets). reach s.terminal.deliv xs) (keeps_it r) ∙ reach-append s.terminal.deliv us (e ∷ [])))
               (subst (λ (n : ℕ). reach (reach s.terminal.deliv us) (e ∷ []) ≤ n)
-              (sym (ap (λ (xs : Packets). reach i.cursor xs) owes ∙ reach-append i.cursor (owed m.bearer) (e ∷ []))) both),
+              (sym (ap (λ (xs : Packets). reach i.cursor xs) assumes ∙ reach-append i.cursor (owed m.bearer) (e ∷ []))) both),
         )
 
     pub numbered_one : Sends (run s (numbered_order x p.at b count packet rest ∷ [])) (sent_numbered p count packet)
@@ -199,10 +199,10 @@ module _ (s : Part) (x : ℕ) (p : UpPart) (is : IsDown (s.members x) p) (facts 
     numbered_one = by p.at.flags.released refl (may_restore p.at.sn p.at.quota b.sender count) p.at.flags.frozen refl
       where
         frozen_is : (f : Bool) → p.at.flags.frozen ≡ f → m.flags.frozen ≡ f
-        frozen_is f k = ap (λ (g : UpFlags). g.frozen) is.flags ∙ k
+        frozen_is f k = ap (λ (g : CuUpFlags). g.frozen) is.flags ∙ k
 
         released_is : (r : Bool) → p.at.flags.released ≡ r → m.flags.released ≡ r
-        released_is r k = ap (λ (g : UpFlags). g.released) is.flags ∙ k
+        released_is r k = ap (λ (g : CuUpFlags). g.released) is.flags ∙ k
 
         on : Member
         on = record m { forwarded = rest; bearer = holds m.bearer count packet }
@@ -211,7 +211,7 @@ module _ (s : Part) (x : ℕ) (p : UpPart) (is : IsDown (s.members x) p) (facts 
         goes_out f held =
             let t = sent (changed s x on) m (e ∷ []) in
             let g = goes s t x on [] (e ∷ []) (went_sent s x on m (e ∷ []) refl) i.epoch is.there in
-            let n : Numbered s t x m [] (e ∷ []) = record { member = on; goes_so = g; flags = refl; unconfirmed = refl; owes = λ none. absurd cc } in
+            let n : Numbered s t x m [] (e ∷ []) = record { member = on; goes_so = g; flags = refl; unconfirmed = refl; assumes = λ none. absurd cc } in
             ends_so s t x m [] (e ∷ []) n held b w.du w.frames w.waits i.cursor (later s t x on (e ∷ []) g b w.du w.frames w.waits i.cursor i.sender) i.received
             (λ k. absurd (true≢false (sym k ∙ frozen_is false f))) i.served i.frozen
 
@@ -233,14 +233,14 @@ module _ (s : Part) (x : ℕ) (p : UpPart) (is : IsDown (s.members x) p) (facts 
   -- ---- some of what it holds are confirmed
 
   module _ (q : ℕ × List ℕ → Bool) (below : (u : ℕ × List ℕ) → q u ≡ false → u.0 < s.terminal.deliv) where
-    abbrev left : UpBearer
+    abbrev left : CuUpBearer
     left = record m.bearer { sender = record m.bearer.sender { unconfirmed = filter q m.bearer.sender.unconfirmed } }
 
     left_served : Served (record m { bearer = left }) i.cursor
     left_served f = let a = i.served f in let l = reach_left q s.terminal.deliv m.bearer.sender.unconfirmed in omega (arith, a, l)
 
-    left_owes : owed left ≡ filter q (owed m.bearer)
-    left_owes = by m.bearer.loss_while_frozen
+    left_assumes : owed left ≡ filter q (owed m.bearer)
+    left_assumes = by m.bearer.loss_while_frozen
       where
         by : (t : Bool)
             → (if t then filter q m.bearer.sender.unconfirmed
@@ -256,8 +256,8 @@ module _ (s : Part) (x : ℕ) (p : UpPart) (is : IsDown (s.members x) p) (facts 
         let more = had.1 in
         let l = reach_left q s.terminal.deliv m.bearer.sender.unconfirmed in
         let same = reach_same q s.terminal.deliv below i.cursor (owed m.bearer) i.received in (
-          subst (λ (xs : Packets). HasNoGap i.cursor xs) (sym left_owes) (no_gap_left q s.terminal.deliv below i.cursor (owed m.bearer) i.received had.0),
-          subst (λ (xs : Packets). reach s.terminal.deliv (filter q m.bearer.sender.unconfirmed) ≤ reach i.cursor xs) (sym left_owes) (omega (arith, more, l, same)),
+          subst (λ (xs : Packets). HasNoGap i.cursor xs) (sym left_assumes) (no_gap_left q s.terminal.deliv below i.cursor (owed m.bearer) i.received had.0),
+          subst (λ (xs : Packets). reach s.terminal.deliv (filter q m.bearer.sender.unconfirmed) ≤ reach i.cursor xs) (sym left_assumes) (omega (arith, more, l, same)),
         )
 
   reported_below : (fmc : ℕ) (u : ℕ × List ℕ) → fmc ≤ s.terminal.deliv → not (is_reported fmc [] u.0) ≡ false → u.0 < s.terminal.deliv
@@ -277,9 +277,9 @@ module _ (s : Part) (x : ℕ) (p : UpPart) (is : IsDown (s.members x) p) (facts 
       let below : (u : ℕ × List ℕ) → q u ≡ false → u.0 < s.terminal.deliv =
       λ u k. reported_below fmc u l (ap (λ (bs : List Bool). not (is_reported fmc bs u.0)) (sym none) ∙ k) in
       let k : Member = record m { bearer = left q below } in
-      let c : UpBearer = record b { sender = confirmed_by b.sender fmc bits } in
-      numbers_on (changed s x k) k c b i.sender (went_kept s x k) (refl, refl) (set_here s.members x k) (ap (λ (u : UpBearer). u.waiting) is.bearer)
-      (ap (λ (u : UpBearer). confirmed_by u.sender fmc bits) is.bearer) is.flags (left_served q below) (left_frozen q below)
+      let c : CuUpBearer = record b { sender = confirmed_by b.sender fmc bits } in
+      numbers_on (changed s x k) k c b i.sender (went_kept s x k) (refl, refl) (set_here s.members x k) (ap (λ (u : CuUpBearer). u.waiting) is.bearer)
+      (ap (λ (u : CuUpBearer). confirmed_by u.sender fmc bits) is.bearer) is.flags (left_served q below) (left_frozen q below)
 
   -- ---- a delivery status
 
@@ -287,13 +287,13 @@ module _ (s : Part) (x : ℕ) (p : UpPart) (is : IsDown (s.members x) p) (facts 
   confirmed_below count u l e = let k : u.0 ≤ count = grind (arith, e) in omega (arith, k, l)
 
   -- after what it confirms: this member is there, and this bearer
-  module _ (t : Part) (n : Member) (went : Went s t x n [] []) (exact : t.members x ≡ n) (flags : n.flags ≡ p.at.flags) (epoch : (n.epoch ≡ m.epoch) × (n.is_there ≡ m.is_there))
-      (c : UpBearer) (waiting : n.bearer.waiting ≡ c.waiting) (sender : n.bearer.sender ≡ c.sender)
+  module _ (t : Model) (n : Member) (went : Went s t x n [] []) (exact : t.members x ≡ n) (flags : n.flags ≡ p.at.flags) (epoch : (n.epoch ≡ m.epoch) × (n.is_there ≡ m.is_there))
+      (c : CuUpBearer) (waiting : n.bearer.waiting ≡ c.waiting) (sender : n.bearer.sender ≡ c.sender)
       (h : IsSender s c w.du w.frames w.waits i.cursor) (served : Served n i.cursor) (frozen : Frozen n i.cursor) where
     abbrev n2 : Member
     n2 = record (t.members x) { bearer = record (t.members x).bearer { loss_while_frozen = (t.members x).flags.frozen || (t.members x).bearer.loss_while_frozen } }
 
-    abbrev t2 : Part
+    abbrev t2 : Model
     t2 = changed t x n2
 
     told : Went s t2 x n2 [] []
@@ -317,7 +317,7 @@ module _ (s : Part) (x : ℕ) (p : UpPart) (is : IsDown (s.members x) p) (facts 
     frozen_lost : (f : p.at.flags.frozen ≡ true)
         → Sends (run t2 (numbers_if x p.at c)) (packets_sent (packets_if p.at c) (record c { restart = true; loss_while_frozen = true }))
     frozen_lost f behind =
-        let u : UpBearer = record c { restart = true; loss_while_frozen = true } in
+        let u : CuUpBearer = record c { restart = true; loss_while_frozen = true } in
         let es = packets_if p.at c in
         let last = run t2 (numbers_if x p.at c) in
         let k = numbers_go s t2 x n2 [] p.at c told epoch2 there2 (set_here t.members x n2) waiting2 sender2 in
@@ -330,30 +330,30 @@ module _ (s : Part) (x : ℕ) (p : UpPart) (is : IsDown (s.members x) p) (facts 
           line = now.line;
           marked = omega (arith, same);
         } in
-        let is_frozen : n2.flags.frozen ≡ true = ap (λ (g : UpFlags). g.frozen) flags2 ∙ f in
-        let owes : owed n2.bearer ≡ n2.bearer.sender.unconfirmed =
+        let is_frozen : n2.flags.frozen ≡ true = ap (λ (g : CuUpFlags). g.frozen) flags2 ∙ f in
+        let assumes : owed n2.bearer ≡ n2.bearer.sender.unconfirmed =
         ap (λ (g : Bool). if g || (t.members x).bearer.loss_while_frozen then n2.bearer.sender.unconfirmed
         else filter (λ (v : ℕ × List ℕ). is_one_of n2.bearer.taken_while_frozen v.0) n2.bearer.sender.unconfirmed) is_frozen in
         ends_so s last x n2 [] es k behind u w.du w.frames w.waits s.terminal.deliv mark (omega arith) (λ e. frozen_none c f)
         (λ e. absurd (true≢false (sym is_frozen ∙ e)))
         (λ e r. (
-          subst (λ (xs : Packets). HasNoGap s.terminal.deliv xs) (sym owes)
+          subst (λ (xs : Packets). HasNoGap s.terminal.deliv xs) (sym assumes)
               (no_gap_first s.terminal.deliv n2.bearer.sender.unconfirmed es (subst (λ (xs : Packets). HasNoGap s.terminal.deliv xs) k.unconfirmed
-              (no_gap_here s last x k.member es k.goes_so behind (ap (λ (g : UpFlags). g.released) k.flags ∙ r)))),
-          subst (λ (xs : Packets). reach s.terminal.deliv n2.bearer.sender.unconfirmed ≤ reach s.terminal.deliv xs) (sym owes) (omega arith),
+              (no_gap_here s last x k.member es k.goes_so behind (ap (λ (g : CuUpFlags). g.released) k.flags ∙ r)))),
+          subst (λ (xs : Packets). reach s.terminal.deliv n2.bearer.sender.unconfirmed ≤ reach s.terminal.deliv xs) (sym assumes) (omega arith),
         ))
 
     abbrev more : Packets
     more = (t2.members x).bearer.sender.unconfirmed
 
-    abbrev t3 : Part
+    abbrev t3 : Model
     t3 = sent t2 (t2.members x) more
 
     served_lost : (f : p.at.flags.frozen ≡ false)
         → Sends (run t3 (numbers_if x p.at c))
         (and_then (packets_sent c.sender.unconfirmed (record c { restart = true })) (λ d. packets_sent (packets_if p.at c) d))
     served_lost f behind =
-        let u : UpBearer = record c { restart = true } in
+        let u : CuUpBearer = record c { restart = true } in
         let es = packets_if p.at c in
         let last = run t3 (numbers_if x p.at c) in
         let here : t2.members x ≡ n2 = set_here t.members x n2 in
@@ -368,8 +368,8 @@ module _ (s : Part) (x : ℕ) (p : UpPart) (is : IsDown (s.members x) p) (facts 
           line = now.line;
           marked = omega (arith, same);
         } in
-        let is_free : n2.flags.frozen ≡ false = ap (λ (g : UpFlags). g.frozen) flags2 ∙ f in
-        let member_free : k.member.flags.frozen ≡ false = ap (λ (g : UpFlags). g.frozen) k.flags ∙ is_free in
+        let is_free : n2.flags.frozen ≡ false = ap (λ (g : CuUpFlags). g.frozen) flags2 ∙ f in
+        let member_free : k.member.flags.frozen ≡ false = ap (λ (g : CuUpFlags). g.frozen) k.flags ∙ is_free in
         let keeps : k.member.flags.released ≡ false =
         ap (λ (o : Member). o.flags.released) (sym k.goes_so.here) ∙ (facts_here s last x k.member (more ++ es) k.goes_so behind).serves (ap (λ (o : Member). o.flags.frozen) k.goes_so.here ∙ member_free) in
         let un : n2.bearer.sender.unconfirmed ≡ c.sender.unconfirmed = ap (λ q. q.unconfirmed) sender2 in
@@ -396,7 +396,7 @@ module _ (s : Part) (x : ℕ) (p : UpPart) (is : IsDown (s.members x) p) (facts 
     status_two (range ∷ ranges) = by p.at.flags.frozen refl
       where
         by : (f : Bool) → p.at.flags.frozen ≡ f
-            → Sends (run t ((tells_loss x ∷ (if f then [] else sends_again x ∷ [])) ++ numbers_if x p.at c))
+            → Sends (run t ((reports_loss x ∷ (if f then [] else sends_again x ∷ [])) ++ numbers_if x p.at c))
             (and_then (sent_again f (range ∷ ranges) c) (λ d. packets_sent (packets_if p.at c) d))
         by true f = frozen_lost f
         by false f = served_lost f
@@ -405,12 +405,12 @@ module _ (s : Part) (x : ℕ) (p : UpPart) (is : IsDown (s.members x) p) (facts 
       → Sends (run s (confirms_if x delivered ++ losses x p.at.flags.frozen lost ++ numbers_if x p.at (confirmed_if delivered b))) (sent_for_status p lost delivered)
   unfolding run after confirmed_to
   status_one lost None l =
-      status_two s m (went_same s x) refl is.flags (refl, refl) b (ap (λ (u : UpBearer). u.waiting) is.bearer) (ap (λ (u : UpBearer). u.sender) is.bearer) i.sender
+      status_two s m (went_same s x) refl is.flags (refl, refl) b (ap (λ (u : CuUpBearer). u.waiting) is.bearer) (ap (λ (u : CuUpBearer). u.sender) is.bearer) i.sender
       i.served i.frozen lost
   status_one lost (Some count) l =
       let q : ℕ × List ℕ → Bool = λ u. nat_lt count u.0 in
       let below : (u : ℕ × List ℕ) → q u ≡ false → u.0 < s.terminal.deliv = λ u k. confirmed_below count u l k in
       let k : Member = record m { bearer = left q below } in
       status_two (changed s x k) k (went_kept s x k) (set_here s.members x k) is.flags (refl, refl) (confirmed_if (Some count) b)
-      (ap (λ (u : UpBearer). u.waiting) is.bearer) (ap (λ (u : UpBearer). confirmed_to u.sender count) is.bearer)
+      (ap (λ (u : CuUpBearer). u.waiting) is.bearer) (ap (λ (u : CuUpBearer). confirmed_to u.sender count) is.bearer)
       (sender_of s b (confirmed_if (Some count) b) w.du w.frames w.waits i.cursor refl refl i.sender) (left_served q below) (left_frozen q below) lost

@@ -6,20 +6,20 @@ use Rattle.intervals.specs.Intervals.{HasNoGap, reach}
 use Rattle.intervals.proofs.Intervals.{reach-le}
 use Rattle.pdcp_defs.specs.Receivers.{received_bits}
 use Rattle.bearer_defs.specs.chain_defs.Orders.{switches, known, on_downlink, changed, sent, after, run}
-use Rattle.bearer_defs.specs.chain_defs.Parts.{Member, Part}
+use Rattle.bearer_defs.specs.chain_defs.Models.{Member, Model}
 use Rattle.law_downlink_order.proofs.chain.Frames.{set_here}
 use Rattle.unit_defs.specs.Du.{DuBearer}
-use Rattle.unit_defs.specs.UpRecords.{Downlink, UpBearer, UpFlags}
-use Rattle.proof_cu_up_orders.specs.context_orders.Orders.{UpPart, on_switch}
+use Rattle.unit_defs.specs.CuUpRecords.{DownlinkTunnel, CuUpBearer, CuUpFlags}
+use Rattle.proof_cu_up_orders.specs.context_orders.Orders.{CuUpModel, on_switch}
 use Rattle.law_downlink_order.specs.path.Paths.{Sending, packets_sent}
 use Rattle.law_downlink_order.specs.path.Steps.{sent_anew}
 use Rattle.proof_cu_up_orders.specs.handover_rows.Shown.{handed_up}
-use Rattle.law_downlink_order.specs.heard_packets.Heard.{WasPut}
+use Rattle.law_downlink_order.specs.received_packets.Received.{WasPut}
 use Rattle.law_downlink_order.proofs.waiting_frames.Puts.{line_fresh}
 use Rattle.law_downlink_order.specs.sent_frames.Senders.{IsSender}
 use Rattle.law_downlink_order.proofs.sent_frames.Sends.{begins}
 use Rattle.proof_cu_up_orders.specs.down_orders.Down.{IsDown, numbers_if, packets_if, switch_orders, Went}
-use Rattle.proof_cu_up_orders.proofs.down_orders.Parts.{went_sent}
+use Rattle.proof_cu_up_orders.proofs.down_orders.Models.{went_sent}
 use Rattle.proof_cu_up_orders.specs.frame_rows.Sent.{none_sent, and_then, switched_to, sent_by_switch}
 use Rattle.proof_cu_up_orders.specs.sending_contexts.Sending.{IsSending}
 use Rattle.proof_cu_up_orders.proofs.sending_contexts.Lists.{no_gap_first, all_first}
@@ -29,11 +29,11 @@ use Rattle.proof_cu_up_orders.proofs.sending_contexts.Ends.{Later, facts_here, g
 abbrev Packets : Type 0
 Packets = List (ℕ × List ℕ)
 
-module _ (s : Part) (x : ℕ) (p : UpPart) (is : IsDown (s.members x) p) (facts : Facts s (s.members x)) (du : DuBearer) (waits : Packets) where
+module _ (s : Model) (x : ℕ) (p : CuUpModel) (is : IsDown (s.members x) p) (facts : Facts s (s.members x)) (du : DuBearer) (waits : Packets) where
   abbrev m : Member
   m = s.members x
 
-  abbrev b : UpBearer
+  abbrev b : CuUpBearer
   b = p.bearer
 
   abbrev fresh : ℕ → DuBearer
@@ -45,10 +45,10 @@ module _ (s : Part) (x : ℕ) (p : UpPart) (is : IsDown (s.members x) p) (facts 
   unfolding run after packets_sent HasNoGap reach
   switch_begins epoch to teid present = by p.at.flags.may_serve refl
     where
-      downlink : Downlink
+      downlink : DownlinkTunnel
       downlink = record { du = to; teid = teid; next = 0 }
 
-      c : UpBearer
+      c : CuUpBearer
       c = switched_to p to teid
 
       n : Member
@@ -57,7 +57,7 @@ module _ (s : Part) (x : ℕ) (p : UpPart) (is : IsDown (s.members x) p) (facts 
       first : Packets
       first = if m.flags.may_serve then m.bearer.sender.unconfirmed else []
 
-      t1 : Part
+      t1 : Model
       t1 = sent (changed s x n) n first
 
       went : Went s t1 x n [] first
@@ -73,12 +73,12 @@ module _ (s : Part) (x : ℕ) (p : UpPart) (is : IsDown (s.members x) p) (facts 
           let es = packets_if (on_switch p).at c in
           let t = run t1 (numbers_if x (on_switch p).at (on_downlink b downlink)) in
           let k = numbers_go s t1 x n first (on_switch p).at (on_downlink b downlink) went present is.there (set_here s.members x n)
-          (ap (λ (u : UpBearer). u.waiting) is.bearer) (ap (λ (u : UpBearer). u.sender) is.bearer) in
-          let un : m.bearer.sender.unconfirmed ≡ b.sender.unconfirmed = ap (λ (u : UpBearer). u.sender.unconfirmed) is.bearer in
+          (ap (λ (u : CuUpBearer). u.waiting) is.bearer) (ap (λ (u : CuUpBearer). u.sender) is.bearer) in
+          let un : m.bearer.sender.unconfirmed ≡ b.sender.unconfirmed = ap (λ (u : CuUpBearer). u.sender.unconfirmed) is.bearer in
           let all_there : first ≡ b.sender.unconfirmed =
-          ap (λ (f : UpFlags). if f.may_serve then m.bearer.sender.unconfirmed else []) is.flags
+          ap (λ (f : CuUpFlags). if f.may_serve then m.bearer.sender.unconfirmed else []) is.flags
           ∙ ap (λ (u : Bool). if u then m.bearer.sender.unconfirmed else []) known ∙ un in
-          let member_free : k.member.flags.frozen ≡ false = ap (λ (f : UpFlags). f.frozen) k.flags in
+          let member_free : k.member.flags.frozen ≡ false = ap (λ (f : CuUpFlags). f.frozen) k.flags in
           let keeps : k.member.flags.released ≡ false =
           ap (λ (o : Member). o.flags.released) (sym k.goes_so.here) ∙ (facts_here s t x k.member (first ++ es) k.goes_so behind).serves (ap (λ (o : Member). o.flags.frozen) k.goes_so.here ∙ member_free) in
           let no_gap : HasNoGap s.terminal.deliv b.sender.unconfirmed = subst (λ (xs : Packets). HasNoGap s.terminal.deliv xs) un
@@ -101,12 +101,12 @@ module _ (s : Part) (x : ℕ) (p : UpPart) (is : IsDown (s.members x) p) (facts 
       waits_for_it unknown behind =
           let g = goes s t1 x n [] first went present is.there in
           let none_there : first ≡ [] =
-          ap (λ (f : UpFlags). if f.may_serve then m.bearer.sender.unconfirmed else []) is.flags
+          ap (λ (f : CuUpFlags). if f.may_serve then m.bearer.sender.unconfirmed else []) is.flags
           ∙ ap (λ (u : Bool). if u then m.bearer.sender.unconfirmed else []) unknown in
           let same : s.terminal.deliv ≡ t1.terminal.deliv = ap (λ r. r.deliv) (sym g.terminal) in
           let keeps : n.flags.released ≡ false =
           ap (λ (o : Member). o.flags.released) (sym g.here) ∙ (facts_here s t1 x n first g behind).serves (ap (λ (o : Member). o.flags.frozen) g.here) in
-          let none_held : m.bearer.sender.unconfirmed ≡ [] = facts.early (ap (λ (f : UpFlags). f.may_serve) is.flags ∙ unknown) keeps in
+          let none_held : m.bearer.sender.unconfirmed ≡ [] = facts.early (ap (λ (f : CuUpFlags). f.may_serve) is.flags ∙ unknown) keeps in
           let begun : IsSender t1 c (fresh teid) [] waits t1.terminal.deliv = record {
             downlink = downlink;
             there = refl;

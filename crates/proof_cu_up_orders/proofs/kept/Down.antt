@@ -8,20 +8,20 @@ use Rattle.gnb_types.specs.declared.reasons.HeldReason.{HeldReason}
 use Rattle.gnb_types.specs.declared.reasons.HeldReason.TheVariants.{NoStatus, NotArrived, Early}
 use Rattle.pdcp_defs.specs.Senders.{may_restore, confirmed_to, confirmed_by}
 use Rattle.unit_defs.specs.Ways.{report_content, Taken, fresh_item, numbered_item, uplink_item, status_item, end_item}
-use Rattle.unit_defs.specs.UpRecords.{UpBearer, UpFlags, Downlink, SourceHop, TunnelKind, n3, f1u_uplink, forwarding_down, UpAt}
-use Rattle.unit_defs.specs.UpBearers.{thawed}
-use Rattle.unit_defs.specs.UpItems.{first_held, held_as_target, held_by_room, held_reason}
-use Rattle.bearer_defs.specs.chain_defs.Parts.{Item, numbered, fresh, end_marker, Member, Part, no_member}
-use Rattle.bearer_defs.specs.chain_defs.Orders.{Order, keeps_n3, keeps_fresh, passes_n3, passes_fresh, sends, passes_numbered, drops, switches, freezes, knows, resumes, closes, tells_loss, sends_again, waits, known, on_downlink, changed, after, run}
-use Rattle.bearer_defs.specs.chain_defs.Guards.{IsTaken, IsReady, IsOwed, AreKept}
+use Rattle.unit_defs.specs.CuUpRecords.{CuUpBearer, CuUpFlags, DownlinkTunnel, SourceHop, TunnelKind, n3, f1u_uplink, forwarding_down, CuUpScope}
+use Rattle.unit_defs.specs.CuUpBearers.{thawed}
+use Rattle.unit_defs.specs.CuUpItems.{first_held, held_as_target, held_by_room, held_reason}
+use Rattle.bearer_defs.specs.chain_defs.Models.{Item, numbered, fresh, end_marker, Member, Model, no_member}
+use Rattle.bearer_defs.specs.chain_defs.Orders.{ModelStep, keeps_n3, keeps_fresh, passes_n3, passes_fresh, sends, passes_numbered, drops, switches, freezes, knows, resumes, closes, reports_loss, sends_again, waits, known, on_downlink, changed, after, run}
+use Rattle.bearer_defs.specs.chain_defs.Assumptions.{IsTaken, IsReady, IsAssumed, AreKept}
 use Rattle.law_downlink_order.proofs.chain.Frames.{set_here, set_far}
 use Rattle.proof_cu_up_orders.specs.chain_rows.Shown.{number_orders}
 use Rattle.proof_cu_up_orders.proofs.chain_rows.Numbering.{numbering_kept}
-use Rattle.proof_cu_up_orders.specs.context_orders.Orders.{UpPart, UpOrder, on_switch, on_status, on_resume}
+use Rattle.proof_cu_up_orders.specs.context_orders.Orders.{CuUpModel, ContextStep, on_switch, on_status, on_resume}
 use Rattle.proof_cu_up_orders.specs.context_orders.Orders as ups
 use Rattle.proof_cu_up_orders.specs.context_tests.Tests.{IsTested}
 use Rattle.proof_cu_up_orders.specs.down_orders.Down.{without_end, down_of, IsDown, serves_none, numbers_if, fresh_orders, numbered_order, confirms_if, confirmed_if, losses, item_orders, switch_orders, status_orders, control_orders, Stands, IsFit, IsAsked}
-use Rattle.proof_cu_up_orders.specs.kept.Down.{StandsFirst, ItemOwes, ControlOwes, Ended}
+use Rattle.proof_cu_up_orders.specs.kept.Down.{StandsFirst, ItemAssumes, ControlAssumes, Ended}
 
 unfrozen_one : (f g h : Bool) → f || g || h ≡ false → f ≡ false
 unfrozen_one false g h e = refl
@@ -41,7 +41,7 @@ some_still None = refl
 some_still (Some h) = refl
 
 -- what waits is numbered, where the context has its SN status
-numbers_kept : (x : ℕ) (at : UpAt) (t : Part) (n : Member) (c : UpBearer) → t.members x ≡ n → n.is_there ≡ true → n.flags ≡ at.flags
+numbers_kept : (x : ℕ) (at : CuUpScope) (t : Model) (n : Member) (c : CuUpBearer) → t.members x ≡ n → n.is_there ≡ true → n.flags ≡ at.flags
     → at.flags.may_serve ≡ true → down_of n.bearer ≡ down_of c → AreKept at.sn at.quota t (numbers_if x at c)
 unfolding AreKept
 numbers_kept x at t n c here there flags status same = by (serves_none at c) refl
@@ -49,22 +49,22 @@ numbers_kept x at t n c here there flags status same = by (serves_none at c) ref
     by : (k : Bool) → serves_none at c ≡ k → AreKept at.sn at.quota t (if k then [] else number_orders at.sn at.quota x c.waiting c.sender)
     by true e = tt
     by false e =
-        subst (λ (u : UpBearer). AreKept at.sn at.quota t (number_orders at.sn at.quota x u.waiting u.sender)) same
-        (numbering_kept at.sn at.quota x n.bearer.waiting t n here there (ap (λ (f : UpFlags). f.may_serve) flags ∙ status)
-        (ap (λ (f : UpFlags). f.frozen) flags ∙ unfrozen_one at.flags.frozen at.flags.released _ e) refl)
+        subst (λ (u : CuUpBearer). AreKept at.sn at.quota t (number_orders at.sn at.quota x u.waiting u.sender)) same
+        (numbering_kept at.sn at.quota x n.bearer.waiting t n here there (ap (λ (f : CuUpFlags). f.may_serve) flags ∙ status)
+        (ap (λ (f : CuUpFlags). f.frozen) flags ∙ unfrozen_one at.flags.frozen at.flags.released _ e) refl)
 
-module _ (s : Part) (x : ℕ) (p : UpPart) (is : IsDown (s.members x) p) where
+module _ (s : Model) (x : ℕ) (p : CuUpModel) (is : IsDown (s.members x) p) where
   abbrev m : Member
   m = s.members x
 
-  abbrev b : UpBearer
+  abbrev b : CuUpBearer
   b = p.bearer
 
-  abbrev Kept : Part → List Order → Type 0
+  abbrev Kept : Model → List ModelStep → Type 0
   Kept t os = AreKept p.at.sn p.at.quota t os
 
   frozen_is : (f : Bool) → p.at.flags.frozen ≡ f → m.flags.frozen ≡ f
-  frozen_is f e = ap (λ (g : UpFlags). g.frozen) is.flags ∙ e
+  frozen_is f e = ap (λ (g : CuUpFlags). g.frozen) is.flags ∙ e
 
   -- ---- items
 
@@ -81,14 +81,14 @@ module _ (s : Part) (x : ℕ) (p : UpPart) (is : IsDown (s.members x) p) where
     }
 
     -- the bearer has changed, and what waits is numbered
-    then_numbers : (t : Part) (n : Member) (c : UpBearer) → t.members x ≡ n → n.is_there ≡ true → n.flags ≡ p.at.flags → down_of n.bearer ≡ down_of c
+    then_numbers : (t : Model) (n : Member) (c : CuUpBearer) → t.members x ≡ n → n.is_there ≡ true → n.flags ≡ p.at.flags → down_of n.bearer ≡ down_of c
         → Kept t (numbers_if x p.at c)
     then_numbers t n c here there flags same = numbers_kept x p.at t n c here there flags unheld.1 same
 
-    fresh_kept : (packet : List ℕ) (on keeps : Order) (n : Member) → after s keeps ≡ changed s x (record n { bearer = waits m.bearer packet })
+    fresh_kept : (packet : List ℕ) (on keeps : ModelStep) (n : Member) → after s keeps ≡ changed s x (record n { bearer = waits m.bearer packet })
         → n.is_there ≡ true → n.flags ≡ p.at.flags
-        → (p.at.flags.frozen ≡ true → IsReady p.at.sn p.at.quota s on × IsOwed s on)
-        → (p.at.flags.frozen ≡ false → IsReady p.at.sn p.at.quota s keeps × IsOwed s keeps)
+        → (p.at.flags.frozen ≡ true → IsReady p.at.sn p.at.quota s on × IsAssumed s on)
+        → (p.at.flags.frozen ≡ false → IsReady p.at.sn p.at.quota s keeps × IsAssumed s keeps)
         → Kept s (fresh_orders x p.at b packet on keeps)
     unfolding AreKept
     fresh_kept packet on keeps n is_so there flags goes waits_here = by p.at.flags.frozen refl
@@ -100,17 +100,17 @@ module _ (s : Part) (x : ℕ) (p : UpPart) (is : IsDown (s.members x) p) where
             let k : Member = record n { bearer = waits m.bearer packet } in (
               h.0,
               h.1,
-              then_numbers (after s keeps) k (waits b packet) (ap (λ (t : Part). t.members x) is_so ∙ set_here s.members x k) there flags
-                  (ap (λ (u : UpBearer). waits u packet) is.bearer),
+              then_numbers (after s keeps) k (waits b packet) (ap (λ (t : Model). t.members x) is_so ∙ set_here s.members x k) there flags
+                  (ap (λ (u : CuUpBearer). waits u packet) is.bearer),
             )
 
     numbered_kept : Stands p → (count : ℕ) (packet : List ℕ) (rest : List Item) → IsTaken forwarding_down m.forwarded m (numbered count packet) rest
         → Kept s (numbered_order x p.at b count packet rest ∷ [])
-    unfolding AreKept IsReady IsOwed
+    unfolding AreKept IsReady IsAssumed
     numbered_kept stands count packet rest one = by p.at.flags.released refl (may_restore p.at.sn p.at.quota b.sender count) refl p.at.flags.frozen refl
       where
         room_is : (k : Bool) → may_restore p.at.sn p.at.quota b.sender count ≡ k → may_restore p.at.sn p.at.quota m.bearer.sender count ≡ k
-        room_is k e = ap (λ (u : UpBearer). may_restore p.at.sn p.at.quota u.sender count) is.bearer ∙ e
+        room_is k e = ap (λ (u : CuUpBearer). may_restore p.at.sn p.at.quota u.sender count) is.bearer ∙ e
 
         by : (r : Bool) → p.at.flags.released ≡ r → (k : Bool) → may_restore p.at.sn p.at.quota b.sender count ≡ k → (f : Bool) → p.at.flags.frozen ≡ f
             → Kept s ((if r || k then (if f then passes_numbered x count packet rest else sends x count packet rest) else drops x count packet rest) ∷ [])
@@ -118,20 +118,20 @@ module _ (s : Part) (x : ℕ) (p : UpPart) (is : IsDown (s.members x) p) where
         by true r k room false f = absurd (true≢false (sym r ∙ stands.passes f))
         by false r true room true f = ((one, frozen_is true f), tt, tt)
         by false r true room false f = ((one, frozen_is false f, room_is true room), tt, tt)
-        by false r false room f is_f = ((one, ap (λ (g : UpFlags). g.released) is.flags ∙ r, room_is false room), tt, tt)
+        by false r false room f is_f = ((one, ap (λ (g : CuUpFlags). g.released) is.flags ∙ r, room_is false room), tt, tt)
 
     -- ---- losses: all is sent again, unless the context is frozen
 
-    lost_kept : (t : Part) (n : Member) (c : UpBearer) → t.members x ≡ n → n.is_there ≡ true → n.flags ≡ p.at.flags → down_of n.bearer ≡ down_of c
+    lost_kept : (t : Model) (n : Member) (c : CuUpBearer) → t.members x ≡ n → n.is_there ≡ true → n.flags ≡ p.at.flags → down_of n.bearer ≡ down_of c
         → (lost : List (ℕ × ℕ)) → Kept t (losses x p.at.flags.frozen lost ++ numbers_if x p.at c)
-    unfolding AreKept IsReady IsOwed after
+    unfolding AreKept IsReady IsAssumed after
     lost_kept t n c here there flags same [] = then_numbers t n c here there flags same
     lost_kept t n c here there flags same (range ∷ ranges) = by p.at.flags.frozen refl
       where
         k : Member
         k = record (t.members x) { bearer = record (t.members x).bearer { loss_while_frozen = (t.members x).flags.frozen || (t.members x).bearer.loss_while_frozen } }
 
-        told : UpBearer
+        told : CuUpBearer
         told = record c { loss_while_frozen = p.at.flags.frozen || c.loss_while_frozen }
 
         there_then : (t.members x).is_there ≡ true
@@ -148,74 +148,74 @@ module _ (s : Part) (x : ℕ) (p : UpPart) (is : IsDown (s.members x) p) where
         k_here : (changed t x k).members x ≡ k
         k_here = set_here t.members x k
 
-        by : (f : Bool) → p.at.flags.frozen ≡ f → Kept t ((tells_loss x ∷ (if f then [] else sends_again x ∷ [])) ++ numbers_if x p.at c)
-        by true f = (there_then, tt, then_numbers (after t (tells_loss x)) k told k_here there_then flags_then same_then)
+        by : (f : Bool) → p.at.flags.frozen ≡ f → Kept t ((reports_loss x ∷ (if f then [] else sends_again x ∷ [])) ++ numbers_if x p.at c)
+        by true f = (there_then, tt, then_numbers (after t (reports_loss x)) k told k_here there_then flags_then same_then)
         by false f = (
           there_then,
           tt,
           (
-            (ap (λ (q : Member). q.is_there) k_here ∙ there_then, ap (λ (q : Member). q.flags.frozen) k_here ∙ ap (λ (g : UpFlags). g.frozen) flags_then ∙ f),
+            (ap (λ (q : Member). q.is_there) k_here ∙ there_then, ap (λ (q : Member). q.flags.frozen) k_here ∙ ap (λ (g : CuUpFlags). g.frozen) flags_then ∙ f),
             tt,
-            then_numbers (after (after t (tells_loss x)) (sends_again x)) k told k_here there_then flags_then same_then,
+            then_numbers (after (after t (reports_loss x)) (sends_again x)) k told k_here there_then flags_then same_then,
           ),
         )
 
-    status_kept : (lost : List (ℕ × ℕ)) (delivered : Option ℕ) → ItemOwes {P = P} s x f1u_uplink (status_item lost delivered)
+    status_kept : (lost : List (ℕ × ℕ)) (delivered : Option ℕ) → ItemAssumes {P = P} s x f1u_uplink (status_item lost delivered)
         → Kept s (confirms_if x delivered ++ losses x p.at.flags.frozen lost ++ numbers_if x p.at (confirmed_if delivered b))
     unfolding AreKept IsReady after
-    status_kept lost None owed = lost_kept s m b refl is.there is.flags is.bearer lost
-    status_kept lost (Some count) owed =
+    status_kept lost None assumed = lost_kept s m b refl is.there is.flags is.bearer lost
+    status_kept lost (Some count) assumed =
         let k : Member = record m { bearer = record m.bearer { sender = confirmed_to m.bearer.sender count } } in (
           is.there,
-          owed,
+          assumed,
           lost_kept (changed s x k) k (record b { sender = confirmed_to b.sender count }) (set_here s.members x k) is.there is.flags
-              (ap (λ (u : UpBearer). record u { sender = confirmed_to u.sender count }) is.bearer) lost,
+              (ap (λ (u : CuUpBearer). record u { sender = confirmed_to u.sender count }) is.bearer) lost,
         )
 
   pub item_kept : {P : Type 0} → Stands p → (kind : TunnelKind) (item : Taken P) (rest : List Item) → IsFit p kind item
-      → held_reason p.at b kind item ≡ None → StandsFirst m rest kind item → ItemOwes s x kind item → Kept s (item_orders x p rest kind item)
-  unfolding AreKept IsReady IsOwed after
-  item_kept stands n3 (fresh_item packet) rest fit passes (open_, first) owed =
+      → held_reason p.at b kind item ≡ None → StandsFirst m rest kind item → ItemAssumes s x kind item → Kept s (item_orders x p rest kind item)
+  unfolding AreKept IsReady IsAssumed after
+  item_kept stands n3 (fresh_item packet) rest fit passes (open_, first) assumed =
       let one = taken n3 (fresh_item packet) passes m.n3 (fresh packet) rest first in
       fresh_kept n3 (fresh_item packet) passes packet (passes_n3 x packet rest) (keeps_n3 x packet rest) (record m { n3 = rest }) refl is.there is.flags
       (λ f. (((open_, one), frozen_is true f), tt)) (λ f. (((open_, one), frozen_is false f), tt))
-  item_kept stands n3 end_item rest fit passes (open_, first) owed =
+  item_kept stands n3 end_item rest fit passes (open_, first) assumed =
       let hop = stands.hop fit.0 in (
         (
           (open_, taken n3 end_item passes m.n3 end_marker rest first),
-          sym (some_still m.bearer.hop) ∙ ap (λ (u : UpBearer). is_some u.hop) is.bearer ∙ some_still b.hop ∙ ap (λ (o : Option SourceHop). is_some o) hop.1,
+          sym (some_still m.bearer.hop) ∙ ap (λ (u : CuUpBearer). is_some u.hop) is.bearer ∙ some_still b.hop ∙ ap (λ (o : Option SourceHop). is_some o) hop.1,
         ),
         tt,
         tt,
       )
-  item_kept stands forwarding_down (fresh_item packet) rest fit passes first owed =
+  item_kept stands forwarding_down (fresh_item packet) rest fit passes first assumed =
       let one = taken forwarding_down (fresh_item packet) passes m.forwarded (fresh packet) rest first in
       fresh_kept forwarding_down (fresh_item packet) passes packet (passes_fresh x packet rest) (keeps_fresh x packet rest) (record m { forwarded = rest }) refl
       is.there is.flags (λ f. ((one, frozen_is true f), tt)) (λ f. ((one, frozen_is false f), tt))
-  item_kept stands forwarding_down (numbered_item (Some count) packet) rest fit passes first owed =
+  item_kept stands forwarding_down (numbered_item (Some count) packet) rest fit passes first assumed =
       numbered_kept forwarding_down (numbered_item (Some count) packet) passes stands count packet rest
       (taken forwarding_down (numbered_item (Some count) packet) passes m.forwarded (numbered count packet) rest first)
-  item_kept stands forwarding_down end_item rest fit passes first owed =
+  item_kept stands forwarding_down end_item rest fit passes first assumed =
       (taken forwarding_down end_item passes m.forwarded end_marker rest first, tt, tt)
-  item_kept stands f1u_uplink (uplink_item (report_content fmc bits)) rest fit passes first owed =
+  item_kept stands f1u_uplink (uplink_item (report_content fmc bits)) rest fit passes first assumed =
       let k : Member = record m { bearer = record m.bearer { sender = confirmed_by m.bearer.sender fmc bits } } in (
         is.there,
-        owed,
+        assumed,
         then_numbers f1u_uplink (uplink_item (report_content fmc bits)) passes (changed s x k) k (record b { sender = confirmed_by b.sender fmc bits })
-            (set_here s.members x k) is.there is.flags (ap (λ (u : UpBearer). record u { sender = confirmed_by u.sender fmc bits }) is.bearer),
+            (set_here s.members x k) is.there is.flags (ap (λ (u : CuUpBearer). record u { sender = confirmed_by u.sender fmc bits }) is.bearer),
       )
-  item_kept stands f1u_uplink (status_item lost delivered) rest fit passes first owed =
-      status_kept f1u_uplink (status_item lost delivered) passes lost delivered owed
-  item_kept stands kind item rest fit passes first owed = absurd fit
+  item_kept stands f1u_uplink (status_item lost delivered) rest fit passes first assumed =
+      status_kept f1u_uplink (status_item lost delivered) passes lost delivered assumed
+  item_kept stands kind item rest fit passes first assumed = absurd fit
 
   -- ---- control
 
-  switch_kept : (epoch : ℕ) (du : NodeId) (teid : ℕ) → IsOwed s (switches x (record { du = du; teid = teid; next = 0 }) epoch)
+  switch_kept : (epoch : ℕ) (du : NodeId) (teid : ℕ) → IsAssumed s (switches x (record { du = du; teid = teid; next = 0 }) epoch)
       → Kept s (switch_orders x epoch du teid p)
   unfolding AreKept IsReady after
-  switch_kept epoch du teid owed = (is.there, owed, by p.at.flags.may_serve refl)
+  switch_kept epoch du teid assumed = (is.there, assumed, by p.at.flags.may_serve refl)
     where
-      downlink : Downlink
+      downlink : DownlinkTunnel
       downlink = record { du = du; teid = teid; next = 0 }
 
       n : Member
@@ -225,19 +225,19 @@ module _ (s : Part) (x : ℕ) (p : UpPart) (is : IsDown (s.members x) p) where
           → Kept (after s (switches x downlink epoch)) (if t then numbers_if x (on_switch p).at (on_downlink b downlink) else [])
       by true e =
           numbers_kept x (on_switch p).at (after s (switches x downlink epoch)) n (on_downlink b downlink) (set_here s.members x n) is.there
-          (ap (λ (f : UpFlags). record f { frozen = false; arrived = true }) is.flags) e
-          (ap (λ (u : UpBearer). record u { hop = None; loss_while_frozen = false; taken_while_frozen = []; downlink = Some (record downlink { next = 0 }) }) is.bearer)
+          (ap (λ (f : CuUpFlags). record f { frozen = false; arrived = true }) is.flags) e
+          (ap (λ (u : CuUpBearer). record u { hop = None; loss_while_frozen = false; taken_while_frozen = []; downlink = Some (record downlink { next = 0 }) }) is.bearer)
       by false e = tt
 
-  sn_status_kept : (status : SnStatus) → p.at.flags.may_serve ≡ false → (p.at.flags.arrived ≡ true → p.at.flags.frozen ≡ false) → IsOwed s (knows x status)
+  sn_status_kept : (status : SnStatus) → p.at.flags.may_serve ≡ false → (p.at.flags.arrived ≡ true → p.at.flags.frozen ≡ false) → IsAssumed s (knows x status)
       → Kept s (status_orders x status p)
-  unfolding AreKept IsReady IsOwed after
-  sn_status_kept status none asked owed = ((is.there, ap (λ (f : UpFlags). f.may_serve) is.flags ∙ none), owed, by p.at.flags.arrived refl)
+  unfolding AreKept IsReady IsAssumed after
+  sn_status_kept status none asked assumed = ((is.there, ap (λ (f : CuUpFlags). f.may_serve) is.flags ∙ none), assumed, by p.at.flags.arrived refl)
     where
       n : Member
       n = record m { flags = record m.flags { may_serve = true }; bearer = known m.bearer status }
 
-      t : Part
+      t : Model
       t = changed s x n
 
       here : t.members x ≡ n
@@ -248,39 +248,39 @@ module _ (s : Part) (x : ℕ) (p : UpPart) (is : IsDown (s.members x) p) where
         (ap (λ (q : Member). q.is_there) here ∙ is.there, ap (λ (q : Member). q.flags.frozen) here ∙ frozen_is false (asked e)),
         tt,
         numbers_kept x (on_status p).at (after t (sends_again x)) n (known b status) here is.there
-            (ap (λ (f : UpFlags). record f { may_serve = true }) is.flags) refl
-            (ap (λ (u : UpBearer). record u { dl_next = status.dl_next; sender = record u.sender { next = status.dl_next } }) is.bearer),
+            (ap (λ (f : CuUpFlags). record f { may_serve = true }) is.flags) refl
+            (ap (λ (u : CuUpBearer). record u { dl_next = status.dl_next; sender = record u.sender { next = status.dl_next } }) is.bearer),
       )
       by false e = tt
 
-  resume_kept : p.at.flags.frozen ≡ true → p.at.flags.may_serve ≡ true → IsOwed s (resumes x)
+  resume_kept : p.at.flags.frozen ≡ true → p.at.flags.may_serve ≡ true → IsAssumed s (resumes x)
       → Kept s (resumes x ∷ numbers_if x (on_resume p).at (thawed b))
   unfolding AreKept IsReady after
-  resume_kept f status owed =
+  resume_kept f status assumed =
       let n : Member = record m { flags = record m.flags { frozen = false }; bearer = thawed m.bearer } in (
         (is.there, frozen_is true f),
-        owed,
+        assumed,
         numbers_kept x (on_resume p).at (after s (resumes x)) n (thawed b) (set_here s.members x n) is.there
-            (ap (λ (g : UpFlags). record g { frozen = false }) is.flags) status (ap (λ (u : UpBearer). thawed u) is.bearer),
+            (ap (λ (g : CuUpFlags). record g { frozen = false }) is.flags) status (ap (λ (u : CuUpBearer). thawed u) is.bearer),
       )
 
-  pub control_kept : {P : Type 0} → (p.at.flags.frozen ≡ true → p.at.flags.may_serve ≡ true) → (epoch : ℕ) (final : Bool) (order : UpOrder P)
-      → IsTested final p order → IsAsked p order → ControlOwes s x epoch order → Kept s (control_orders x epoch p order)
+  pub control_kept : {P : Type 0} → (p.at.flags.frozen ≡ true → p.at.flags.may_serve ≡ true) → (epoch : ℕ) (final : Bool) (order : ContextStep P)
+      → IsTested final p order → IsAsked p order → ControlAssumes s x epoch order → Kept s (control_orders x epoch p order)
   unfolding AreKept IsReady
-  control_kept known epoch final (ups.switches du teid) tested asked owed = switch_kept epoch du teid owed
-  control_kept known epoch final (ups.knows status) tested asked owed = sn_status_kept status tested (λ e. (asked e).0) owed
-  control_kept known epoch final ups.resumes tested asked owed = resume_kept tested.0 (known tested.0) owed
-  control_kept known epoch final ups.releases tested asked owed = (is.there, owed, tt)
-  control_kept known epoch final order tested asked owed = tt
+  control_kept known epoch final (ups.switches du teid) tested asked assumed = switch_kept epoch du teid assumed
+  control_kept known epoch final (ups.knows status) tested asked assumed = sn_status_kept status tested (λ e. (asked e).0) assumed
+  control_kept known epoch final ups.resumes tested asked assumed = resume_kept tested.0 (known tested.0) assumed
+  control_kept known epoch final ups.releases tested asked assumed = (is.there, assumed, tt)
+  control_kept known epoch final order tested asked assumed = tt
 
-  pub freeze_kept : p.at.flags.frozen ≡ false → p.at.flags.may_serve ≡ true → (to : ℕ) (hop : SourceHop) → IsOwed s (freezes x to hop)
+  pub freeze_kept : p.at.flags.frozen ≡ false → p.at.flags.may_serve ≡ true → (to : ℕ) (hop : SourceHop) → IsAssumed s (freezes x to hop)
       → Kept s (freezes x to hop ∷ [])
   unfolding AreKept IsReady
-  freeze_kept f status to hop owed = ((is.there, ap (λ (g : UpFlags). g.may_serve) is.flags ∙ status, frozen_is false f), owed, tt)
+  freeze_kept f status to hop assumed = ((is.there, ap (λ (g : CuUpFlags). g.may_serve) is.flags ∙ status, frozen_is false f), assumed, tt)
 
 -- ---- a context ends
 
-pub end_is : (s : Part) (x : ℕ) → Ended s (run s (closes x ∷ [])) x
+pub end_is : (s : Model) (x : ℕ) → Ended s (run s (closes x ∷ [])) x
 unfolding run after
 end_is s x = record {
   here = set_here s.members x no_member;
@@ -288,6 +288,6 @@ end_is s x = record {
   rest = (refl, refl, refl, refl, refl, refl, refl);
 }
 
-pub end_kept : (sn : SnBits) (quota : ℕ) (s : Part) (x : ℕ) → IsOwed s (closes x) → AreKept sn quota s (closes x ∷ [])
+pub end_kept : (sn : SnBits) (quota : ℕ) (s : Model) (x : ℕ) → IsAssumed s (closes x) → AreKept sn quota s (closes x ∷ [])
 unfolding AreKept IsReady
-end_kept sn quota s x owed = (tt, owed, tt)
+end_kept sn quota s x assumed = (tt, assumed, tt)

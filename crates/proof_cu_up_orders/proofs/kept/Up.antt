@@ -4,18 +4,18 @@ use Rattle.gnb_types.specs.declared.plans.SnStatus.{SnStatus}
 use Rattle.gnb_types.specs.declared.reasons.HeldReason.{HeldReason}
 use Rattle.gnb_types.specs.declared.reasons.HeldReason.TheVariants.{NoStatus, NotArrived, Early}
 use Rattle.unit_defs.specs.Ways.{packet_content, Taken, numbered_item, uplink_item, end_item}
-use Rattle.unit_defs.specs.UpRecords.{UpBearer, UpFlags, SourceHop, TunnelKind, f1u_uplink, forwarding_up}
-use Rattle.unit_defs.specs.UpBearers.{is_closed, no_uplink}
-use Rattle.unit_defs.specs.UpItems.{first_held, held_as_target, held_by_room, held_reason}
-use Rattle.bearer_defs.specs.uplink_defs.Parts.{Item, numbered, end_marker, uplink_tunnel, forwarding, Member, Part, no_member}
+use Rattle.unit_defs.specs.CuUpRecords.{CuUpBearer, CuUpFlags, SourceHop, TunnelKind, f1u_uplink, forwarding_up}
+use Rattle.unit_defs.specs.CuUpBearers.{is_closed, no_uplink}
+use Rattle.unit_defs.specs.CuUpItems.{first_held, held_as_target, held_by_room, held_reason}
+use Rattle.bearer_defs.specs.uplink_defs.Models.{Item, numbered, end_marker, uplink_tunnel, forwarding, Member, Model, no_member}
 use Rattle.bearer_defs.specs.uplink_defs.Orders.{freezes, knows, resumes, closes, discards, is_hop_up_done, after, run}
-use Rattle.bearer_defs.specs.uplink_defs.Guards.{IsOpen, IsTaken, IsReady, IsOwed, AreKept}
+use Rattle.bearer_defs.specs.uplink_defs.Assumptions.{IsOpen, IsTaken, IsReady, IsAssumed, AreKept}
 use Rattle.law_downlink_order.proofs.chain.Frames.{set_here, set_far}
-use Rattle.proof_cu_up_orders.specs.context_orders.Orders.{UpPart, UpOrder}
+use Rattle.proof_cu_up_orders.specs.context_orders.Orders.{CuUpModel, ContextStep}
 use Rattle.proof_cu_up_orders.specs.context_orders.Orders as ups
 use Rattle.proof_cu_up_orders.specs.context_tests.Tests.{IsOver, IsTested}
 use Rattle.proof_cu_up_orders.specs.orders.Up.{IsUp, item_orders, status_orders, control_orders, IsFit}
-use Rattle.proof_cu_up_orders.specs.kept.Up.{StandsFirst, ControlOwes, Ended}
+use Rattle.proof_cu_up_orders.specs.kept.Up.{StandsFirst, ControlAssumes, Ended}
 
 tests_passed : (s a e : Bool) (room : List (Bool × HeldReason))
     → first_held (((not s, NoStatus) ∷ (not a, NotArrived) ∷ (e, Early) ∷ []) ++ room) ≡ None
@@ -34,11 +34,11 @@ up_over true true true false u h = absurd cc
 up_over true false t d u h = absurd cc
 up_over false b t d u h = absurd cc
 
-module _ (s : Part) (x : ℕ) (p : UpPart) (is : IsUp (s.members x) p) where
+module _ (s : Model) (x : ℕ) (p : CuUpModel) (is : IsUp (s.members x) p) where
   abbrev m : Member
   m = s.members x
 
-  abbrev b : UpBearer
+  abbrev b : CuUpBearer
   b = p.bearer
 
   -- ---- items
@@ -67,7 +67,7 @@ module _ (s : Part) (x : ℕ) (p : UpPart) (is : IsUp (s.members x) p) where
 
   pub item_kept : {P : Type 0} (kind : TunnelKind) (teid : ℕ) (item : Taken P) (rest : List Item) → IsFit p kind item
       → held_reason p.at b kind item ≡ None → StandsFirst m rest kind teid item → AreKept s (item_orders x rest kind teid item)
-  unfolding AreKept IsReady IsOwed
+  unfolding AreKept IsReady IsAssumed
   item_kept f1u_uplink teid (uplink_item (packet_content (Some count) packet)) rest fit passes (open_, first) =
       (from_uplink (uplink_item (packet_content (Some count) packet)) teid (numbered count packet) rest passes open_ first, tt, tt)
   item_kept f1u_uplink teid end_item rest fit passes (open_, first) = (from_uplink end_item teid end_marker rest passes open_ first, tt, tt)
@@ -78,47 +78,47 @@ module _ (s : Part) (x : ℕ) (p : UpPart) (is : IsUp (s.members x) p) where
 
   -- ---- control
 
-  sn_status_kept : (status : SnStatus) → p.at.flags.may_serve ≡ false → IsOwed s (knows x status) → (p.at.flags.arrived ≡ true → x ≡ s.station)
+  sn_status_kept : (status : SnStatus) → p.at.flags.may_serve ≡ false → IsAssumed s (knows x status) → (p.at.flags.arrived ≡ true → x ≡ s.station)
       → AreKept s (status_orders x status p)
-  unfolding AreKept IsReady IsOwed after
-  sn_status_kept status none owed station = (ap (λ (f : UpFlags). f.may_serve) is.flags ∙ none, owed, by p.at.flags.arrived refl)
+  unfolding AreKept IsReady IsAssumed after
+  sn_status_kept status none assumed station = (ap (λ (f : CuUpFlags). f.may_serve) is.flags ∙ none, assumed, by p.at.flags.arrived refl)
     where
       by : (a : Bool) → p.at.flags.arrived ≡ a → AreKept (after s (knows x status)) (if a then resumes x ∷ [] else [])
       by true e = (tt, station e, tt)
       by false e = tt
 
-  pub control_kept : {P : Type 0} (final : Bool) (order : UpOrder P) → IsTested final p order → ControlOwes s x p order
+  pub control_kept : {P : Type 0} (final : Bool) (order : ContextStep P) → IsTested final p order → ControlAssumes s x p order
       → AreKept s (control_orders x p order)
   unfolding AreKept IsReady
-  control_kept final (ups.adds teid) tested owed = (tt, owed, tt)
-  control_kept final (ups.switches du teid) tested owed = (tt, owed, tt)
-  control_kept final (ups.knows status) tested owed = sn_status_kept status tested owed.0 owed.1
-  control_kept final ups.resumes tested owed = (tt, owed, tt)
-  control_kept final ups.releases tested owed = (tt, owed, tt)
-  control_kept final order tested owed = tt
+  control_kept final (ups.adds teid) tested assumed = (tt, assumed, tt)
+  control_kept final (ups.switches du teid) tested assumed = (tt, assumed, tt)
+  control_kept final (ups.knows status) tested assumed = sn_status_kept status tested assumed.0 assumed.1
+  control_kept final ups.resumes tested assumed = (tt, assumed, tt)
+  control_kept final ups.releases tested assumed = (tt, assumed, tt)
+  control_kept final order tested assumed = tt
 
-  pub freeze_kept : p.at.flags.may_serve ≡ true → p.at.flags.arrived ≡ true → (to : ℕ) (hop : SourceHop) → IsOwed s (freezes x to hop)
+  pub freeze_kept : p.at.flags.may_serve ≡ true → p.at.flags.arrived ≡ true → (to : ℕ) (hop : SourceHop) → IsAssumed s (freezes x to hop)
       → AreKept s (freezes x to hop ∷ [])
   unfolding AreKept IsReady
-  freeze_kept status arrived to hop owed =
-      ((ap (λ (f : UpFlags). f.may_serve) is.flags ∙ status, ap (λ (f : UpFlags). f.arrived) is.flags ∙ arrived), owed, tt)
+  freeze_kept status arrived to hop assumed =
+      ((ap (λ (f : CuUpFlags). f.may_serve) is.flags ∙ status, ap (λ (f : CuUpFlags). f.arrived) is.flags ∙ arrived), assumed, tt)
 
   -- ---- the end of a context where nothing comes any more
 
   pub close_kept : IsOver p → AreKept s (closes x ∷ [])
-  unfolding AreKept IsReady IsOwed
+  unfolding AreKept IsReady IsAssumed
   close_kept over =
       let h = up_over (is_closed b.n3) (no_uplink b.uplinks) p.at.flags.target b.down_ended b.up_ended over.1 in (
         (
-          ap (λ (f : UpFlags). f.released) is.flags ∙ over.0,
-          ap (λ (u : UpBearer). no_uplink u.uplinks) is.bearer ∙ h.0,
+          ap (λ (f : CuUpFlags). f.released) is.flags ∙ over.0,
+          ap (λ (u : CuUpBearer). no_uplink u.uplinks) is.bearer ∙ h.0,
           (λ i. is_hop_up_done (is.flags i) (is.bearer i)) ∙ h.1,
         ),
         tt,
         tt,
       )
 
-module _ (s : Part) (x : ℕ) where
+module _ (s : Model) (x : ℕ) where
   pub end_is : Ended s (run s (closes x ∷ [])) x
   unfolding run after
   end_is = record {
@@ -135,6 +135,6 @@ module _ (s : Part) (x : ℕ) where
     rest = (refl, refl, refl, refl, refl, refl, refl, refl);
   }
 
-  pub discard_kept : IsOwed s (discards x) → AreKept s (discards x ∷ [])
+  pub discard_kept : IsAssumed s (discards x) → AreKept s (discards x ∷ [])
   unfolding AreKept IsReady
-  discard_kept owed = (tt, owed, tt)
+  discard_kept assumed = (tt, assumed, tt)

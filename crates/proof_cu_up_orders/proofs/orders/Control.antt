@@ -6,24 +6,24 @@ use Rattle.gnb_types.specs.declared.names.SnBits.{SnBits}
 use Rattle.gnb_types.specs.declared.plans.SnStatus.{SnStatus}
 use Rattle.pdcp_defs.specs.Receivers.{Receiver, Delivery, deliver}
 use Rattle.unit_defs.specs.Ways.{Pdu, Way, Answer, gives, spent}
-use Rattle.unit_defs.specs.UpRecords.{UpBearer, UpFlags, SourceHop}
-use Rattle.unit_defs.specs.UpBearers.{has_downlink, with_uplink, switched, frozen_to, with_status, resumed, thawed, released}
-use Rattle.bearer_defs.specs.chain_defs.Parts.{set}
+use Rattle.unit_defs.specs.CuUpRecords.{CuUpBearer, CuUpFlags, SourceHop}
+use Rattle.unit_defs.specs.CuUpBearers.{has_downlink, with_uplink, switched, frozen_to, with_status, resumed, thawed, released}
+use Rattle.bearer_defs.specs.chain_defs.Models.{set}
 use Rattle.bearer_defs.specs.chain_defs.Orders.{frozen, known, on_downlink}
-use Rattle.bearer_defs.specs.uplink_defs.Parts.{Item, Member, Part}
+use Rattle.bearer_defs.specs.uplink_defs.Models.{Item, Member, Model}
 use Rattle.bearer_defs.specs.uplink_defs.Orders.{adds, freezes, knows, switches, resumes, releases, late, changed, handed, after, run}
 use Rattle.law_downlink_order.proofs.chain.Frames.{set_here, set_far}
 use Rattle.proof_cu_up_orders.specs.uplink_rows.Shown.{items_of, delivered_in, Gives}
 use Rattle.proof_cu_up_orders.proofs.uplink_rows.Rows.{freezes as freeze_gives}
 use Rattle.proof_cu_up_orders.specs.handover_rows.Shown.{Does, handed_up}
 use Rattle.proof_cu_up_orders.proofs.handover_rows.Rows.{switch_begins, switch_waits, status_begins, status_waits, resume_sends}
-use Rattle.proof_cu_up_orders.specs.context_orders.Orders.{UpPart, UpOrder, on_switch, on_freeze, on_status, on_resume, on_release, kept_in, done}
+use Rattle.proof_cu_up_orders.specs.context_orders.Orders.{CuUpModel, ContextStep, on_switch, on_freeze, on_status, on_resume, on_release, kept_in, done}
 use Rattle.proof_cu_up_orders.specs.context_orders.Orders as ups
 use Rattle.proof_cu_up_orders.specs.orders.Up.{up_of, IsUp, status_orders, control_orders, Went, Shows, IsAsked, ShowsFrozen}
 use Rattle.proof_cu_up_orders.proofs.orders.Items.{went_kept, went_handed}
 
 -- what the receiver hands up, after an order that passed nothing on
-went_later : (s t : Part) (x : ℕ) (m : Member) → Went s t x m [] [] → (k : Member) → k.next_hop ≡ m.next_hop → (d : Delivery (List ℕ))
+went_later : (s t : Model) (x : ℕ) (m : Member) → Went s t x m [] [] → (k : Member) → k.next_hop ≡ m.next_hop → (d : Delivery (List ℕ))
     → Went s (handed t x k d) x (record k { bearer = record k.bearer { receiver = d.after } }) [] d.packets
 went_later s t x m w k hop d =
     let n : Member = record k { bearer = record k.bearer { receiver = d.after } } in record {
@@ -35,14 +35,14 @@ went_later s t x m w k hop d =
       rest = w.rest;
     }
 
-module _ {M C P : Type 0} (way : Way M C P) (s : Part) (x : ℕ) (p : UpPart) (is : IsUp (s.members x) p) where
+module _ {M C P : Type 0} (way : Way M C P) (s : Model) (x : ℕ) (p : CuUpModel) (is : IsUp (s.members x) p) where
   abbrev m : Member
   m = s.members x
 
-  abbrev b : UpBearer
+  abbrev b : CuUpBearer
   b = p.bearer
 
-  shown_row : (q : UpPart) (t : Part) (n : Member) (sn : SnBits) (pdus : List Pdu) (packets : List (ℕ × List ℕ)) (c : UpBearer) (a : Answer M P UpBearer)
+  shown_row : (q : CuUpModel) (t : Model) (n : Member) (sn : SnBits) (pdus : List Pdu) (packets : List (ℕ × List ℕ)) (c : CuUpBearer) (a : Answer M P CuUpBearer)
       → n.is_there ≡ true → n.flags ≡ q.at.flags → up_of n.bearer ≡ up_of c → Went s t x n [] packets → Does way sn pdus packets c a
       → Shows s t x (kept_in q a)
   unfolding Does
@@ -55,7 +55,7 @@ module _ {M C P : Type 0} (way : Way M C P) (s : Part) (x : ℕ) (p : UpPart) (i
   }
 
   receivers : m.bearer.receiver ≡ b.receiver
-  receivers = ap (λ (u : UpBearer). u.receiver) is.bearer
+  receivers = ap (λ (u : CuUpBearer). u.receiver) is.bearer
 
   went_up : (k : Member) → Went s (handed s x k (deliver m.bearer.receiver)) x
       (record k { bearer = record k.bearer { receiver = (deliver m.bearer.receiver).after } }) [] (deliver b.receiver).packets
@@ -64,7 +64,7 @@ module _ {M C P : Type 0} (way : Way M C P) (s : Part) (x : ℕ) (p : UpPart) (i
       (went_handed s x k (deliver m.bearer.receiver))
 
   thawed_up : up_of (record (thawed m.bearer) { receiver = (deliver m.bearer.receiver).after }) ≡ up_of (handed_up (thawed b))
-  thawed_up = ap (λ (u : UpBearer). record u { hop = None; receiver = (deliver u.receiver).after }) is.bearer
+  thawed_up = ap (λ (u : CuUpBearer). record u { hop = None; receiver = (deliver u.receiver).after }) is.bearer
 
   -- ---- switch and resume
 
@@ -73,14 +73,14 @@ module _ {M C P : Type 0} (way : Way M C P) (s : Part) (x : ℕ) (p : UpPart) (i
   unfolding run after
   switch_shows du teid kept = by p.at.flags.may_serve refl
     where
-      on : UpPart
+      on : CuUpModel
       on = on_switch p
 
       k : Member
       k = record m { flags = record m.flags { frozen = false; arrived = true }; bearer = thawed m.bearer }
 
       flags : k.flags ≡ on.at.flags
-      flags = ap (λ (f : UpFlags). record f { frozen = false; arrived = true }) is.flags
+      flags = ap (λ (f : CuUpFlags). record f { frozen = false; arrived = true }) is.flags
 
       by : (t : Bool) → p.at.flags.may_serve ≡ t → Shows s (handed s x k (deliver m.bearer.receiver)) x (kept_in on (switched way on.at du teid b))
       by true e = shown_row on (handed s x k (deliver m.bearer.receiver)) (record k { bearer = record k.bearer { receiver = (deliver m.bearer.receiver).after } })
@@ -95,10 +95,10 @@ module _ {M C P : Type 0} (way : Way M C P) (s : Part) (x : ℕ) (p : UpPart) (i
   unfolding run after
   resume_shows kept there =
       shown_row on (handed s x k (deliver m.bearer.receiver)) (record k { bearer = record k.bearer { receiver = (deliver m.bearer.receiver).after } })
-      on.at.sn _ (deliver b.receiver).packets _ (resumed way on.at b) is.there (ap (λ (f : UpFlags). record f { frozen = false }) is.flags) thawed_up
+      on.at.sn _ (deliver b.receiver).packets _ (resumed way on.at b) is.there (ap (λ (f : CuUpFlags). record f { frozen = false }) is.flags) thawed_up
       (went_up k) (resume_sends way on.at b refl kept there)
     where
-      on : UpPart
+      on : CuUpModel
       on = on_resume p
 
       k : Member
@@ -111,13 +111,13 @@ module _ {M C P : Type 0} (way : Way M C P) (s : Part) (x : ℕ) (p : UpPart) (i
   unfolding run after
   status_shows status fit = by p.at.flags.arrived refl
     where
-      on : UpPart
+      on : CuUpModel
       on = on_status p
 
       n : Member
       n = record m { flags = record m.flags { may_serve = true }; bearer = known m.bearer status }
 
-      t1 : Part
+      t1 : Model
       t1 = changed s x n
 
       exact : t1.members x ≡ n
@@ -127,19 +127,19 @@ module _ {M C P : Type 0} (way : Way M C P) (s : Part) (x : ℕ) (p : UpPart) (i
       k = record (t1.members x) { flags = record (t1.members x).flags { frozen = false }; bearer = thawed (t1.members x).bearer }
 
       flags : n.flags ≡ on.at.flags
-      flags = ap (λ (f : UpFlags). record f { may_serve = true }) is.flags
+      flags = ap (λ (f : CuUpFlags). record f { may_serve = true }) is.flags
 
       given : up_of n.bearer ≡ up_of (known b status)
-      given = ap (λ (u : UpBearer). record u { receiver = record u.receiver { deliv = status.ul_first } }) is.bearer
+      given = ap (λ (u : CuUpBearer). record u { receiver = record u.receiver { deliv = status.ul_first } }) is.bearer
 
       packets : (deliver (t1.members x).bearer.receiver).packets ≡ (deliver (known b status).receiver).packets
-      packets = ap (λ (c : Member). (deliver c.bearer.receiver).packets) exact ∙ ap (λ (u : UpBearer). (deliver u.receiver).packets) given
+      packets = ap (λ (c : Member). (deliver c.bearer.receiver).packets) exact ∙ ap (λ (u : CuUpBearer). (deliver u.receiver).packets) given
 
       -- it has no hop, and isn't frozen
       serving : b.hop ≡ None → up_of (record k.bearer { receiver = (deliver (t1.members x).bearer.receiver).after }) ≡ up_of (handed_up (known b status))
       serving none =
           ap (λ (c : Member). up_of (record (thawed c.bearer) { receiver = (deliver c.bearer.receiver).after })) exact
-          ∙ ap (λ (u : UpBearer). record u { hop = None; receiver = (deliver u.receiver).after }) given
+          ∙ ap (λ (u : CuUpBearer). record u { hop = None; receiver = (deliver u.receiver).after }) given
           ∙ ap (λ (h : Option SourceHop). record (up_of (handed_up (known b status))) { hop = h }) (sym none)
 
       by : (t : Bool) → p.at.flags.arrived ≡ t → Shows s (run s (knows x status ∷ (if t then resumes x ∷ [] else []))) x
@@ -149,7 +149,7 @@ module _ {M C P : Type 0} (way : Way M C P) (s : Part) (x : ℕ) (p : UpPart) (i
           shown_row on (handed t1 x k (deliver (t1.members x).bearer.receiver))
           (record k { bearer = record k.bearer { receiver = (deliver (t1.members x).bearer.receiver).after } }) on.at.sn _
           (deliver (known b status).receiver).packets _ (with_status way on.at status b) (ap (λ (c : Member). c.is_there) exact ∙ is.there)
-          (ap (λ (c : Member). record c.flags { frozen = false }) exact ∙ ap (λ (f : UpFlags). record f { frozen = false }) flags
+          (ap (λ (c : Member). record c.flags { frozen = false }) exact ∙ ap (λ (f : CuUpFlags). record f { frozen = false }) flags
           ∙ ap (λ (f : Bool). record on.at.flags { frozen = f }) (sym serves.0)) (serving serves.3)
           (subst (λ (es : List (ℕ × List ℕ)). Went s (handed t1 x k (deliver (t1.members x).bearer.receiver)) x
           (record k { bearer = record k.bearer { receiver = (deliver (t1.members x).bearer.receiver).after } }) [] es) packets
@@ -169,8 +169,8 @@ module _ {M C P : Type 0} (way : Way M C P) (s : Part) (x : ℕ) (p : UpPart) (i
         member = n;
         is = record {
           there = is.there;
-          flags = ap (λ (f : UpFlags). record f { released = true }) is.flags;
-          bearer = ap (λ (u : UpBearer). record u { receiver = record u.receiver { stored = [] } }) is.bearer;
+          flags = ap (λ (f : CuUpFlags). record f { released = true }) is.flags;
+          bearer = ap (λ (u : CuUpBearer). record u { receiver = record u.receiver { stored = [] } }) is.bearer;
         };
         went = went_kept s x n;
       }
@@ -184,12 +184,12 @@ module _ {M C P : Type 0} (way : Way M C P) (s : Part) (x : ℕ) (p : UpPart) (i
         is = record {
           there = is.there;
           flags = is.flags;
-          bearer = ap (λ (u : UpBearer). record u { uplinks = u.uplinks ++ teid ∷ [] }) is.bearer;
+          bearer = ap (λ (u : CuUpBearer). record u { uplinks = u.uplinks ++ teid ∷ [] }) is.bearer;
         };
         went = went_kept s x n;
       }
 
-  pub control_shows : (order : UpOrder P) → IsAsked p order → Shows s (run s (control_orders x p order)) x (done way order p)
+  pub control_shows : (order : ContextStep P) → IsAsked p order → Shows s (run s (control_orders x p order)) x (done way order p)
   control_shows (ups.adds teid) fit = add_shows teid
   control_shows (ups.switches du teid) fit = switch_shows du teid fit
   control_shows (ups.knows status) fit = status_shows status fit
@@ -214,15 +214,15 @@ module _ {M C P : Type 0} (way : Way M C P) (s : Part) (x : ℕ) (p : UpPart) (i
       fed : Member
       fed = record (s.members to) { forwarded = (s.members to).forwarded ++ late m.bearer; promised = m.bearer.receiver.deliv }
 
-      by : (a : Answer M P UpBearer) → Gives (late b) [] (frozen b hop) a
+      by : (a : Answer M P CuUpBearer) → Gives (late b) [] (frozen b hop) a
           → ShowsFrozen s (changed (changed s to fed) x n) x to b.receiver.deliv (kept_in (on_freeze p) a)
       by (spent k) g = tt
       by (gives os d) g = record {
         member = n;
         is = record {
           there = is.there;
-          flags = ap (λ (f : UpFlags). record f { frozen = true }) is.flags;
-          bearer = ap (λ (u : UpBearer). record u { hop = Some hop }) is.bearer ∙ ap up_of (sym g.2);
+          flags = ap (λ (f : CuUpFlags). record f { frozen = true }) is.flags;
+          bearer = ap (λ (u : CuUpBearer). record u { hop = Some hop }) is.bearer ∙ ap up_of (sym g.2);
         };
         hands = g.1;
         froze = record {

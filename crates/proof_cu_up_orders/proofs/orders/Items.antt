@@ -3,16 +3,16 @@ use Rattle.std.proofs.Common.{◌≡◌, ◌==◌, ℕ, Bool, true, false, not, 
 use Rattle.std.proofs.lemmas.List.{append-nil}
 use Rattle.pdcp_defs.specs.Receivers.{Receiver, Delivery, is_duplicate, deliver, stored}
 use Rattle.unit_defs.specs.Ways.{packet_content, Taken, numbered_item, uplink_item, end_item, Way, Answer, gives, spent}
-use Rattle.unit_defs.specs.UpRecords.{UpBearer, SourceHop, TunnelKind, f1u_uplink, forwarding_up}
-use Rattle.unit_defs.specs.UpBearers.{no_uplink}
-use Rattle.unit_defs.specs.UpItems.{took, took_uplink, uplink_ended, up_ended}
-use Rattle.bearer_defs.specs.uplink_defs.Parts.{Item, numbered, end_marker, Source, uplink_tunnel, forwarding, Member, Part, with_rest}
+use Rattle.unit_defs.specs.CuUpRecords.{CuUpBearer, SourceHop, TunnelKind, f1u_uplink, forwarding_up}
+use Rattle.unit_defs.specs.CuUpBearers.{no_uplink}
+use Rattle.unit_defs.specs.CuUpItems.{took, took_uplink, uplink_ended, up_ended}
+use Rattle.bearer_defs.specs.uplink_defs.Models.{Item, numbered, end_marker, Source, uplink_tunnel, forwarding, Member, Model, with_rest}
 use Rattle.bearer_defs.specs.uplink_defs.Orders.{takes, ends_uplink, ends_hop, is_hop_up_done, stores, without_uplink, changed, passed, handed, stored_at, new_at, late_at, taken_at, is_up_over, with_ended, ended_if, ended_at, after, run}
-use Rattle.bearer_defs.specs.chain_defs.Parts.{set}
+use Rattle.bearer_defs.specs.chain_defs.Models.{set}
 use Rattle.law_downlink_order.proofs.chain.Frames.{set_here, set_far}
 use Rattle.proof_cu_up_orders.specs.uplink_rows.Shown.{Gives, closed_at, delivered_in}
 use Rattle.proof_cu_up_orders.proofs.uplink_rows.Rows.{takes_new, relays_new, drops_old, passes_late, drops_late, uplink_ends_alone, last_uplink_ends, uplink_ends, hop_ends_alone, last_hop_ends, hop_ends}
-use Rattle.proof_cu_up_orders.specs.context_orders.Orders.{UpPart, kept_in, done}
+use Rattle.proof_cu_up_orders.specs.context_orders.Orders.{CuUpModel, kept_in, done}
 use Rattle.proof_cu_up_orders.specs.context_orders.Orders as rows
 use Rattle.proof_cu_up_orders.specs.orders.Up.{up_of, IsUp, item_orders, Went, Shows, Stands, IsFit}
 
@@ -20,7 +20,7 @@ pub nothing_more : {X : Type 0} (b : Bool) (xs : List X) → xs ≡ (if b then x
 nothing_more true xs = sym (append-nil xs)
 nothing_more false xs = refl
 
-module _ (s : Part) (x : ℕ) where
+module _ (s : Model) (x : ℕ) where
   pub went_same : Went s s x (s.members x) [] []
   went_same = record {
     here = refl;
@@ -74,16 +74,16 @@ module _ (s : Part) (x : ℕ) where
       rest = (refl, refl, refl, refl, refl, refl, refl);
     }
 
-module _ {M C P : Type 0} (way : Way M C P) (s : Part) (x : ℕ) (p : UpPart) (is : IsUp (s.members x) p) (stands : Stands p) where
+module _ {M C P : Type 0} (way : Way M C P) (s : Model) (x : ℕ) (p : CuUpModel) (is : IsUp (s.members x) p) (stands : Stands p) where
   abbrev m : Member
   m = s.members x
 
-  abbrev b : UpBearer
+  abbrev b : CuUpBearer
   b = p.bearer
 
   -- ---- a member that is the bearer then
 
-  shown : (t : Part) (n : Member) (items : List Item) (packets : List (ℕ × List ℕ)) (c : UpBearer) (a : Answer M P UpBearer) → n.is_there ≡ true
+  shown : (t : Model) (n : Member) (items : List Item) (packets : List (ℕ × List ℕ)) (c : CuUpBearer) (a : Answer M P CuUpBearer) → n.is_there ≡ true
       → n.flags ≡ p.at.flags → up_of n.bearer ≡ up_of c → Went s t x n items packets → Gives items packets c a → Shows s t x (kept_in p a)
   unfolding Gives
   shown t n items packets c (spent k) there flags bearer went g = tt
@@ -95,7 +95,7 @@ module _ {M C P : Type 0} (way : Way M C P) (s : Part) (x : ℕ) (p : UpPart) (i
   }
 
   receivers : m.bearer.receiver ≡ b.receiver
-  receivers = ap (λ (u : UpBearer). u.receiver) is.bearer
+  receivers = ap (λ (u : CuUpBearer). u.receiver) is.bearer
 
   -- ---- packets, from an uplink tunnel and from the one of the source
 
@@ -103,10 +103,10 @@ module _ {M C P : Type 0} (way : Way M C P) (s : Part) (x : ℕ) (p : UpPart) (i
     abbrev k : Member
     k = with_rest m from rest
 
-    abbrev row : Answer M P UpBearer
+    abbrev row : Answer M P CuUpBearer
     row = took_uplink way p.at (Some count) packet b
 
-    abbrev Is : Part → Type 0
+    abbrev Is : Model → Type 0
     Is t = Shows s t x (kept_in p row)
 
     hop_there : p.at.flags.released ≡ true → (h : SourceHop) × (b.hop ≡ Some h)
@@ -130,13 +130,13 @@ module _ {M C P : Type 0} (way : Way M C P) (s : Part) (x : ℕ) (p : UpPart) (i
         let hop = stands.hop f in
         shown (passed s x (stores k count packet) (numbered count packet ∷ [])) (stores k count packet) (numbered count packet ∷ []) []
         (record b { receiver = stored b.receiver count packet }) row is.there is.flags
-        (ap (λ (u : UpBearer). record u { receiver = stored u.receiver count packet }) is.bearer)
+        (ap (λ (u : CuUpBearer). record u { receiver = stored u.receiver count packet }) is.bearer)
         (went_passed s x (stores k count packet) (numbered count packet ∷ [])) (relays_new way p.at count packet b hop.0 hop.1 keeps f fresh)
     stored_one keeps fresh false f =
         let d = deliver (stored k.bearer.receiver count packet) in
         shown (handed s x k d) (record k { bearer = record k.bearer { receiver = d.after } }) [] d.packets
         (record b { receiver = (deliver (stored b.receiver count packet)).after }) row is.there is.flags
-        (ap (λ (u : UpBearer). record u { receiver = (deliver (stored u.receiver count packet)).after }) is.bearer) (went_handed s x k d)
+        (ap (λ (u : CuUpBearer). record u { receiver = (deliver (stored u.receiver count packet)).after }) is.bearer) (went_handed s x k d)
         (subst (λ (r : Receiver (List ℕ)). Gives [] (deliver (stored r count packet)).packets
         (record b { receiver = (deliver (stored b.receiver count packet)).after }) row) (sym receivers) (takes_new way p.at count packet b keeps f fresh))
 
@@ -161,7 +161,7 @@ module _ {M C P : Type 0} (way : Way M C P) (s : Part) (x : ℕ) (p : UpPart) (i
   -- ---- End Markers
 
   hops : m.bearer.hop ≡ b.hop
-  hops = ap (λ (u : UpBearer). u.hop) is.bearer
+  hops = ap (λ (u : CuUpBearer). u.hop) is.bearer
 
   pub uplink_end : (teid : ℕ) (rest : List Item) → Shows s (run s (ends_uplink x teid rest ∷ [])) x (kept_in p (uplink_ended way p.at teid b))
   unfolding run after
@@ -170,11 +170,11 @@ module _ {M C P : Type 0} (way : Way M C P) (s : Part) (x : ℕ) (p : UpPart) (i
       n : Member
       n = without_uplink (with_rest m (uplink_tunnel teid) rest) teid
 
-      row : Answer M P UpBearer
+      row : Answer M P CuUpBearer
       row = uplink_ended way p.at teid b
 
       same : up_of n.bearer ≡ up_of (closed_at b teid)
-      same = ap (λ (u : UpBearer). closed_at u teid) is.bearer
+      same = ap (λ (u : CuUpBearer). closed_at u teid) is.bearer
 
       over : (hop : SourceHop) → is_up_over n hop ≡ (not hop.up_ended && no_uplink (closed_at b teid).uplinks && is_hop_up_done p.at.flags b)
       over hop i = not hop.up_ended && no_uplink (closed_at (is.bearer i) teid).uplinks && is_hop_up_done (is.flags i) (is.bearer i)
@@ -185,7 +185,7 @@ module _ {M C P : Type 0} (way : Way M C P) (s : Part) (x : ℕ) (p : UpPart) (i
       ends hop e true last =
           shown (passed s x (with_ended n hop) (end_marker ∷ [])) (with_ended n hop) (end_marker ∷ []) []
           (record (closed_at b teid) { hop = Some (record hop { up_ended = true }) }) row is.there is.flags
-          (ap (λ (u : UpBearer). record u { hop = Some (record hop { up_ended = true }) }) same)
+          (ap (λ (u : CuUpBearer). record u { hop = Some (record hop { up_ended = true }) }) same)
           (went_passed s x (with_ended n hop) (end_marker ∷ [])) (last_uplink_ends way p.at teid b hop e last)
       ends hop e false more =
           shown (changed s x n) n [] [] (closed_at b teid) row is.there is.flags same (went_kept s x n) (uplink_ends way p.at teid b hop e more)
@@ -204,14 +204,14 @@ module _ {M C P : Type 0} (way : Way M C P) (s : Part) (x : ℕ) (p : UpPart) (i
       n : Member
       n = record left { bearer = record left.bearer { up_ended = true } }
 
-      row : Answer M P UpBearer
+      row : Answer M P CuUpBearer
       row = up_ended way p.at b
 
-      ended : UpBearer
+      ended : CuUpBearer
       ended = record b { up_ended = true }
 
       same : up_of n.bearer ≡ up_of ended
-      same = ap (λ (u : UpBearer). record u { up_ended = true }) is.bearer
+      same = ap (λ (u : CuUpBearer). record u { up_ended = true }) is.bearer
 
       over : (hop : SourceHop) → is_up_over n hop ≡ (not hop.up_ended && no_uplink b.uplinks && is_hop_up_done p.at.flags ended)
       over hop i = not hop.up_ended && no_uplink (is.bearer i).uplinks && is_hop_up_done (is.flags i) (record (is.bearer i) { up_ended = true })
@@ -221,7 +221,7 @@ module _ {M C P : Type 0} (way : Way M C P) (s : Part) (x : ℕ) (p : UpPart) (i
       ends hop e true last =
           shown (passed s x (with_ended n hop) (end_marker ∷ [])) (with_ended n hop) (end_marker ∷ []) []
           (record ended { hop = Some (record hop { up_ended = true }) }) row is.there is.flags
-          (ap (λ (u : UpBearer). record u { hop = Some (record hop { up_ended = true }) }) same)
+          (ap (λ (u : CuUpBearer). record u { hop = Some (record hop { up_ended = true }) }) same)
           (went_passed s x (with_ended n hop) (end_marker ∷ [])) (last_hop_ends way p.at b hop open_ e last)
       ends hop e false more =
           shown (changed s x n) n [] [] ended row is.there is.flags same (went_kept s x n) (hop_ends way p.at b hop open_ e more)

@@ -3,15 +3,15 @@ use Rattle.std.proofs.Common.{◌≡◌, ◌≢◌, ◌==◌, ℕ, ◌+◌, ◌�
 use Rattle.intervals.specs.Intervals.{HasNoGap, reach}
 use Rattle.intervals.proofs.Intervals.{reach-le}
 use Rattle.bearer_defs.specs.chain_defs.Orders.{after, offers, switches_path}
-use Rattle.bearer_defs.specs.chain_defs.Parts.{Item, fresh, end_marker, Member, Part, set}
-use Rattle.unit_defs.specs.UpBearers.{owed}
-use Rattle.unit_defs.specs.UpRecords.{UpBearer}
+use Rattle.bearer_defs.specs.chain_defs.Models.{Item, fresh, end_marker, Member, Model, set}
+use Rattle.unit_defs.specs.CuUpBearers.{owed}
+use Rattle.unit_defs.specs.CuUpRecords.{CuUpBearer}
 use Rattle.law_downlink_order.specs.path.Paths.{carried_by, Frame, gap_after, taken_by}
-use Rattle.law_downlink_order.specs.heard_packets.Heard.{StandsAmong, WasPut}
+use Rattle.law_downlink_order.specs.received_packets.Received.{StandsAmong, WasPut}
 use Rattle.law_downlink_order.specs.waiting_frames.Frames.{Fits, from_here}
 use Rattle.law_downlink_order.proofs.waiting_frames.Frames.{line_later}
 use Rattle.law_downlink_order.specs.sent_frames.Senders.{IsSender}
-use Rattle.law_downlink_order.proofs.sent_frames.Sends.{du_takes, one_lost, one_heard}
+use Rattle.law_downlink_order.proofs.sent_frames.Sends.{du_takes, one_lost, one_received}
 use Rattle.proof_cu_up_orders.specs.down_orders.Down.{Froze, Went}
 use Rattle.proof_cu_up_orders.specs.sending_contexts.Sending.{IsSending, Tunnel}
 use Rattle.proof_cu_up_orders.proofs.sending_contexts.Lists.{no_gap_later, reach_later}
@@ -21,7 +21,7 @@ use Rattle.proof_cu_up_orders.proofs.sending_contexts.Ends.{among_first}
 abbrev Alike : Member → Member → Type 0
 Alike m n = record n { n3 = m.n3; forwarded = m.forwarded; promised = m.promised } ≡ m
 
-module _ (s t : Part) (x : ℕ) (c : UpBearer) (w : Tunnel) (alike : Alike (s.members x) (t.members x)) (terminal : t.terminal ≡ s.terminal)
+module _ (s t : Model) (x : ℕ) (c : CuUpBearer) (w : Tunnel) (alike : Alike (s.members x) (t.members x)) (terminal : t.terminal ≡ s.terminal)
     (epoch : t.epoch ≡ s.epoch) (put : (count : ℕ) (packet : List ℕ) → WasPut s count packet → WasPut t count packet) where
   same_deliv : s.terminal.deliv ≡ t.terminal.deliv
   same_deliv = ap (λ r. r.deliv) (sym terminal)
@@ -51,7 +51,7 @@ module _ (s t : Part) (x : ℕ) (c : UpBearer) (w : Tunnel) (alike : Alike (s.me
         );
   }
 
-more_put : (s t : Part) (b : Bool) (packets : List (ℕ × List ℕ)) → t.terminal ≡ s.terminal → t.air ≡ (if b then s.air ++ packets else s.air)
+more_put : (s t : Model) (b : Bool) (packets : List (ℕ × List ℕ)) → t.terminal ≡ s.terminal → t.air ≡ (if b then s.air ++ packets else s.air)
     → (count : ℕ) (packet : List ℕ) → WasPut s count packet → WasPut t count packet
 more_put s t b packets terminal air count packet (inl h) = inl (let same = ap (λ r. r.deliv) terminal in omega (arith, h, same))
 more_put s t b packets terminal air count packet (inr h) = inr (subst (λ xs. StandsAmong count packet xs) (sym air) (by b))
@@ -60,13 +60,13 @@ more_put s t b packets terminal air count packet (inr h) = inr (subst (λ xs. St
     by true = among_first count packet s.air packets h
     by false = h
 
-pub others_went : (d t : Part) (x y : ℕ) (c : UpBearer) (w : Tunnel) (m : Member) (items : List Item) (packets : List (ℕ × List ℕ)) → x ≢ y
+pub others_went : (d t : Model) (x y : ℕ) (c : CuUpBearer) (w : Tunnel) (m : Member) (items : List Item) (packets : List (ℕ × List ℕ)) → x ≢ y
     → Went d t y m items packets → IsSending d x c w → IsSending t x c w
 others_went d t x y c w m items packets apart went h =
     still d t x c w (ap (λ (n : Member). record n { n3 = (d.members x).n3; promised = (d.members x).promised }) (went.others x apart)) went.rest.4 went.rest.0
     (more_put d t (m.epoch == d.epoch) packets went.rest.4 went.air) h
 
-pub others_froze : (d t : Part) (x y to : ℕ) (c : UpBearer) (w : Tunnel) (m : Member) (items : List Item) (promised : ℕ) → x ≢ y
+pub others_froze : (d t : Model) (x y to : ℕ) (c : CuUpBearer) (w : Tunnel) (m : Member) (items : List Item) (promised : ℕ) → x ≢ y
     → Froze d t y to m items promised → IsSending d x c w → IsSending t x c w
 others_froze d t x y to c w m items promised apart froze h =
     still d t x c w (by (x == to) refl) froze.rest.5 froze.rest.1
@@ -84,7 +84,7 @@ others_froze d t x y to c w m items promised apart froze h =
         (froze.others x apart (unlike e))
 
 -- the core's path: its N3 alone changes
-on_path : (s : Part) (x p : ℕ) (items : List Item) → Alike (s.members x) (set s.members p (record (s.members p) { n3 = items }) x)
+on_path : (s : Model) (x p : ℕ) (items : List Item) → Alike (s.members x) (set s.members p (record (s.members p) { n3 = items }) x)
 on_path s x p items = by (x == p) refl
   where
     by : (b : Bool) → (x == p) ≡ b → Alike (s.members x) (if b then record (s.members p) { n3 = items } else s.members x)
@@ -92,19 +92,19 @@ on_path s x p items = by (x == p) refl
         subst (λ (q : ℕ). Alike (s.members q) (record (s.members p) { n3 = items })) (sym same) refl
     by false e = refl
 
-pub path_offers : (d : Part) (x : ℕ) (c : UpBearer) (w : Tunnel) (packet : List ℕ) → IsSending d x c w → IsSending (after d (offers packet)) x c w
+pub path_offers : (d : Model) (x : ℕ) (c : CuUpBearer) (w : Tunnel) (packet : List ℕ) → IsSending d x c w → IsSending (after d (offers packet)) x c w
 unfolding after
 path_offers d x c w packet h =
     still d (after d (offers packet)) x c w (on_path d x d.path ((d.members d.path).n3 ++ fresh packet ∷ [])) refl refl (λ count one k. k) h
 
-pub path_switches : (d : Part) (x to : ℕ) (c : UpBearer) (w : Tunnel) → IsSending d x c w → IsSending (after d (switches_path to)) x c w
+pub path_switches : (d : Model) (x to : ℕ) (c : CuUpBearer) (w : Tunnel) → IsSending d x c w → IsSending (after d (switches_path to)) x c w
 unfolding after
 path_switches d x to c w h =
     still d (after d (switches_path to)) x c w (on_path d x d.path ((d.members d.path).n3 ++ end_marker ∷ [])) refl refl (λ count one k. k) h
 
 -- ---- the way after it
 
-with_sender : (d : Part) (x : ℕ) (c : UpBearer) (v w : Tunnel) (h : IsSending d x c v) → IsSender d c w.du w.frames w.waits h.cursor → IsSending d x c w
+with_sender : (d : Model) (x : ℕ) (c : CuUpBearer) (v w : Tunnel) (h : IsSending d x c v) → IsSender d c w.du w.frames w.waits h.cursor → IsSending d x c w
 with_sender d x c v w h k = record {
   cursor = h.cursor;
   sender = k;
@@ -114,14 +114,14 @@ with_sender d x c v w h k = record {
   frozen = h.frozen;
 }
 
-pub du_takes_one : (d : Part) (x : ℕ) (c : UpBearer) (w : Tunnel) (f : Frame) (rest : List Frame) → w.frames ≡ f ∷ rest → IsSending d x c w
+pub du_takes_one : (d : Model) (x : ℕ) (c : CuUpBearer) (w : Tunnel) (f : Frame) (rest : List Frame) → w.frames ≡ f ∷ rest → IsSending d x c w
     → let more = carried_by (gap_after w.du f f.pdu) f.pdu in
     Fits d w.waits more × IsSending d x c (record { du = taken_by w.du f; frames = rest; waits = w.waits ++ more })
 du_takes_one d x c w f rest stands h =
     let it = du_takes d c w.du f rest w.waits h.cursor (subst (λ (fs : List Frame). IsSender d c w.du fs w.waits h.cursor) stands h.sender) in
     (it.0, with_sender d x c w (record { du = taken_by w.du f; frames = rest; waits = w.waits ++ carried_by (gap_after w.du f f.pdu) f.pdu }) h it.1)
 
-pub loses_one : (d : Part) (x : ℕ) (c : UpBearer) (w : Tunnel) (before rest : List Frame) (f : Frame) → w.frames ≡ before ++ f ∷ rest → IsSending d x c w
+pub loses_one : (d : Model) (x : ℕ) (c : CuUpBearer) (w : Tunnel) (before rest : List Frame) (f : Frame) → w.frames ≡ before ++ f ∷ rest → IsSending d x c w
     → IsSending d x c (record w { frames = before ++ rest })
 loses_one d x c w before rest f stands h =
     with_sender d x c w (record w { frames = before ++ rest }) h (one_lost d c w.du before f rest w.waits h.cursor
@@ -137,23 +137,23 @@ reach_most n k (e ∷ es) =
     let same : max (max n k) (e.0 + 1) ≡ max (max n (e.0 + 1)) k = omega arith in
     subst (λ (i : ℕ). reach i es ≤ max (reach (max n (e.0 + 1)) es) k) (sym same) h
 
-pub hears_one : (d t : Part) (x : ℕ) (c : UpBearer) (w : Tunnel) (count : ℕ) (packet : List ℕ) (left : List (ℕ × List ℕ)) → w.waits ≡ (count, packet) ∷ left
+pub receives_one : (d t : Model) (x : ℕ) (c : CuUpBearer) (w : Tunnel) (count : ℕ) (packet : List ℕ) (left : List (ℕ × List ℕ)) → w.waits ≡ (count, packet) ∷ left
     → t.members x ≡ d.members x → t.epoch ≡ d.epoch → t.terminal.deliv ≡ max d.terminal.deliv (count + 1)
     → ((other : ℕ) (one : List ℕ) → WasPut d other one → WasPut t other one) → IsSending d x c w → IsSending t x c (record w { waits = left })
-hears_one d t x c w count packet left stands members epoch up on h =
-    let heard = one_heard d t c w.du w.frames count packet left h.cursor up on
+receives_one d t x c w count packet left stands members epoch up on h =
+    let was_received = one_received d t c w.du w.frames count packet left h.cursor up on
     (subst (λ (xs : List (ℕ × List ℕ)). IsSender d c w.du w.frames xs h.cursor) stands h.sender) in
     let cursor = max h.cursor t.terminal.deliv in
-    let far = heard.marked in
+    let far = was_received.marked in
     let least : h.cursor ≤ cursor = omega arith in
     record {
       cursor = cursor;
       sender = record {
-        downlink = heard.downlink;
-        there = heard.there;
-        needed = heard.needed;
-        line = heard.line;
-        marked = by c.restart heard.needed far;
+        downlink = was_received.downlink;
+        there = was_received.there;
+        needed = was_received.needed;
+        line = was_received.line;
+        marked = by c.restart was_received.needed far;
       };
       epoch = ap (λ (m : Member). m.epoch) members ∙ h.epoch ∙ sym epoch;
       received = omega arith;

@@ -1,10 +1,10 @@
--- Lists of packets that are left, or that have a part.
+-- Lists of packets that are left, or that have a model.
 use Rattle.std.proofs.Common.{◌≡◌, ℕ, suc, zero, ◌+◌, ◌<◌, ◌≤◌, max, Bool, true, false, cond, ◌==◌, ◌||◌, List, [], ◌∷◌, ◌++◌, filter, refl, sym, ap, subst, ◌∙◌, arith}
 use Rattle.std.specs.List.{AllByRecursion}
 use Rattle.std.proofs.lemmas.List.Folds.{list_any-append}
 use Rattle.std.proofs.lemmas.List.Elements.{filter-append}
 use Rattle.intervals.specs.Intervals.{segment, HasNoGap, reach}
-use Rattle.unit_defs.specs.UpBearers.{is_one_of}
+use Rattle.unit_defs.specs.CuUpBearers.{is_one_of}
 use Rattle.law_downlink_order.proofs.chain.Facts.{pairs}
 
 abbrev Packets : Type 0
@@ -20,7 +20,7 @@ unfolding reach
 reach_later n m [] l = l
 reach_later n m (e ∷ es) l = reach_later (max n (e.0 + 1)) (max m (e.0 + 1)) es (omega (arith, l))
 
--- of a list without gap the first part has none, and the rest has none from where that reaches
+-- of a list without gap the first model has none, and the rest has none from where that reaches
 pub no_gap_first : (n : ℕ) (xs ys : Packets) → HasNoGap n (xs ++ ys) → HasNoGap n xs
 unfolding HasNoGap
 no_gap_first n [] ys h = tt

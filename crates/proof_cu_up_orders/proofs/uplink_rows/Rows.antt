@@ -7,12 +7,12 @@ use Rattle.gnb_types.specs.declared.outputs.Tag.TheVariants.{Absent, Own, Same}
 use Rattle.pdcp_defs.specs.Receivers.{is_duplicate, stored, deliver as handed_up}
 use Rattle.unit_defs.specs.Ways.{Load, Output, packet, deliver, closed, Way, Answer, gives, ◌then◌, nothing, puts, drops}
 use Rattle.unit_defs.specs.Ways as ways
-use Rattle.unit_defs.specs.UpRecords.{UpBearer, SourceHop, UpAt}
-use Rattle.unit_defs.specs.UpBearers.{forwarded_up, frozen_to, deliver_stored, delivered, no_uplink}
-use Rattle.unit_defs.specs.UpItems.{took_uplink, uplink_ended, up_ended, up_hop_ends, up_hop_ends_if}
+use Rattle.unit_defs.specs.CuUpRecords.{CuUpBearer, SourceHop, CuUpScope}
+use Rattle.unit_defs.specs.CuUpBearers.{forwarded_up, frozen_to, deliver_stored, delivered, no_uplink}
+use Rattle.unit_defs.specs.CuUpItems.{took_uplink, uplink_ended, up_ended, up_hop_ends, up_hop_ends_if}
 use Rattle.bearer_defs.specs.chain_defs.Orders.{frozen}
 use Rattle.proof_cu_up_orders.proofs.chain_rows.Rows.{down, up, put_up_is, numbered_are, fresh_are, late_are}
-use Rattle.bearer_defs.specs.uplink_defs.Parts.{numbered, end_marker}
+use Rattle.bearer_defs.specs.uplink_defs.Models.{numbered, end_marker}
 use Rattle.bearer_defs.specs.uplink_defs.Orders.{late, is_hop_up_done}
 use Rattle.proof_cu_up_orders.specs.uplink_rows.Shown.{items_of, item_of, delivered_in, Gives, closed_at}
 
@@ -30,7 +30,7 @@ module _ {M P : Type 0} where
   delivered-append (deliver ue bearer Ul count p ∷ xs) ys = ap (λ zs. (count, p) ∷ zs) (delivered-append xs ys)
   delivered-append (_ ∷ xs) ys = delivered-append xs ys
 
-module _ {M C P : Type 0} (way : Way M C P) (at : UpAt) where
+module _ {M C P : Type 0} (way : Way M C P) (at : CuUpScope) where
   -- ---- what is delivered
 
   pub none_goes_on : (es : List (ℕ × List ℕ)) → items_of (delivered way at es) ≡ []
@@ -43,24 +43,24 @@ module _ {M C P : Type 0} (way : Way M C P) (at : UpAt) where
   all_delivered [] = refl
   all_delivered (e ∷ es) = ap (λ ys. e ∷ ys) (all_delivered es)
 
-  pub delivers : (b : UpBearer) → Gives [] (handed_up b.receiver).packets (record b { receiver = (handed_up b.receiver).after })
+  pub delivers : (b : CuUpBearer) → Gives [] (handed_up b.receiver).packets (record b { receiver = (handed_up b.receiver).after })
       (deliver_stored way at b)
   unfolding Gives deliver_stored
   delivers b = (none_goes_on (handed_up b.receiver).packets, all_delivered (handed_up b.receiver).packets, refl)
 
   -- ---- packets, by whether the context was released and is frozen, and whether they are duplicates or were delivered
 
-  module _ (count : ℕ) (p : List ℕ) (b : UpBearer) where
-    abbrev stores : UpBearer
+  module _ (count : ℕ) (p : List ℕ) (b : CuUpBearer) where
+    abbrev stores : CuUpBearer
     stores = record b { receiver = stored b.receiver count p }
 
-    abbrev late_as : Bool → Answer M P UpBearer
+    abbrev late_as : Bool → Answer M P CuUpBearer
     late_as l = if l then drops Duplicate b else forwarded_up way at Same (ways.numbered at.sn count p) b
 
-    abbrev new_as : Bool → Answer M P UpBearer
+    abbrev new_as : Bool → Answer M P CuUpBearer
     new_as f = if f then forwarded_up way at Same (ways.numbered at.sn count p) stores else deliver_stored way at stores
 
-    abbrev taken_as : Bool → Bool → Bool → Bool → Answer M P UpBearer
+    abbrev taken_as : Bool → Bool → Bool → Bool → Answer M P CuUpBearer
     taken_as r f t l = if r then late_as l else (if t then drops Duplicate b else new_as f)
 
     taken_by : (r f t l : Bool) → at.flags.released ≡ r → at.flags.frozen ≡ f → is_duplicate b.receiver count ≡ t
@@ -104,23 +104,23 @@ module _ {M C P : Type 0} (way : Way M C P) (at : UpAt) where
 
   -- ---- End Markers
 
-  over : (b : UpBearer) (hop : SourceHop) → (not hop.up_ended && no_uplink b.uplinks && is_hop_up_done at.flags b) ≡ true
+  over : (b : CuUpBearer) (hop : SourceHop) → (not hop.up_ended && no_uplink b.uplinks && is_hop_up_done at.flags b) ≡ true
       → up_hop_ends way at b hop
       ≡ gives (up way at (record hop { up_ended = true }) Absent ways.end_marker ∷ [])
       (record b { hop = Some (record hop { up_ended = true }) })
   over b hop is = rw is
       (put_up_is way at Absent ways.end_marker (record b { hop = Some (record hop { up_ended = true }) }) (record hop { up_ended = true }) refl)
 
-  not_over : (b : UpBearer) (hop : SourceHop) → (not hop.up_ended && no_uplink b.uplinks && is_hop_up_done at.flags b) ≡ false
+  not_over : (b : CuUpBearer) (hop : SourceHop) → (not hop.up_ended && no_uplink b.uplinks && is_hop_up_done at.flags b) ≡ false
       → up_hop_ends way at b hop ≡ nothing b
   not_over b hop is = rw is
 
-  pub uplink_ends_alone : (teid : ℕ) (b : UpBearer) → b.hop ≡ None → Gives [] [] (closed_at b teid) (uplink_ended way at teid b)
+  pub uplink_ends_alone : (teid : ℕ) (b : CuUpBearer) → b.hop ≡ None → Gives [] [] (closed_at b teid) (uplink_ended way at teid b)
   unfolding uplink_ended Gives items_of delivered_in
   uplink_ends_alone teid b e = rw e (refl, refl, refl)
 
-  module _ (teid : ℕ) (b : UpBearer) (hop : SourceHop) (e : b.hop ≡ Some hop) where
-    abbrev c : UpBearer
+  module _ (teid : ℕ) (b : CuUpBearer) (hop : SourceHop) (e : b.hop ≡ Some hop) where
+    abbrev c : CuUpBearer
     c = closed_at b teid
 
     pub last_uplink_ends : (not hop.up_ended && no_uplink (closed_at b teid).uplinks && is_hop_up_done at.flags b) ≡ true
@@ -136,12 +136,12 @@ module _ {M C P : Type 0} (way : Way M C P) (at : UpAt) where
     uplink_ends is = subst (λ a. Gives [] [] c (puts (closed teid) c then (λ d. a)))
         (sym ((λ i. up_hop_ends_if way at (e i) c) ∙ not_over c hop is)) (refl, refl, refl)
 
-  pub hop_ends_alone : (b : UpBearer) → b.up_ended ≡ false → b.hop ≡ None → Gives [] [] (record b { up_ended = true }) (up_ended way at b)
+  pub hop_ends_alone : (b : CuUpBearer) → b.up_ended ≡ false → b.hop ≡ None → Gives [] [] (record b { up_ended = true }) (up_ended way at b)
   unfolding up_ended Gives items_of delivered_in
   hop_ends_alone b open_ e = rw (open_, e) (refl, refl, refl)
 
-  module _ (b : UpBearer) (hop : SourceHop) (open_ : b.up_ended ≡ false) (e : b.hop ≡ Some hop) where
-    abbrev now : UpBearer
+  module _ (b : CuUpBearer) (hop : SourceHop) (open_ : b.up_ended ≡ false) (e : b.hop ≡ Some hop) where
+    abbrev now : CuUpBearer
     now = record b { up_ended = true }
 
     hop_by : up_ended way at b ≡ up_hop_ends way at now hop
@@ -198,12 +198,12 @@ module _ {M C P : Type 0} (way : Way M C P) (at : UpAt) where
   abbrev hop_of : NodeId → ℕ → ℕ → SourceHop
   hop_of peer d u = record { peer = peer; down = d; up = u; up_ended = false }
 
-  pub freezes : (peer : NodeId) (d u : ℕ) (b : UpBearer)
+  pub freezes : (peer : NodeId) (d u : ℕ) (b : CuUpBearer)
       → Gives (late b) [] (frozen b (hop_of peer d u)) (frozen_to way at peer d u b)
   unfolding Gives frozen_to
   freezes peer d u b =
       let hop = hop_of peer d u in
-      let c : UpBearer = frozen b hop in
+      let c : CuUpBearer = frozen b hop in
       let xs = map (λ (e : ℕ × List ℕ). down way at hop (Own e.0) (ways.numbered at.sn e.0 e.1)) b.sender.unconfirmed in
       let ys = map (λ p. down way at hop Absent (ways.fresh p)) b.waiting in
       let zs = map (λ (e : ℕ × List ℕ). up way at hop (Own e.0) (ways.numbered at.sn e.0 e.1)) b.receiver.stored in

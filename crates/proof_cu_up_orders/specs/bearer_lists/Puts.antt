@@ -7,8 +7,8 @@ use Rattle.gnb_types.specs.declared.names.BearerId.{BearerId}
 use Rattle.gnb_types.specs.declared.names.Dir.{Dir}
 use Rattle.gnb_types.specs.declared.names.Dir.TheVariants.{Dl, Ul}
 use Rattle.unit_defs.specs.Ways.{Load, frame, uplink, status, Output, packet, Answer, gives, spent}
-use Rattle.unit_defs.specs.UpRecords.{SourceHop}
-use Rattle.proof_cu_up_orders.specs.context_orders.Orders.{UpPart, UpOrder, switches, freezes, resumes}
+use Rattle.unit_defs.specs.CuUpRecords.{SourceHop}
+use Rattle.proof_cu_up_orders.specs.context_orders.Orders.{CuUpModel, ContextStep, switches, freezes, resumes}
 
 -- where a hop leads: to which CU-UP, and on which of its tunnels
 pub record HopEnds : Type 0 where
@@ -41,13 +41,13 @@ abbrev pub AreOwnPuts : {M P : Type 0} → UeId → BearerId → Option HopEnds 
 AreOwnPuts ue bearer h outputs = AllByRecursion (IsOwnPut ue bearer h) outputs
 
 -- the hop of a bearer after an order: a freeze gives it one, and a switch and a resume end it
-abbrev pub hop_after : {P : Type 0} → UpPart → UpOrder P → Option HopEnds
+abbrev pub hop_after : {P : Type 0} → CuUpModel → ContextStep P → Option HopEnds
 hop_after p (freezes peer down up) = Some (record { peer = peer; down = down; up = up })
 hop_after p (switches du teid) = None
 hop_after p resumes = None
 hop_after p order = ends_of p.bearer.hop
 
-abbrev pub PutsOwn : {M P : Type 0} → UpPart → UpOrder P → Answer M P (Option UpPart) → Type 0
+abbrev pub PutsOwn : {M P : Type 0} → CuUpModel → ContextStep P → Answer M P (Option CuUpModel) → Type 0
 PutsOwn p order (gives outputs None) = AreOwnPuts p.at.ue p.at.bearer (hop_after p order) outputs
 PutsOwn p order (gives outputs (Some q)) =
     AreOwnPuts p.at.ue p.at.bearer (hop_after p order) outputs × (ends_of q.bearer.hop ≡ hop_after p order)

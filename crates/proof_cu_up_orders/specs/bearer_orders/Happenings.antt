@@ -4,33 +4,33 @@ use Rattle.std.specs.Prelude.{ℕ, Bool, List, [], ◌∷◌, Option}
 use Rattle.gnb_types.specs.declared.names.UeId.{UeId}
 use Rattle.gnb_types.specs.declared.names.BearerId.{BearerId}
 use Rattle.unit_defs.specs.Ways.{Way, Answer, gives, spent}
-use Rattle.bearer_defs.specs.chain_defs.Parts as down_parts
-use Rattle.bearer_defs.specs.chain_defs.Parts.{set}
+use Rattle.bearer_defs.specs.chain_defs.Models as down_models
+use Rattle.bearer_defs.specs.chain_defs.Models.{set}
 use Rattle.bearer_defs.specs.chain_defs.Orders as down
-use Rattle.bearer_defs.specs.uplink_defs.Parts as up_parts
+use Rattle.bearer_defs.specs.uplink_defs.Models as up_models
 use Rattle.bearer_defs.specs.uplink_defs.Orders as up
-use Rattle.proof_cu_up_orders.specs.context_orders.Orders.{UpPart, UpOrder, carried_out}
+use Rattle.proof_cu_up_orders.specs.context_orders.Orders.{CuUpModel, ContextStep, carried_out}
 
 -- what the run says beside an order: what is left on the tunnel that an item is taken from, the context that a hop leads to, the radio
 -- that a switch is for, and whether a release is final
 pub record Beside : Type 0 where
-  pub left_down : List down_parts.Item
-  pub left_up : List up_parts.Item
+  pub left_down : List down_models.Item
+  pub left_up : List up_models.Item
   pub to : ℕ
   pub epoch : ℕ
   pub final : Bool
 
 pub data Happening (P : Type 0) : Type 0 where
-  asks : (x : ℕ) (order : UpOrder P) (beside : Beside) → Happening P
-  down_by : (order : down.Order) → Happening P
-  up_by : (order : up.Order) → Happening P
+  asks : (x : ℕ) (order : ContextStep P) (beside : Beside) → Happening P
+  down_by : (order : down.ModelStep) → Happening P
+  up_by : (order : up.ModelStep) → Happening P
 
 -- what the CU-UPs have of the bearer, by context
 abbrev pub Contexts : Type 0
-Contexts = ℕ → Option UpPart
+Contexts = ℕ → Option CuUpModel
 
 -- where a counter is spent the run stops, and nothing more is said
-abbrev pub kept_of : {M P : Type 0} → Option UpPart → Answer M P (Option UpPart) → Option UpPart
+abbrev pub kept_of : {M P : Type 0} → Option CuUpModel → Answer M P (Option CuUpModel) → Option CuUpModel
 kept_of p (gives outputs q) = q
 kept_of p (spent counter) = p
 

@@ -5,9 +5,9 @@ use Rattle.gnb_types.specs.declared.names.Dir.TheVariants.{Dl, Ul}
 use Rattle.pdcp_defs.specs.Senders.{Sender, numbered as with_next, has_room}
 use Rattle.unit_defs.specs.Ways.{Pdu, packet_pdu, Load, frame, Output, packet, Way, Answer, gives, spent}
 use Rattle.unit_defs.specs.Ways as ways
-use Rattle.unit_defs.specs.UpRecords.{UpBearer, Downlink}
-use Rattle.bearer_defs.specs.chain_defs.Parts.{Item, numbered, fresh, end_marker, Member, Part}
-use Rattle.bearer_defs.specs.chain_defs.Orders.{Order, numbers}
+use Rattle.unit_defs.specs.CuUpRecords.{CuUpBearer, DownlinkTunnel}
+use Rattle.bearer_defs.specs.chain_defs.Models.{Item, numbered, fresh, end_marker, Member, Model}
+use Rattle.bearer_defs.specs.chain_defs.Orders.{ModelStep, numbers}
 
 -- what goes to the next context, in order
 abbrev pub item_of : {P : Type 0} → Load P → List Item
@@ -32,15 +32,15 @@ pdus_of (packet to teid ue bearer Dl tag load ∷ outputs) = pdu_of load ++ pdus
 pdus_of (output ∷ outputs) = pdus_of outputs
 
 -- a bearer but for the number of its next frame and its restart mark
-abbrev pub without_number : Option Downlink → Option Downlink
+abbrev pub without_number : Option DownlinkTunnel → Option DownlinkTunnel
 without_number None = None
 without_number (Some d) = Some (record d { next = 0 })
 
-abbrev pub plain : UpBearer → UpBearer
+abbrev pub plain : CuUpBearer → CuUpBearer
 plain b = record b { downlink = without_number b.downlink; restart = false }
 
 -- these items and PDUs, and this bearer; or a counter is spent
-unfoldable pub Gives : {M C P : Type 0} → Way M C P → SnBits → List Item → List Pdu → UpBearer → Answer M P UpBearer → Type 0
+unfoldable pub Gives : {M C P : Type 0} → Way M C P → SnBits → List Item → List Pdu → CuUpBearer → Answer M P CuUpBearer → Type 0
 Gives way sn items pdus after (gives outputs b) =
     (items_of outputs ≡ items) × (pdus_of outputs ≡ map (λ pdu. way.write sn pdu) pdus) × (plain b ≡ plain after)
 Gives way sn items pdus after (spent counter) = ⊤
@@ -60,7 +60,7 @@ module _ (sn : SnBits) (quota : ℕ) where
   numbered_pdus (p ∷ ps) s = if has_room sn quota s then packet_pdu s.next p ∷ numbered_pdus ps (with_next s p) else []
 
   -- the orders that do so, at this context; and the packets with their COUNTs
-  unfoldable pub number_orders : ℕ → List (List ℕ) → Sender (List ℕ) → List Order
+  unfoldable pub number_orders : ℕ → List (List ℕ) → Sender (List ℕ) → List ModelStep
   number_orders x [] s = []
   number_orders x (p ∷ ps) s = if has_room sn quota s then numbers x p ps ∷ number_orders x ps (with_next s p) else []
 
@@ -68,8 +68,8 @@ module _ (sn : SnBits) (quota : ℕ) where
   numbered_packets [] s = []
   numbered_packets (p ∷ ps) s = if has_room sn quota s then (s.next, p) ∷ numbered_packets ps (with_next s p) else []
 
--- the part after these orders: this context has this bearer, all others are as before, and these went to the radio
-pub record Became (s t : Part) (x : ℕ) (m : Member) (sent : List (ℕ × List ℕ)) : Type 0 where
+-- the model after these orders: this context has this bearer, all others are as before, and these went to the radio
+pub record Became (s t : Model) (x : ℕ) (m : Member) (sent : List (ℕ × List ℕ)) : Type 0 where
   pub here : t.members x ≡ m
   pub others : (q : ℕ) → q ≢ x → t.members q ≡ s.members q
   pub air : t.air ≡ (if m.epoch == s.epoch then s.air ++ sent else s.air)

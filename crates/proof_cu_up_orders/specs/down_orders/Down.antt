@@ -3,12 +3,12 @@ use Rattle.std.specs.Prelude.{◌≡◌, ◌≢◌, ◌==◌, ℕ, Bool, true, f
 use Rattle.pdcp_defs.specs.Senders.{may_restore, confirmed_to, confirmed_by}
 use Rattle.pdcp_defs.specs.Receivers.{new_receiver}
 use Rattle.unit_defs.specs.Ways.{Pdu, packet_pdu, report_pdu, packet_content, report_content, Taken, fresh_item, numbered_item, uplink_item, status_item, end_item, Output, Way, Answer, gives, spent}
-use Rattle.unit_defs.specs.UpRecords.{UpBearer, Downlink, SourceHop, UpAt, TunnelKind, n3, f1u_uplink, forwarding_down, forwarding_up}
-use Rattle.unit_defs.specs.UpBearers.{made, has_downlink, thawed}
-use Rattle.bearer_defs.specs.chain_defs.Parts.{Item, Member, Part}
-use Rattle.bearer_defs.specs.chain_defs.Orders.{Order, keeps_n3, keeps_fresh, passes_n3, passes_fresh, sends, passes_numbered, drops, ends_n3, ends_hop, confirms, reports, tells_loss, sends_again, switches, knows, resumes, releases, on_downlink, known, waits}
+use Rattle.unit_defs.specs.CuUpRecords.{CuUpBearer, DownlinkTunnel, SourceHop, CuUpScope, TunnelKind, n3, f1u_uplink, forwarding_down, forwarding_up}
+use Rattle.unit_defs.specs.CuUpBearers.{made, has_downlink, thawed}
+use Rattle.bearer_defs.specs.chain_defs.Models.{Item, Member, Model}
+use Rattle.bearer_defs.specs.chain_defs.Orders.{ModelStep, keeps_n3, keeps_fresh, passes_n3, passes_fresh, sends, passes_numbered, drops, ends_n3, ends_hop, confirms, reports, reports_loss, sends_again, switches, knows, resumes, releases, on_downlink, known, waits}
 use Rattle.proof_cu_up_orders.specs.chain_rows.Shown.{plain, items_of, pdus_of, number_orders, numbered_packets}
-use Rattle.proof_cu_up_orders.specs.context_orders.Orders.{UpPart, UpOrder, on_switch, on_status, on_resume}
+use Rattle.proof_cu_up_orders.specs.context_orders.Orders.{CuUpModel, ContextStep, on_switch, on_status, on_resume}
 use Rattle.proof_cu_up_orders.specs.context_orders.Orders as ups
 use Rattle.gnb_types.specs.declared.names.NodeId.{NodeId}
 use Rattle.gnb_types.specs.declared.plans.SnStatus.{SnStatus}
@@ -23,14 +23,14 @@ abbrev pub without_end : Option SourceHop → Option SourceHop
 without_end None = None
 without_end (Some hop) = Some (record hop { up_ended = false })
 
-abbrev pub down_only : UpBearer → UpBearer
+abbrev pub down_only : CuUpBearer → CuUpBearer
 down_only b = record b { uplinks = []; receiver = new_receiver 0; up_ended = false; hop = without_end b.hop }
 
-abbrev pub down_of : UpBearer → UpBearer
+abbrev pub down_of : CuUpBearer → CuUpBearer
 down_of b = down_only (plain b)
 
--- the member of the run's part is this bearer
-pub record IsDown (m : Member) (p : UpPart) : Type 0 where
+-- the member of the run's model is this bearer
+pub record IsDown (m : Member) (p : CuUpModel) : Type 0 where
   pub there : m.is_there ≡ true
   pub flags : m.flags ≡ p.at.flags
   pub bearer : down_of m.bearer ≡ down_of p.bearer
@@ -38,38 +38,38 @@ pub record IsDown (m : Member) (p : UpPart) : Type 0 where
 -- ---- items: what is left on the tunnel is named
 
 -- what waits is numbered, where the context serves and has a downlink
-abbrev pub serves_none : UpAt → UpBearer → Bool
+abbrev pub serves_none : CuUpScope → CuUpBearer → Bool
 serves_none at b = at.flags.frozen || at.flags.released || not (has_downlink b.downlink)
 
-abbrev pub numbers_if : ℕ → UpAt → UpBearer → List Order
+abbrev pub numbers_if : ℕ → CuUpScope → CuUpBearer → List ModelStep
 numbers_if x at b = if serves_none at b then [] else number_orders at.sn at.quota x b.waiting b.sender
 
-abbrev pub packets_if : UpAt → UpBearer → List (ℕ × List ℕ)
+abbrev pub packets_if : CuUpScope → CuUpBearer → List (ℕ × List ℕ)
 packets_if at b = if serves_none at b then [] else numbered_packets at.sn at.quota b.waiting b.sender
 
-abbrev pub fresh_orders : ℕ → UpAt → UpBearer → List ℕ → (on keeps : Order) → List Order
+abbrev pub fresh_orders : ℕ → CuUpScope → CuUpBearer → List ℕ → (on keeps : ModelStep) → List ModelStep
 fresh_orders x at b packet on keeps = if at.flags.frozen then on ∷ [] else keeps ∷ numbers_if x at (waits b packet)
 
 -- a packet with its COUNT: a released context passes it on, a frozen one where it is no duplicate, and one that serves sends it
-abbrev pub numbered_order : ℕ → UpAt → UpBearer → ℕ → List ℕ → List Item → Order
+abbrev pub numbered_order : ℕ → CuUpScope → CuUpBearer → ℕ → List ℕ → List Item → ModelStep
 numbered_order x at b count packet rest =
     if at.flags.released || may_restore at.sn at.quota b.sender count
     then (if at.flags.frozen then passes_numbered x count packet rest else sends x count packet rest)
     else drops x count packet rest
 
-abbrev pub confirms_if : ℕ → Option ℕ → List Order
+abbrev pub confirms_if : ℕ → Option ℕ → List ModelStep
 confirms_if x None = []
 confirms_if x (Some count) = confirms x count ∷ []
 
-abbrev pub confirmed_if : Option ℕ → UpBearer → UpBearer
+abbrev pub confirmed_if : Option ℕ → CuUpBearer → CuUpBearer
 confirmed_if None b = b
 confirmed_if (Some count) b = record b { sender = confirmed_to b.sender count }
 
-abbrev pub losses : ℕ → Bool → List (ℕ × ℕ) → List Order
+abbrev pub losses : ℕ → Bool → List (ℕ × ℕ) → List ModelStep
 losses x is_frozen [] = []
-losses x is_frozen (range ∷ ranges) = tells_loss x ∷ (if is_frozen then [] else sends_again x ∷ [])
+losses x is_frozen (range ∷ ranges) = reports_loss x ∷ (if is_frozen then [] else sends_again x ∷ [])
 
-abbrev pub item_orders : {P : Type 0} → ℕ → UpPart → List Item → TunnelKind → Taken P → List Order
+abbrev pub item_orders : {P : Type 0} → ℕ → CuUpModel → List Item → TunnelKind → Taken P → List ModelStep
 item_orders x p rest n3 (fresh_item packet) = fresh_orders x p.at p.bearer packet (passes_n3 x packet rest) (keeps_n3 x packet rest)
 item_orders x p rest n3 end_item = ends_n3 x rest ∷ []
 item_orders x p rest forwarding_down (fresh_item packet) = fresh_orders x p.at p.bearer packet (passes_fresh x packet rest) (keeps_fresh x packet rest)
@@ -83,17 +83,17 @@ item_orders x p rest kind item = []
 
 -- ---- control
 
-abbrev pub switch_orders : ℕ → ℕ → NodeId → ℕ → UpPart → List Order
+abbrev pub switch_orders : ℕ → ℕ → NodeId → ℕ → CuUpModel → List ModelStep
 switch_orders x epoch du teid p =
-    let downlink : Downlink = record { du = du; teid = teid; next = 0 } in
+    let downlink : DownlinkTunnel = record { du = du; teid = teid; next = 0 } in
     switches x downlink epoch ∷ (if p.at.flags.may_serve then numbers_if x (on_switch p).at (on_downlink p.bearer downlink) else [])
 
-abbrev pub status_orders : ℕ → SnStatus → UpPart → List Order
+abbrev pub status_orders : ℕ → SnStatus → CuUpModel → List ModelStep
 status_orders x status p =
     knows x status ∷ (if p.at.flags.arrived then sends_again x ∷ numbers_if x (on_status p).at (known p.bearer status) else [])
 
 -- the radio that a switch is for is named; what a bearer takes, and the freeze, have theirs elsewhere
-abbrev pub control_orders : {P : Type 0} → ℕ → ℕ → UpPart → UpOrder P → List Order
+abbrev pub control_orders : {P : Type 0} → ℕ → ℕ → CuUpModel → ContextStep P → List ModelStep
 control_orders x epoch p (ups.switches du teid) = switch_orders x epoch du teid p
 control_orders x epoch p (ups.knows status) = status_orders x status p
 control_orders x epoch p ups.resumes = resumes x ∷ numbers_if x (on_resume p).at (thawed p.bearer)
@@ -111,9 +111,9 @@ unfoldable pub packets_of : List Pdu → List (ℕ × List ℕ)
 packets_of [] = []
 packets_of (pdu ∷ pdus) = packet_of pdu ++ packets_of pdus
 
--- This member of the part is this one then, but for what it may have put on its own forwarding tunnel; these items went to where its
+-- This member of the model is this one then, but for what it may have put on its own forwarding tunnel; these items went to where its
 -- hop leads, and these packets to its radio; and nothing else changed.
-pub record Went (s t : Part) (x : ℕ) (m : Member) (items : List Item) (packets : List (ℕ × List ℕ)) : Type 0 where
+pub record Went (s t : Model) (x : ℕ) (m : Member) (items : List Item) (packets : List (ℕ × List ℕ)) : Type 0 where
   pub here : record (t.members x) { forwarded = m.forwarded } ≡ m
   pub others : (y : ℕ) → y ≢ x → record (t.members y) { forwarded = (s.members y).forwarded } ≡ s.members y
   pub forwarded : (y : ℕ) → y ≢ x
@@ -122,8 +122,8 @@ pub record Went (s t : Part) (x : ℕ) (m : Member) (items : List Item) (packets
   pub rest : (t.epoch ≡ s.epoch) × (t.path ≡ s.path) × (t.station ≡ s.station) × (t.offered ≡ s.offered) × (t.terminal ≡ s.terminal)
       × (t.delivered ≡ s.delivered)
 
--- the row's outputs and its bearer are what the orders made of the part
-pub record Shown {M C P : Type 0} (way : Way M C P) (s t : Part) (x : ℕ) (q : UpPart) (outputs : List (Output M P)) : Type 0 where
+-- the row's outputs and its bearer are what the orders made of the model
+pub record Shown {M C P : Type 0} (way : Way M C P) (s t : Model) (x : ℕ) (q : CuUpModel) (outputs : List (Output M P)) : Type 0 where
   pub member : Member
   pub is : IsDown member q
   pub pdus : List Pdu
@@ -131,7 +131,7 @@ pub record Shown {M C P : Type 0} (way : Way M C P) (s t : Part) (x : ℕ) (q : 
   pub went : Went s t x member (items_of outputs) (packets_of pdus)
 
 -- the row's answer is so, or a counter is spent
-abbrev pub Shows : {M C P : Type 0} → Way M C P → Part → Part → ℕ → Answer M P (Option UpPart) → Type 0
+abbrev pub Shows : {M C P : Type 0} → Way M C P → Model → Model → ℕ → Answer M P (Option CuUpModel) → Type 0
 Shows way s t x (gives outputs None) = ⊥
 Shows way s t x (gives outputs (Some q)) = Shown way s t x q outputs
 Shows way s t x (spent counter) = Unit {0}
@@ -139,14 +139,14 @@ Shows way s t x (spent counter) = Unit {0}
 -- ---- what is so of a bearer that takes an item: a frozen one has its hop, a released one is frozen, and where it serves it has a
 -- downlink once COUNTs come to it
 
-pub record Stands (p : UpPart) : Type 0 where
+pub record Stands (p : CuUpModel) : Type 0 where
   pub hop : p.at.flags.frozen ≡ true → (h : SourceHop) × (p.bearer.hop ≡ Some h)
   pub passes : p.at.flags.frozen ≡ false → p.at.flags.released ≡ false
 
 -- the item is one that the run puts there: its COUNT is found, and a tunnel ends once
 -- A switch and a resume are of a context that wasn't released; and where the terminal is at the one that gets its SN status, this
 -- serves, and has its downlink.
-abbrev pub IsAsked : {P : Type 0} → UpPart → UpOrder P → Type 0
+abbrev pub IsAsked : {P : Type 0} → CuUpModel → ContextStep P → Type 0
 IsAsked p (ups.adds teid) = Unit {0}
 IsAsked p (ups.switches du teid) = p.at.flags.released ≡ false
 IsAsked p (ups.knows status) = p.at.flags.arrived ≡ true
@@ -156,7 +156,7 @@ IsAsked p ups.releases = Unit {0}
 IsAsked p ups.polls = Unit {0}
 IsAsked p order = ⊥
 
-abbrev pub IsFit : {P : Type 0} → UpPart → TunnelKind → Taken P → Type 0
+abbrev pub IsFit : {P : Type 0} → CuUpModel → TunnelKind → Taken P → Type 0
 IsFit p n3 (fresh_item packet) = Unit {0}
 IsFit p n3 end_item = (p.at.flags.frozen ≡ true) × ((teid : ℕ) × (p.bearer.n3 ≡ Some teid))
 IsFit p forwarding_down (fresh_item packet) = Unit {0}
@@ -175,8 +175,8 @@ IsOfUplink forwarding_up end_item = Unit {0}
 IsOfUplink kind item = ⊥
 
 -- the bearer that a new context has
-abbrev pub new_part : UeId → BearerId → ℕ → SnBits → ℕ → Bool → ℕ → UpPart
-new_part ue bearer instance sn quota target teid = record {
+abbrev pub new_model : UeId → BearerId → ℕ → SnBits → ℕ → Bool → ℕ → CuUpModel
+new_model ue bearer instance sn quota target teid = record {
   instance = instance;
   at = record { ue = ue; bearer = bearer; sn = sn; quota = quota; flags = new_flags_of target };
   bearer = made target teid;
@@ -184,20 +184,20 @@ new_part ue bearer instance sn quota target teid = record {
 
 -- ---- a freeze: to this other context go these items, and it is promised this COUNT
 
-pub record Froze (s t : Part) (x to : ℕ) (m : Member) (items : List Item) (promised : ℕ) : Type 0 where
+pub record Froze (s t : Model) (x to : ℕ) (m : Member) (items : List Item) (promised : ℕ) : Type 0 where
   pub here : t.members x ≡ m
   pub target : t.members to ≡ record (s.members to) { forwarded = (s.members to).forwarded ++ items; promised = promised }
   pub others : (y : ℕ) → y ≢ x → y ≢ to → t.members y ≡ s.members y
   pub rest : (t.air ≡ s.air) × (t.epoch ≡ s.epoch) × (t.path ≡ s.path) × (t.station ≡ s.station) × (t.offered ≡ s.offered)
       × (t.terminal ≡ s.terminal) × (t.delivered ≡ s.delivered)
 
-pub record ShownFrozen {M P : Type 0} (s t : Part) (x to : ℕ) (promised : ℕ) (q : UpPart) (outputs : List (Output M P)) : Type 0 where
+pub record ShownFrozen {M P : Type 0} (s t : Model) (x to : ℕ) (promised : ℕ) (q : CuUpModel) (outputs : List (Output M P)) : Type 0 where
   pub member : Member
   pub is : IsDown member q
   pub puts : pdus_of outputs ≡ []
   pub froze : Froze s t x to member (items_of outputs) promised
 
-abbrev pub ShowsFrozen : {M P : Type 0} → Part → Part → (x to promised : ℕ) → Answer M P (Option UpPart) → Type 0
+abbrev pub ShowsFrozen : {M P : Type 0} → Model → Model → (x to promised : ℕ) → Answer M P (Option CuUpModel) → Type 0
 ShowsFrozen s t x to promised (gives outputs None) = ⊥
 ShowsFrozen s t x to promised (gives outputs (Some q)) = ShownFrozen s t x to promised q outputs
 ShowsFrozen s t x to promised (spent counter) = Unit {0}

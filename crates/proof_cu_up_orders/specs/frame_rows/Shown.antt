@@ -5,8 +5,8 @@ use Rattle.gnb_types.specs.declared.names.Dir.TheVariants.{Dl}
 use Rattle.gnb_types.specs.declared.names.SnBits.{SnBits}
 use Rattle.gnb_types.specs.declared.keys.TunnelEnd.{TunnelEnd}
 use Rattle.unit_defs.specs.Ways.{Load, frame, Output, packet, Way, Answer, gives, spent}
-use Rattle.unit_defs.specs.UpRecords.{Downlink}
-use Rattle.proof_cu_up_orders.specs.context_orders.Orders.{UpPart}
+use Rattle.unit_defs.specs.CuUpRecords.{DownlinkTunnel}
+use Rattle.proof_cu_up_orders.specs.context_orders.Orders.{CuUpModel}
 use Rattle.law_downlink_order.specs.path.Paths.{Frame, Sending}
 use Rattle.law_downlink_order.specs.path.Shown.{written}
 
@@ -20,7 +20,7 @@ frames_of (packet to teid ue bearer Dl tag load ∷ outputs) = frame_at to teid 
 frames_of (output ∷ outputs) = frames_of outputs
 
 -- where a downlink goes
-abbrev pub end_of : Option Downlink → Option TunnelEnd
+abbrev pub end_of : Option DownlinkTunnel → Option TunnelEnd
 end_of None = None
 end_of (Some l) = Some (record { node = l.du; teid = l.teid })
 
@@ -30,7 +30,7 @@ put_at way sn (Some end) frames = map (λ f. (end, written way sn f)) frames
 
 -- The frames of a row are these, all on the tunnel of its downlink, and its downlink and its restart mark are so then; and where the
 -- context ends there are none. Or a counter is spent.
-abbrev pub PutsSent : {M C P : Type 0} → Way M C P → SnBits → Sending → Answer M P (Option UpPart) → Type 0
+abbrev pub PutsSent : {M C P : Type 0} → Way M C P → SnBits → Sending → Answer M P (Option CuUpModel) → Type 0
 PutsSent way sn sent (gives outputs None) = frames_of outputs ≡ []
 PutsSent way sn sent (gives outputs (Some q)) =
     (frames_of outputs ≡ put_at way sn (end_of q.bearer.downlink) sent.frames)

@@ -1,11 +1,11 @@
 -- What is asked of a context that sends to a DU.
 use Rattle.std.specs.Prelude.{false, []}
 use Rattle.proof_cu_up_orders.specs.bearer_orders.Happenings.{Beside}
-use Rattle.proof_cu_up_orders.specs.context_orders.Orders.{UpOrder}
+use Rattle.proof_cu_up_orders.specs.context_orders.Orders.{ContextStep}
 use Rattle.proof_cu_up_orders.specs.context_orders.Orders as ups
 
 -- orders by which the context goes on on its downlink
-abbrev pub GoesOn : {P : Type 0} → UpOrder P → Type 0
+abbrev pub GoesOn : {P : Type 0} → ContextStep P → Type 0
 GoesOn (ups.switches du teid) = ⊥
 GoesOn ups.closes = ⊥
 GoesOn order = Unit {0}

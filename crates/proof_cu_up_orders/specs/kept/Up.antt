@@ -1,13 +1,13 @@
 -- What the orders of a bearer's uplink ask that a CU-UP doesn't test of its own: that items stand first where they are taken from, and
--- what control owes.
+-- what is assumed of control.
 use Rattle.std.specs.Prelude.{◌≡◌, ◌≢◌, ℕ, true, List, ◌∷◌, Some}
 use Rattle.unit_defs.specs.Ways.{packet_content, Taken, numbered_item, uplink_item, end_item}
-use Rattle.unit_defs.specs.UpRecords.{TunnelKind, f1u_uplink, forwarding_up}
-use Rattle.unit_defs.specs.UpBearers.{is_one_of}
-use Rattle.bearer_defs.specs.uplink_defs.Parts.{Item, numbered, end_marker, Member, Part, no_member}
+use Rattle.unit_defs.specs.CuUpRecords.{TunnelKind, f1u_uplink, forwarding_up}
+use Rattle.unit_defs.specs.CuUpBearers.{is_one_of}
+use Rattle.bearer_defs.specs.uplink_defs.Models.{Item, numbered, end_marker, Member, Model, no_member}
 use Rattle.bearer_defs.specs.uplink_defs.Orders.{adds, switches, knows, resumes, releases}
-use Rattle.bearer_defs.specs.uplink_defs.Guards.{IsOwed}
-use Rattle.proof_cu_up_orders.specs.context_orders.Orders.{UpPart, UpOrder}
+use Rattle.bearer_defs.specs.uplink_defs.Assumptions.{IsAssumed}
+use Rattle.proof_cu_up_orders.specs.context_orders.Orders.{CuUpModel, ContextStep}
 use Rattle.proof_cu_up_orders.specs.context_orders.Orders as ups
 
 -- the item stands first on the tunnel that it is of, which is open
@@ -21,16 +21,16 @@ StandsFirst m rest kind teid item = Unit {0}
 
 -- control owes of the orders what is asked of them; an SN status that comes where the terminal is there hands up, so that this is the
 -- context that it is at
-abbrev pub ControlOwes : {P : Type 0} → Part → ℕ → UpPart → UpOrder P → Type 0
-ControlOwes s x p (ups.adds teid) = IsOwed s (adds x teid)
-ControlOwes s x p (ups.switches du teid) = IsOwed s (switches x)
-ControlOwes s x p (ups.knows status) = IsOwed s (knows x status) × (p.at.flags.arrived ≡ true → x ≡ s.station)
-ControlOwes s x p ups.resumes = IsOwed s (resumes x)
-ControlOwes s x p ups.releases = IsOwed s (releases x)
-ControlOwes s x p order = Unit {0}
+abbrev pub ControlAssumes : {P : Type 0} → Model → ℕ → CuUpModel → ContextStep P → Type 0
+ControlAssumes s x p (ups.adds teid) = IsAssumed s (adds x teid)
+ControlAssumes s x p (ups.switches du teid) = IsAssumed s (switches x)
+ControlAssumes s x p (ups.knows status) = IsAssumed s (knows x status) × (p.at.flags.arrived ≡ true → x ≡ s.station)
+ControlAssumes s x p ups.resumes = IsAssumed s (resumes x)
+ControlAssumes s x p ups.releases = IsAssumed s (releases x)
+ControlAssumes s x p order = Unit {0}
 
 -- this context is no more, and nothing else changed
-pub record Ended (s t : Part) (x : ℕ) : Type 0 where
+pub record Ended (s t : Model) (x : ℕ) : Type 0 where
   pub here : t.members x ≡ no_member
   pub others : (y : ℕ) → y ≢ x → t.members y ≡ s.members y
   pub rest : (t.delivered ≡ s.delivered) × (t.station ≡ s.station) × (t.terminal ≡ s.terminal) × (t.connected ≡ s.connected)

@@ -2,10 +2,10 @@
 -- and what it sent of what it holds.
 use Rattle.std.specs.Prelude.{◌≡◌, ℕ, ◌≤◌, true, false, List, ◌++◌}
 use Rattle.intervals.specs.Intervals.{HasNoGap, reach}
-use Rattle.bearer_defs.specs.chain_defs.Parts.{Part}
+use Rattle.bearer_defs.specs.chain_defs.Models.{Model}
 use Rattle.unit_defs.specs.Du.{DuBearer}
-use Rattle.unit_defs.specs.UpBearers.{owed}
-use Rattle.unit_defs.specs.UpRecords.{UpBearer}
+use Rattle.unit_defs.specs.CuUpBearers.{owed}
+use Rattle.unit_defs.specs.CuUpRecords.{CuUpBearer}
 use Rattle.law_downlink_order.specs.path.Paths.{Frame}
 use Rattle.law_downlink_order.specs.sent_frames.Senders.{IsSender}
 
@@ -20,7 +20,7 @@ with_frames w more = record w { frames = w.frames ++ more }
 
 -- `cursor`: up to where all was sent. While the context serves this is all that it holds; while frozen it is so with what it owes, which is
 -- sent at a resume. Of a released context, which holds nothing, nothing more is said.
-pub record IsSending (d : Part) (x : ℕ) (c : UpBearer) (w : Tunnel) : Type 0 where
+pub record IsSending (d : Model) (x : ℕ) (c : CuUpBearer) (w : Tunnel) : Type 0 where
   pub cursor : ℕ
   pub sender : IsSender d c w.du w.frames w.waits cursor
   pub epoch : (d.members x).epoch ≡ d.epoch

@@ -3,8 +3,8 @@ use Rattle.std.specs.Prelude.{◌≡◌, ◌==◌, ℕ, not, List, [], ◌∷◌
 use Rattle.gnb_types.specs.declared.names.Dir.TheVariants.{Ul}
 use Rattle.unit_defs.specs.Ways.{Load, Output, packet, deliver, Answer, gives, spent}
 use Rattle.unit_defs.specs.Ways as ways
-use Rattle.unit_defs.specs.UpRecords.{UpBearer}
-use Rattle.bearer_defs.specs.uplink_defs.Parts.{Item, numbered, end_marker}
+use Rattle.unit_defs.specs.CuUpRecords.{CuUpBearer}
+use Rattle.bearer_defs.specs.uplink_defs.Models.{Item, numbered, end_marker}
 
 -- what goes up to the next context, in order
 abbrev pub item_of : {P : Type 0} → Load P → List Item
@@ -24,10 +24,10 @@ delivered_in (deliver ue bearer Ul count p ∷ outputs) = (count, p) ∷ deliver
 delivered_in (output ∷ outputs) = delivered_in outputs
 
 -- these items and packets, and this bearer; or a counter is spent
-unfoldable pub Gives : {M P : Type 0} → List Item → List (ℕ × List ℕ) → UpBearer → Answer M P UpBearer → Type 0
+unfoldable pub Gives : {M P : Type 0} → List Item → List (ℕ × List ℕ) → CuUpBearer → Answer M P CuUpBearer → Type 0
 Gives items packets after (gives outputs b) = (items_of outputs ≡ items) × (delivered_in outputs ≡ packets) × (b ≡ after)
 Gives items packets after (spent counter) = ⊤
 
 -- without an uplink tunnel
-abbrev pub closed_at : UpBearer → ℕ → UpBearer
+abbrev pub closed_at : CuUpBearer → ℕ → CuUpBearer
 closed_at b teid = record b { uplinks = filter (λ t. not (t == teid)) b.uplinks }

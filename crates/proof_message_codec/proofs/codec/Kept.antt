@@ -9,22 +9,22 @@ use Rattle.message_types.specs.declared.e1.E1Message.{E1Message}
 use Rattle.aper_defs.specs.Values.{Value}
 use Rattle.aper_defs.specs.Reading.{Fault, decoded}
 use Rattle.message_defs.specs.profile_defs.Profile.{e1_type}
-use Rattle.message_defs.specs.Heard.{Cause}
-use Rattle.message_defs.specs.E1.{heard_e1}
+use Rattle.message_defs.specs.FromValue.{Cause}
+use Rattle.message_defs.specs.E1.{e1_from_value}
 use Rattle.message_octets.specs.Reading.{unless_dropped, read_value, read_as}
 use Rattle.unit_defs.specs.Ways.{Message, f1, e1, xn, core, rrc}
 use Rattle.message_codec_defs.specs.OctetCodecs.{SaysInOctets}
-use Rattle.proof_message_codec.proofs.codec.Heard.{said_in_range}
+use Rattle.proof_message_codec.proofs.codec.FromValue.{said_in_range}
 use Rattle.proof_message_codec.proofs.codec.Ranges.{passes}
 use Rattle.message_codec_defs.specs.Codecs.{answered, read_between}
 use Rattle.message_codec_defs.specs.Ranges.{within_ranges}
 
 -- a message of E1AP is read where octets say it, and nowhere else
 said_by : (octets : List ℕ) (r : Result Value Fault) (msg : E1Message) → decoded e1_type octets ≡ r
-    → answered e1 (read_value heard_e1 r) ≡ Ok (e1 msg) → SaysInOctets octets msg
-said_by octets (Ok v) msg is h = (v, is, by (heard_e1 v) refl h)
+    → answered e1 (read_value e1_from_value r) ≡ Ok (e1 msg) → SaysInOctets octets msg
+said_by octets (Ok v) msg is h = (v, is, by (e1_from_value v) refl h)
   where
-    by : (c : Result E1Message Cause) → heard_e1 v ≡ c → answered e1 (unless_dropped c) ≡ Ok (e1 msg) → heard_e1 v ≡ Ok msg
+    by : (c : Result E1Message Cause) → e1_from_value v ≡ c → answered e1 (unless_dropped c) ≡ Ok (e1 msg) → e1_from_value v ≡ Ok msg
     by (Ok m) e g = e ∙ ap Ok (same m msg g)
       where
         same : (a b : E1Message) → (let r : Result (Message (List ℕ)) DropReason = Ok (e1 a) in r) ≡ Ok (e1 b) → a ≡ b
@@ -47,7 +47,7 @@ other as_message (Ok m) msg apart h = apart m (same _ h)
     same a k = cc
 other as_message (Err reason) msg apart h = cc
 
-e1_said : (octets : List ℕ) (msg : E1Message) → answered e1 (read_as e1_type heard_e1 octets) ≡ Ok (e1 msg) → SaysInOctets octets msg
+e1_said : (octets : List ℕ) (msg : E1Message) → answered e1 (read_as e1_type e1_from_value octets) ≡ Ok (e1 msg) → SaysInOctets octets msg
 e1_said octets msg h = said_by octets (decoded e1_type octets) msg refl h
 
 reads_e1 : (from to : NodeId) (octets : List ℕ) (msg : E1Message) → read_between from to octets ≡ Ok (e1 msg) → SaysInOctets octets msg

@@ -9,7 +9,7 @@ use Rattle.gnb_types.specs.declared.reasons.DropReason.TheVariants.{Undecodable}
 use Rattle.message_types.specs.declared.e1.E1Message.{E1Message}
 use Rattle.message_types.specs.declared.e1.E1Message.TheVariants as e1s
 use Rattle.unit_defs.specs.Ways.{Message, f1, e1, xn, core, rrc}
-use Rattle.unit_defs.specs.UpBearers.{bits_in}
+use Rattle.unit_defs.specs.CuUpBearers.{bits_in}
 use Rattle.unit_defs.specs.codec_range_defs.Ranges.{IsSetupInRange, IsShortStatus, AreShortStatuses, IsE1InRange, IsInRange}
 use Rattle.message_codec_defs.specs.Ranges.{is_short, are_short, is_in_range, within_ranges}
 

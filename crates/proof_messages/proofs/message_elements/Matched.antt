@@ -12,7 +12,7 @@ use Rattle.message_defs.specs.profile_defs.Elements.{Element}
 use Rattle.message_defs.specs.profile_defs.Tables.{Use, Message, element_rows, is_at}
 use Rattle.message_defs.specs.Known.{known, known_components, known_additions, known_row, known_elements, if_some}
 use Rattle.message_defs.specs.Places.{Field, content_of, put_element, written_elements, element_of, or_empty, the, any, elements_in, additions_in}
-use Rattle.message_defs.specs.Heard.{unless_rejected}
+use Rattle.message_defs.specs.FromValue.{unless_rejected}
 use Rattle.proof_messages.proofs.message_elements.Ordered.{ie_of, put, collected, are_distinct, ordered, is_mandatory, there, body_of}
 
 same_element : (e : Element) (ies : Ies) → element_of e ies ≡ ie_of e.id ies

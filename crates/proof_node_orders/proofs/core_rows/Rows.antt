@@ -23,19 +23,19 @@ use Rattle.unit_defs.specs.Ways.{Message, f1, e1, xn, core, rrc, Output, control
 use Rattle.unit_defs.specs.Transactions.{Kind, request, reply, transfer, kind_of, Transactions, replied, request_by, answered_again, on_request}
 use Rattle.unit_defs.specs.Messages.{channel}
 use Rattle.unit_defs.specs.Core.{CorePath, CoreRecord, end_of, old_ends, new_path, switch_path, asked, came, core_acts}
-use Rattle.bearer_defs.specs.chain_defs.Parts.{Item, end_marker as end_item, Member, Part}
+use Rattle.bearer_defs.specs.chain_defs.Models.{Item, end_marker as end_item, Member, Model}
 use Rattle.bearer_defs.specs.chain_defs.Orders.{switches_path, after, run}
-use Rattle.bearer_defs.specs.chain_defs.Guards.{IsReady, IsOwed, AreKept}
+use Rattle.bearer_defs.specs.chain_defs.Assumptions.{IsReady, IsAssumed, AreKept}
 use Rattle.proof_node_orders.specs.core_rows.Shown.{teids_of, Places, IsPath, is_new, Goal, if_own, goal_of, goal_if, goal_at, goal_by, to_first, orders_to, IsOne, items_put, IsAfter, Follows}
 
-pub switch_kept : (sn : SnBits) (quota : ℕ) (s : Part) (to : ℕ) → IsOwed s (switches_path to) → AreKept sn quota s (switches_path to ∷ [])
+pub switch_kept : (sn : SnBits) (quota : ℕ) (s : Model) (to : ℕ) → IsAssumed s (switches_path to) → AreKept sn quota s (switches_path to ∷ [])
 unfolding AreKept IsReady
-switch_kept sn quota s to owed = (tt, owed, tt)
+switch_kept sn quota s to assumed = (tt, assumed, tt)
 
 module _ {M C P : Type 0} (way : Way M C P) (places : Places) (ue : UeId) (bearer : BearerId) where
   -- ---- nothing changes
 
-  rests : (r v : CoreRecord M C) (s : Part) (outputs : List (Output M P)) → IsPath places r ue bearer s
+  rests : (r v : CoreRecord M C) (s : Model) (outputs : List (Output M P)) → IsPath places r ue bearer s
       → find ue_cmp v.paths ue ≡ find ue_cmp r.paths ue → ((x : ℕ) → items_put places ue bearer x outputs ≡ [])
       → IsAfter places ue bearer s s outputs v
   rests r v s outputs is same none_put = record {
@@ -76,7 +76,7 @@ module _ {M C P : Type 0} (way : Way M C P) (places : Places) (ue : UeId) (beare
 
   -- ---- the path is switched
 
-  switched : (s : Part) (to x : ℕ)
+  switched : (s : Model) (to x : ℕ)
       → ((run s (switches_path to ∷ [])).members x).n3 ≡ (s.members x).n3 ++ (if x == s.path then end_item ∷ [] else [])
   unfolding run after
   switched s to x = by (x == s.path) refl
@@ -88,7 +88,7 @@ module _ {M C P : Type 0} (way : Way M C P) (places : Places) (ue : UeId) (beare
       by true e = ap (λ y. (s.members y).n3 ++ end_item ∷ []) (sym (eqb-true x s.path e))
       by false e = sym (append-nil (s.members x).n3)
 
-  module _ (r : CoreRecord M C) (s : Part) (is : IsPath places r ue bearer s) where
+  module _ (r : CoreRecord M C) (s : Model) (is : IsPath places r ue bearer s) where
     abbrev To : Option Goal → Answer M P (CoreRecord M C) → Type 0
     To goal a = Follows places ue bearer s (run s (orders_to places goal)) a
 
@@ -105,12 +105,12 @@ module _ {M C P : Type 0} (way : Way M C P) (places : Places) (ue : UeId) (beare
         goal = record { up = CuUp peer.gnb peer.up; teids = teids_of bearer n3 }
 
         first : Output M P
-        first = control ch.peer ch.ue (way.spell (core (cores.PathSwitchAcknowledge other instance)))
+        first = control ch.peer ch.ue (way.encode (core (cores.PathSwitchAcknowledge other instance)))
 
         v : CoreRecord M C
         v = record {
           paths = put ue_cmp r.paths other (new_path way peer n3);
-          transactions = record t { callee = keep t.callee ch (way.spell (core (cores.PathSwitchAcknowledge other instance))) };
+          transactions = record t { callee = keep t.callee ch (way.encode (core (cores.PathSwitchAcknowledge other instance))) };
         }
 
         none_put : (o : Option CorePath) → eq_by_cmp ue_cmp ue other ≡ false → (x : ℕ) → items_put places ue bearer x (old_ends way other o) ≡ []
@@ -181,11 +181,11 @@ module _ {M C P : Type 0} (way : Way M C P) (places : Places) (ue : UeId) (beare
     came_follows from message (reply other instance) one = drop_stays Unexpected r.transactions
     came_follows from message (transfer other) one = drop_stays Unexpected r.transactions
 
-    pub letter_follows : (from : NodeId) (message : Message C) → IsOne (goal_by ue bearer r from message)
+    pub control_message_follows : (from : NodeId) (message : Message C) → IsOne (goal_by ue bearer r from message)
         → To (goal_by ue bearer r from message) (core_acts way r from message)
     unfolding core_acts
-    letter_follows (CuCp gnb) message one = came_follows (CuCp gnb) message (kind_of message) one
-    letter_follows (CuUp gnb number) message one = drop_stays Unexpected r.transactions
-    letter_follows (Du gnb number) message one = drop_stays Unexpected r.transactions
-    letter_follows Core message one = drop_stays Unexpected r.transactions
-    letter_follows (Ue from) message one = drop_stays Unexpected r.transactions
+    control_message_follows (CuCp gnb) message one = came_follows (CuCp gnb) message (kind_of message) one
+    control_message_follows (CuUp gnb number) message one = drop_stays Unexpected r.transactions
+    control_message_follows (Du gnb number) message one = drop_stays Unexpected r.transactions
+    control_message_follows Core message one = drop_stays Unexpected r.transactions
+    control_message_follows (Ue from) message one = drop_stays Unexpected r.transactions

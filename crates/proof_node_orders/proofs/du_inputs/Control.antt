@@ -24,10 +24,10 @@ use Rattle.unit_defs.specs.Ways.{Message, f1, e1, xn, core, rrc, Pdu, Input, con
 use Rattle.unit_defs.specs.Messages.{channel, is_same_gnb, bearers_of, are_first_bearers}
 use Rattle.unit_defs.specs.Transactions.{Kind, request, reply, transfer, kind_of, no_instance, Transactions, Asked, ask, advance, replied, request_by, answered_again, on_request, on_reply}
 use Rattle.unit_defs.specs.Teids.{teids_are_left}
-use Rattle.unit_defs.specs.Du.{Du, DuBearer, DuContext, du_node, downlinks_of, context_of, with_transactions, downlink_list, replies, openings, old_downlinks, replaced, replaces, context_with, setup, context_anew, modify_on, modify, released_on, release, relay_up, token_ue, start, set_up, asked, transferred, of_cp, of_terminal, control_came, of_bearer, of_context, pass_up, confirmed, confirm, tick, du_acts}
+use Rattle.unit_defs.specs.Du.{Du, DuBearer, DuContext, du_node, downlinks_of, context_of, with_transactions, downlink_list, replies, openings, old_downlinks, replaced, replaces, context_with, setup, context_anew, modify_on, modify, released_on, release, relay_up, token_ue, start, set_up, asked, transferred, of_cu_cp, of_terminal, control_received, of_bearer, of_context, pass_up, confirmed, confirm, tick, du_acts}
 use Rattle.proof_node_orders.specs.du_rows.Shown.{Keeps}
 use Rattle.proof_node_orders.proofs.du_rows.Contexts.{relay_down_keeps, relay_up_keeps, tick_keeps}
-use Rattle.proof_node_orders.specs.du_inputs.Changes.{DuPart, teid_anew, part_in, part_of, Change, stays, renews, sets_up, ends, changed, if_own, of_setup, of_modification, of_request, if_new, of_kind, of_letter, change_by, Has}
+use Rattle.proof_node_orders.specs.du_inputs.Changes.{DuModel, teid_anew, model_in, model_of, Change, stays, renews, sets_up, ends, changed, if_own, of_setup, of_modification, of_request, if_new, of_kind, of_control_message, change_by, Has}
 use Rattle.proof_node_orders.specs.du_inputs.Puts.{AreQuiet, IsQuiet}
 use Rattle.proof_node_orders.proofs.du_inputs.Contexts.{same_ue, stays_is, ends_is, sets_is, anew_is, put_here, put_far, without_here, without_far, keeps_has}
 use Rattle.proof_node_orders.proofs.du_inputs.Frames.{take_has}
@@ -96,44 +96,44 @@ module _ {M C P : Type 0} (way : Way M C P) where
 
 module _ {M C : Type 0} (way : Way M C Pdu) (ue : UeId) (bearer : BearerId) where
   abbrev Becomes : Change → Du M C → Answer M Pdu (Du M C) → Type 0
-  Becomes change r a = Has ue bearer (changed change (part_of r ue bearer)) a
+  Becomes change r a = Has ue bearer (changed change (model_of r ue bearer)) a
 
   kept : (r : Du M C) (a : Answer M Pdu (Du M C)) → Keeps r a → Becomes stays r a
   kept r a k = keeps_has ue bearer r a k
 
   dropped_too : (r : Du M C) (outputs : List (Output M Pdu)) → Becomes stays r (gives outputs r)
   unfolding Has
-  dropped_too r outputs = sym (stays_is (part_of r ue bearer))
+  dropped_too r outputs = sym (stays_is (model_of r ue bearer))
 
   -- ---- requests
 
-  replies_has : (part : Option DuPart) (ch : Channel) (m : F1 C) (outputs : List (Output M Pdu)) (v : Du M C)
-      → part_of v ue bearer ≡ part → Has ue bearer part (gives outputs v then replies way ch m)
+  replies_has : (part : Option DuModel) (ch : Channel) (m : F1 C) (outputs : List (Output M Pdu)) (v : Du M C)
+      → model_of v ue bearer ≡ part → Has ue bearer part (gives outputs v then replies way ch m)
   unfolding replied Has
   replies_has part ch m outputs v is = is
 
   -- a context is replaced, and a reply is put
   replaced_has : (other : UeId) (old : Option DuContext) (c : DuContext) (ch : Channel) (m : F1 C) (r : Du M C) (change : Change)
-      → (eq_by_cmp ue_cmp ue other ≡ true → part_in bearer (Some c) ≡ changed change (part_of r ue bearer))
+      → (eq_by_cmp ue_cmp ue other ≡ true → model_in bearer (Some c) ≡ changed change (model_of r ue bearer))
       → Becomes (if_own (eq_by_cmp ue_cmp ue other) change) r (replaces way other old c r then replies way ch m)
   unfolding replaces Has
   replaced_has other old c ch m r change own = by_left (teids_are_left r.next_teid (length c.bearers))
     where
       by_ue : (t : Bool) → eq_by_cmp ue_cmp ue other ≡ t
-          → part_in bearer (find ue_cmp (put ue_cmp r.contexts other c) ue) ≡ changed (if_own t change) (part_of r ue bearer)
-      by_ue true is = ap (λ k. part_in bearer (find ue_cmp (put ue_cmp r.contexts other c) k)) (same_ue ue other is)
+          → model_in bearer (find ue_cmp (put ue_cmp r.contexts other c) ue) ≡ changed (if_own t change) (model_of r ue bearer)
+      by_ue true is = ap (λ k. model_in bearer (find ue_cmp (put ue_cmp r.contexts other c) k)) (same_ue ue other is)
           ∙ put_here r.contexts other bearer c ∙ own is
-      by_ue false is = put_far r.contexts ue other bearer c is ∙ sym (stays_is (part_of r ue bearer))
+      by_ue false is = put_far r.contexts ue other bearer c is ∙ sym (stays_is (model_of r ue bearer))
 
       by_left : (t : Bool) → Becomes (if_own (eq_by_cmp ue_cmp ue other) change) r
           ((if t then gives (map (λ teid. closed teid) (old_downlinks way old) ++ openings way c) (replaced way other old c r) else spent teids_spent)
           then replies way ch m)
-      by_left true = replies_has (changed (if_own (eq_by_cmp ue_cmp ue other) change) (part_of r ue bearer)) ch m
+      by_left true = replies_has (changed (if_own (eq_by_cmp ue_cmp ue other) change) (model_of r ue bearer)) ch m
           (map (λ teid. closed teid) (old_downlinks way old) ++ openings way c) (replaced way other old c r)
           (by_ue (eq_by_cmp ue_cmp ue other) refl)
       by_left false = tt
 
-  own_stays : (t : Bool) (d : Option DuPart) → d ≡ changed (if_own t stays) d
+  own_stays : (t : Bool) (d : Option DuModel) → d ≡ changed (if_own t stays) d
   own_stays true d = sym (stays_is d)
   own_stays false d = sym (stays_is d)
 
@@ -146,15 +146,15 @@ module _ {M C : Type 0} (way : Way M C Pdu) (ue : UeId) (bearer : BearerId) wher
       now : DuContext
       now = context_with way r epoch uplinks sn peer
 
-      part : Option DuPart
-      part = part_in bearer (Some now)
+      part : Option DuModel
+      part = model_in bearer (Some now)
 
       by : (t : Bool) → Becomes (if_own (eq_by_cmp ue_cmp ue other) (if not t then stays else sets_up part)) r
           (if not t then drops Unexpected r else
           (replaces way other (context_of r other) now r then replies way ch (f1s.UeContextSetupResponse other instance (downlink_list now))))
       by true = replaced_has other (context_of r other) now ch (f1s.UeContextSetupResponse other instance (downlink_list now)) r (sets_up part)
-          (λ is. sym (sets_is part (part_of r ue bearer)))
-      by false = own_stays (eq_by_cmp ue_cmp ue other) (part_of r ue bearer)
+          (λ is. sym (sets_is part (model_of r ue bearer)))
+      by false = own_stays (eq_by_cmp ue_cmp ue other) (model_of r ue bearer)
 
   modify_has : (ch : Channel) (other : UeId) (instance epoch : ℕ) (r : Du M C)
       → Becomes (if_own (eq_by_cmp ue_cmp ue other) (of_modification bearer epoch r (context_of r other))) r
@@ -164,12 +164,12 @@ module _ {M C : Type 0} (way : Way M C Pdu) (ue : UeId) (bearer : BearerId) wher
     where
       by : (o : Option DuContext) → context_of r other ≡ o → Becomes (if_own (eq_by_cmp ue_cmp ue other) (of_modification bearer epoch r o)) r
           (modify_on way ch other instance epoch r o)
-      by None there = own_stays (eq_by_cmp ue_cmp ue other) (part_of r ue bearer)
+      by None there = own_stays (eq_by_cmp ue_cmp ue other) (model_of r ue bearer)
       by (Some c) there = replaced_has other (Some c) (context_anew way r epoch c) ch
           (f1s.UeContextModificationResponse other instance (downlink_list (context_anew way r epoch c))) r
           (renews epoch (teid_anew bearer r.next_teid c.bearers))
           (λ is. anew_is epoch bearer c r.next_teid ∙ ap (changed (renews epoch (teid_anew bearer r.next_teid c.bearers)))
-          (sym (ap (λ k. part_of r k bearer) (same_ue ue other is) ∙ ap (part_in bearer) there)))
+          (sym (ap (λ k. model_of r k bearer) (same_ue ue other is) ∙ ap (model_in bearer) there)))
 
   release_has : (ch : Channel) (other : UeId) (instance : ℕ) (r : Du M C)
       → Becomes (if_own (eq_by_cmp ue_cmp ue other) ends) r (release way ch other instance r)
@@ -177,24 +177,24 @@ module _ {M C : Type 0} (way : Way M C Pdu) (ue : UeId) (bearer : BearerId) wher
   release_has ch other instance r = by (context_of r other) refl (eq_by_cmp ue_cmp ue other) refl
     where
       first : List (Output M Pdu)
-      first = control ch.peer ch.ue (way.spell (f1 (f1s.UeContextReleaseComplete other instance))) ∷ []
+      first = control ch.peer ch.ue (way.encode (f1 (f1s.UeContextReleaseComplete other instance))) ∷ []
 
       later : Du M C
       later = with_transactions r (record r.transactions {
-        callee = keep r.transactions.callee ch (way.spell (f1 (f1s.UeContextReleaseComplete other instance)));
+        callee = keep r.transactions.callee ch (way.encode (f1 (f1s.UeContextReleaseComplete other instance)));
       })
 
       by : (o : Option DuContext) → context_of r other ≡ o → (t : Bool) → eq_by_cmp ue_cmp ue other ≡ t
           → Becomes (if_own t ends) r (with_outputs first (released_on way other later o))
-      by None there true is = ap (λ k. part_of r k bearer) (same_ue ue other is) ∙ ap (part_in bearer) there ∙ sym (ends_is (part_of r ue bearer))
-      by None there false is = sym (stays_is (part_of r ue bearer))
-      by (Some c) there true is = ap (λ k. part_in bearer (find ue_cmp (without ue_cmp r.contexts other) k)) (same_ue ue other is)
-          ∙ without_here r.contexts other bearer ∙ sym (ends_is (part_of r ue bearer))
-      by (Some c) there false is = without_far r.contexts ue other bearer is ∙ sym (stays_is (part_of r ue bearer))
+      by None there true is = ap (λ k. model_of r k bearer) (same_ue ue other is) ∙ ap (model_in bearer) there ∙ sym (ends_is (model_of r ue bearer))
+      by None there false is = sym (stays_is (model_of r ue bearer))
+      by (Some c) there true is = ap (λ k. model_in bearer (find ue_cmp (without ue_cmp r.contexts other) k)) (same_ue ue other is)
+          ∙ without_here r.contexts other bearer ∙ sym (ends_is (model_of r ue bearer))
+      by (Some c) there false is = without_far r.contexts ue other bearer is ∙ sym (stays_is (model_of r ue bearer))
 
   unmoved : (r : Du M C) (t : Transactions M C) → Becomes stays r (drops Unexpected (with_transactions r t))
   unfolding Has
-  unmoved r t = sym (stays_is (part_of r ue bearer))
+  unmoved r t = sym (stays_is (model_of r ue bearer))
 
   asked_has : (ch : Channel) (message : Message C) (r : Du M C) (t : Transactions M C)
       → Becomes (of_request way ue bearer message r) r (asked way ch message (with_transactions r t))
@@ -233,7 +233,7 @@ module _ {M C : Type 0} (way : Way M C Pdu) (ue : UeId) (bearer : BearerId) wher
   transferred_keeps (rrc token) r = (refl, refl)
   transferred_keeps (f1 (f1s.DlRrcMessageTransfer other container)) r = relay_down_keeps way other container r
 
-  of_cp_has : (from : NodeId) (message : Message C) (r : Du M C) (kind : Kind) → Becomes (of_kind way ue bearer from message r kind) r (of_cp way from message r kind)
+  of_cp_has : (from : NodeId) (message : Message C) (r : Du M C) (kind : Kind) → Becomes (of_kind way ue bearer from message r kind) r (of_cu_cp way from message r kind)
   unfolding on_request on_reply
   of_cp_has from message r (request other instance) = by (verdict r.transactions.callee (channel other from) instance)
     where
@@ -264,24 +264,24 @@ module _ {M C : Type 0} (way : Way M C Pdu) (ue : UeId) (bearer : BearerId) wher
   terminal_has from (xn message) r = dropped_too r (dropped Unexpected ∷ [])
   terminal_has from (core message) r = dropped_too r (dropped Unexpected ∷ [])
 
-  letter_has : (from : NodeId) (message : Message C) (r : Du M C) → Becomes (of_letter way ue bearer from message r) r (control_came way from message r)
-  unfolding control_came
-  letter_has (CuCp gnb) message r = by (is_same_gnb gnb r.gnb)
+  control_message_has : (from : NodeId) (message : Message C) (r : Du M C) → Becomes (of_control_message way ue bearer from message r) r (control_received way from message r)
+  unfolding control_received
+  control_message_has (CuCp gnb) message r = by (is_same_gnb gnb r.gnb)
     where
       by : (t : Bool) → Becomes (if t then of_kind way ue bearer (CuCp gnb) message r (kind_of message) else stays) r
-          (if t then of_cp way (CuCp gnb) message r (kind_of message) else drops Unexpected r)
+          (if t then of_cu_cp way (CuCp gnb) message r (kind_of message) else drops Unexpected r)
       by true = of_cp_has (CuCp gnb) message r (kind_of message)
       by false = dropped_too r (dropped Unexpected ∷ [])
-  letter_has (Ue from) message r = terminal_has from message r
-  letter_has (CuUp gnb number) message r = dropped_too r (dropped Unexpected ∷ [])
-  letter_has (du_id gnb number) message r = dropped_too r (dropped Unexpected ∷ [])
-  letter_has Core message r = dropped_too r (dropped Unexpected ∷ [])
+  control_message_has (Ue from) message r = terminal_has from message r
+  control_message_has (CuUp gnb number) message r = dropped_too r (dropped Unexpected ∷ [])
+  control_message_has (du_id gnb number) message r = dropped_too r (dropped Unexpected ∷ [])
+  control_message_has Core message r = dropped_too r (dropped Unexpected ∷ [])
 
   -- ---- the table
 
-  pub input_has : (r : Du M C) (input : Input C Pdu) → Has ue bearer (changed (change_by way ue bearer r input) (part_of r ue bearer)) (du_acts way r input)
+  pub input_has : (r : Du M C) (input : Input C Pdu) → Has ue bearer (changed (change_by way ue bearer r input) (model_of r ue bearer)) (du_acts way r input)
   unfolding change_by du_acts
-  input_has r (control_input from message) = letter_has from message r
+  input_has r (control_input from message) = control_message_has from message r
   input_has r (packet_input teid item) = take_has way r ue bearer teid item
   input_has r (radio_input other q Ul pdu content) = kept r (pass_up way other q pdu r) (pass_up_keeps way other q pdu r)
   input_has r (radio_input other q Dl pdu content) = dropped_too r (dropped Unexpected ∷ [])
@@ -328,7 +328,7 @@ module _ {M C : Type 0} (way : Way M C Pdu) where
       answer = f1s.UeContextSetupResponse other instance (downlink_list now)
 
       last : List (Output M Pdu)
-      last = control ch.peer ch.ue (way.spell (f1 answer)) ∷ []
+      last = control ch.peer ch.ue (way.encode (f1 answer)) ∷ []
 
       by : (first left : Bool) → IsQuiet (if not first then drops Unexpected r else
           ((if left then gives (old ++ openings way now) (replaced way other (context_of r other) now r) else spent teids_spent)

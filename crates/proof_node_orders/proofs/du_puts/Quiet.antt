@@ -16,8 +16,8 @@ use Rattle.unit_defs.specs.Messages.{channel}
 use Rattle.unit_defs.specs.Transactions.{no_instance, Transactions, Waiting, Asked, is_empty, waits_at, with_waiting, begun_as, begin_request, ask, advance_with, advance, replied}
 use Rattle.unit_defs.specs.Teids.{teids_are_left}
 use Rattle.unit_defs.specs.Du.{Du, DuContext, du_node, context_of, with_transactions, downlinks_of, downlink_list, replies, closings, openings, old_downlinks, replaced, replaces, context_anew, modify_on, modify, relayed_down, relay_down, relayed_up, relay_up, start, set_up, due_output, tick}
-use Rattle.proof_node_orders.specs.du_inputs.Changes.{DuPart, part_of, Change, stays, takes, renews, sets_up, ends}
-use Rattle.proof_node_orders.specs.du_inputs.Puts.{OnTunnel, tunnels_put, radio_put, of_part, of_change, carried_of, Puts, AreQuiet, IsQuiet}
+use Rattle.proof_node_orders.specs.du_inputs.Changes.{DuModel, model_of, Change, stays, takes, renews, sets_up, ends}
+use Rattle.proof_node_orders.specs.du_inputs.Puts.{OnTunnel, tunnels_put, radio_put, of_model, of_change, carried_of, Puts, AreQuiet, IsQuiet}
 
 -- ---- lists of outputs
 
@@ -86,7 +86,7 @@ module _ {M C : Type 0} (way : Way M C Pdu) where
   IsCalm ends = ⊥
   IsCalm change = ⊤
 
-  pub calm_ups : (change : Change) → IsCalm change → (o : Option DuPart) → ◌≡◌ {A = List OnTunnel} [] (of_part (of_change way change) o)
+  pub calm_ups : (change : Change) → IsCalm change → (o : Option DuModel) → ◌≡◌ {A = List OnTunnel} [] (of_model (of_change way change) o)
   calm_ups change h None = refl
   calm_ups stays h (Some d) = refl
   calm_ups (takes frame) h (Some d) = absurd h
@@ -94,7 +94,7 @@ module _ {M C : Type 0} (way : Way M C Pdu) where
   calm_ups (sets_up part) h (Some d) = refl
   calm_ups ends h (Some d) = absurd h
 
-  pub calm_radio : (change : Change) → IsCalm change → (o : Option DuPart) → ◌≡◌ {A = List (ℕ × Pdu)} [] (of_part (carried_of change) o)
+  pub calm_radio : (change : Change) → IsCalm change → (o : Option DuModel) → ◌≡◌ {A = List (ℕ × Pdu)} [] (of_model (carried_of change) o)
   calm_radio change h None = refl
   calm_radio stays h (Some d) = refl
   calm_radio (takes frame) h (Some d) = absurd h
@@ -103,11 +103,11 @@ module _ {M C : Type 0} (way : Way M C Pdu) where
   calm_radio ends h (Some d) = absurd h
 
   pub quiet_puts : (ue : UeId) (bearer : BearerId) (r : Du M C) (change : Change) → IsCalm change → (a : Answer M Pdu (Du M C)) → IsQuiet a
-      → Puts ue bearer (of_part (of_change way change) (part_of r ue bearer)) (of_part (carried_of change) (part_of r ue bearer)) a
+      → Puts ue bearer (of_model (of_change way change) (model_of r ue bearer)) (of_model (carried_of change) (model_of r ue bearer)) a
   unfolding Puts IsQuiet
   quiet_puts ue bearer r change calm (gives outputs v) h = (
-    quiet_ups ue bearer outputs h ∙ calm_ups change calm (part_of r ue bearer),
-    quiet_radio ue bearer outputs h ∙ calm_radio change calm (part_of r ue bearer),
+    quiet_ups ue bearer outputs h ∙ calm_ups change calm (model_of r ue bearer),
+    quiet_radio ue bearer outputs h ∙ calm_radio change calm (model_of r ue bearer),
   )
   quiet_puts ue bearer r change calm (spent counter) h = tt
 
@@ -175,7 +175,7 @@ module _ {M C : Type 0} (way : Way M C Pdu) where
       first = map (λ teid. closed teid) (old_downlinks way old) ++ openings way c
 
       by : (b : Bool) → IsQuiet ((if b then gives first (replaced way other old c r) else spent teids_spent) then replies way ch m)
-      by true = quiet_append first (control ch.peer ch.ue (way.spell (f1 m)) ∷ [])
+      by true = quiet_append first (control ch.peer ch.ue (way.encode (f1 m)) ∷ [])
           (quiet_append (map (λ teid. closed teid) (old_downlinks way old)) (openings way c) (closings_quiet M (old_downlinks way old))
           (openings_quiet M (downlinks_of c))) tt
       by false = tt

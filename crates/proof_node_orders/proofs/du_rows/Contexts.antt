@@ -22,23 +22,23 @@ use Rattle.unit_defs.specs.Messages.{bearers_of, are_first_bearers}
 use Rattle.unit_defs.specs.Teids.{teids_are_left}
 use Rattle.unit_defs.specs.Transactions.{replied}
 use Rattle.unit_defs.specs.Du.{Du, DuBearer, DuContext, context_of, with_transactions, downlink_list, bearers_made, bearers_anew, replies, closings, openings, old_downlinks, replaced, replaces, context_with, setup, context_anew, modify_on, modify, end_markers, released_on, release, relayed_down, relay_down, relayed_up, relay_up, tick}
-use Rattle.unit_defs.specs.UpRecords.{Downlink}
+use Rattle.unit_defs.specs.CuUpRecords.{DownlinkTunnel}
 use Rattle.law_downlink_order.specs.path.Paths.{Path}
 use Rattle.law_downlink_order.specs.path.Steps.{begins_anew, after, run}
 use Rattle.law_downlink_order.proofs.chain.Frames.{set_here}
-use Rattle.bearer_defs.specs.chain_defs.Parts.{set}
-use Rattle.bearer_defs.specs.uplink_defs.Parts.{Part, Member, end_marker}
+use Rattle.bearer_defs.specs.chain_defs.Models.{set}
+use Rattle.bearer_defs.specs.uplink_defs.Models.{Model, Member, end_marker}
 use Rattle.bearer_defs.specs.uplink_defs.Orders as up
-use Rattle.bearer_defs.specs.uplink_defs.Guards as up_guards
+use Rattle.bearer_defs.specs.uplink_defs.Assumptions as up_assumptions
 use Rattle.proof_node_orders.specs.du_rows.Shown.{Ends, Has, Keeps, renewed}
 
 -- ---- an End Marker on an uplink tunnel
 
-pub marks_asked : (s : Part) (x teid : ℕ) → up_guards.AreKept s (up.marks x teid ∷ [])
-unfolding up_guards.AreKept up_guards.IsReady up_guards.IsOwed
+pub marks_asked : (s : Model) (x teid : ℕ) → up_assumptions.AreKept s (up.marks x teid ∷ [])
+unfolding up_assumptions.AreKept up_assumptions.IsReady up_assumptions.IsAssumed
 marks_asked s x teid = (tt, tt, tt)
 
-pub marks_run : (s : Part) (x teid : ℕ)
+pub marks_run : (s : Model) (x teid : ℕ)
     → ((up.run s (up.marks x teid ∷ [])).members x).uplink teid ≡ (s.members x).uplink teid ++ end_marker ∷ []
 unfolding up.run up.after
 marks_run s x teid =
@@ -48,7 +48,7 @@ marks_run s x teid =
 
 -- ---- bearers on new downlink tunnels
 
-pub begins_run : (s : Path) (downlink : Downlink) (fmc : ℕ) (bits : List Bool)
+pub begins_run : (s : Path) (downlink : DownlinkTunnel) (fmc : ℕ) (bits : List Bool)
     → (run s (begins_anew downlink fmc bits ∷ [])).du ≡ renewed s.du downlink.teid
 unfolding run after
 begins_run s downlink fmc bits = refl
@@ -84,7 +84,7 @@ module _ {M C P : Type 0} (way : Way M C P) where
   -- ---- release
 
   pub release_ends : (ch : Channel) (ue : UeId) (instance : ℕ) (c : DuContext) (r : Du M C) → context_of r ue ≡ Some c
-      → Ends ue (control ch.peer ch.ue (way.spell (f1 (f1s.UeContextReleaseComplete ue instance))) ∷ end_markers way ue c ++ closings way c)
+      → Ends ue (control ch.peer ch.ue (way.encode (f1 (f1s.UeContextReleaseComplete ue instance))) ∷ end_markers way ue c ++ closings way c)
       (release way ch ue instance r)
   unfolding release replied Ends
   release_ends ch ue instance c r is = subst
@@ -92,11 +92,11 @@ module _ {M C P : Type 0} (way : Way M C P) where
       (refl, find-without-same ue_total r.contexts ue)
     where
       first : Output M P
-      first = control ch.peer ch.ue (way.spell (f1 (f1s.UeContextReleaseComplete ue instance)))
+      first = control ch.peer ch.ue (way.encode (f1 (f1s.UeContextReleaseComplete ue instance)))
 
       later : Du M C
       later = with_transactions r (record r.transactions {
-        callee = keep r.transactions.callee ch (way.spell (f1 (f1s.UeContextReleaseComplete ue instance)));
+        callee = keep r.transactions.callee ch (way.encode (f1 (f1s.UeContextReleaseComplete ue instance)));
       })
 
   -- ---- new radios

@@ -11,21 +11,21 @@ use Rattle.gnb_types.proofs.OrderLemmas.{ue_total, bearer_total}
 use Rattle.tables.specs.Tables.{find, put}
 use Rattle.tables.proofs.TableLaws.{find-put-same, find-put-other}
 use Rattle.unit_defs.specs.Ways.{Pdu, uplink, status, Output, packet, radio, Way, Answer, gives, with_outputs, ◌then◌, nothing, puts, drops}
-use Rattle.unit_defs.specs.Du.{Du, DuBearer, DuContext, DuTunnel, context_of, told, with_bearer, frame_came, taken_in, taken_of, taken_on, take, of_bearer, of_context, pass_up, confirmed, confirm}
+use Rattle.unit_defs.specs.Du.{Du, DuBearer, DuContext, DuTunnel, context_of, told, with_bearer, frame_received, taken_in, taken_of, taken_on, take, of_bearer, of_context, pass_up, confirmed, confirm}
 use Rattle.law_downlink_order.specs.path.Paths.{Frame, Path, gap_after, carried_by, taken_by}
-use Rattle.law_downlink_order.specs.path.Steps.{takes, after, run, IsReady, IsOwed, AreKept}
+use Rattle.law_downlink_order.specs.path.Steps.{takes, after, run, IsReady, IsAssumed, AreKept}
 use Rattle.law_downlink_order.proofs.chain.Frames.{set_here}
-use Rattle.bearer_defs.specs.chain_defs.Parts.{set}
-use Rattle.bearer_defs.specs.uplink_defs.Parts.{Part, Member, numbered, uplink_tunnel}
+use Rattle.bearer_defs.specs.chain_defs.Models.{set}
+use Rattle.bearer_defs.specs.uplink_defs.Models.{Model, Member, numbered, uplink_tunnel}
 use Rattle.bearer_defs.specs.uplink_defs.Orders as up
-use Rattle.bearer_defs.specs.uplink_defs.Guards.{IsOpen, NoEnd}
-use Rattle.bearer_defs.specs.uplink_defs.Guards as up_guards
+use Rattle.bearer_defs.specs.uplink_defs.Assumptions.{IsOpen, NoEnd}
+use Rattle.bearer_defs.specs.uplink_defs.Assumptions as up_assumptions
 use Rattle.proof_node_orders.specs.du_rows.Shown.{IsHeld, item, to_radio, frame_outputs}
 
 -- ---- what a step asks, and what it leaves
 
 pub takes_asked : (s : Path) (f : Frame) (rest : List Frame) → s.tunnel ≡ f ∷ rest → AreKept s (takes f rest ∷ [])
-unfolding AreKept IsReady IsOwed
+unfolding AreKept IsReady IsAssumed
 takes_asked s f rest stands = (stands, tt, tt)
 
 pub takes_air : (s : Path) (f : Frame) (rest : List Frame)
@@ -33,13 +33,13 @@ pub takes_air : (s : Path) (f : Frame) (rest : List Frame)
 unfolding run after
 takes_air s f rest = refl
 
-module _ (s : Part) (count : ℕ) (p : List ℕ) (rest : List (ℕ × List ℕ)) (teid : ℕ) where
+module _ (s : Model) (count : ℕ) (p : List ℕ) (rest : List (ℕ × List ℕ)) (teid : ℕ) where
   abbrev here : Member
   here = s.members s.station
 
   pub carries_asked : s.air ≡ (count, p) ∷ rest → IsOpen here (uplink_tunnel teid) → NoEnd (here.uplink teid)
-      → up_guards.AreKept s (up.carries teid count p rest ∷ [])
-  unfolding up_guards.AreKept up_guards.IsReady up_guards.IsOwed
+      → up_assumptions.AreKept s (up.carries teid count p rest ∷ [])
+  unfolding up_assumptions.AreKept up_assumptions.IsReady up_assumptions.IsAssumed
   carries_asked stands is_open no_end = (stands, (is_open, no_end), tt)
 
   pub carries_run : ((up.run s (up.carries teid count p rest ∷ [])).members s.station).uplink teid ≡ here.uplink teid ++ numbered count p ∷ []
@@ -60,12 +60,12 @@ module _ {M C P : Type 0} (way : Way M C P) where
     by_gap told_first false pdu v = refl
 
     frame_is : (b : DuBearer) (f : Frame)
-        → frame_came way ue bearer c b (item way c f) r
+        → frame_received way ue bearer c b (item way c f) r
         ≡ gives (frame_outputs way ue bearer c b f) (with_bearer way ue bearer c (taken_by b f) r)
     frame_is b f = by f.pdu
       where
         by : (pdu : Option Pdu)
-            → frame_came way ue bearer c b (item way c (record f { pdu = pdu })) r
+            → frame_received way ue bearer c b (item way c (record f { pdu = pdu })) r
             ≡ gives (told way ue bearer b f.poll f.number ++ to_radio way ue bearer c (gap_after b f pdu) pdu)
             (with_bearer way ue bearer c (record b { awaited = f.number + 1; gap = gap_after b f pdu }) r)
         by None = refl

@@ -22,11 +22,11 @@ use Rattle.unit_defs.specs.declared.TokenKind.TheVariants as says
 use Rattle.unit_defs.specs.Ways.{Message, f1, e1, xn, core, rrc, Pdu, Output, Way, Answer, gives, spent, with_outputs, ◌then◌, nothing, puts, drops, no, epochs_spent}
 use Rattle.unit_defs.specs.Ue.{UeNode, is_connected, is_accessing, may_obey, may_return, last_epoch, connect, said, says_it, obey, arrived, arrive, returned, return_to, come_back, accepted_in, accept, fail, told, told_by, ordered}
 use Rattle.bearer_defs.specs.chain_defs.Orders as down
-use Rattle.bearer_defs.specs.uplink_defs.Parts.{Part}
+use Rattle.bearer_defs.specs.uplink_defs.Models.{Model}
 use Rattle.bearer_defs.specs.uplink_defs.Orders.{connects, leaves, arrives, after, run}
 use Rattle.proof_node_orders.specs.terminal_rows.Shown.{bearer_of, orders_of, numbered_all, connections, with_all_numbered, Gives, Shows}
 use Rattle.proof_node_orders.proofs.terminal_rows.Radio.{connects_run, connect_gives, connected_shows}
-use Rattle.proof_node_orders.specs.terminal_inputs.Inputs.{Parts, Orders, none, IsShown, connecting, of_command, of_accepted, of_token, of_letter, of_arrival, of_return, of_order, left_on, packets_put, packets_delivered, IsAfter, Follows}
+use Rattle.proof_node_orders.specs.terminal_inputs.Inputs.{Models, Orders, none, IsShown, connecting, of_command, of_accepted, of_token, of_control_message, of_arrival, of_return, of_order, left_on, packets_put, packets_delivered, IsAfter, Follows}
 use Rattle.proof_node_orders.proofs.terminal_inputs.Puts.{orders_leave, connections_here, connections_deliver, keys_mapped}
 use Rattle.proof_node_orders.proofs.terminal_inputs.Others.{rests, drop_rests, no_rests}
 
@@ -48,7 +48,7 @@ module _ {M C : Type 0} (way : Way M C Pdu) (plain : (sn : SnBits) (pdu : Pdu) �
 
   -- ---- a new connection: of this terminal then, after what it says
 
-  module _ (w : UeNode) (there : is_connected w.state ≡ true) (bearer : BearerId) (b : Parts) (downs : List down.Order)
+  module _ (w : UeNode) (there : is_connected w.state ≡ true) (bearer : BearerId) (b : Models) (downs : List down.ModelStep)
       (found : find bearer_cmp w.bearers bearer ≡ Some (bearer_of b.up (down.run b.down downs)))
       (epoch : w.epoch ≡ (down.run b.down downs).epoch + 1) (sorted : IsSorted bearer_cmp w.bearers)
       (same : (down.run b.down downs).delivered ≡ b.down.delivered) where
@@ -77,7 +77,7 @@ module _ {M C : Type 0} (way : Way M C Pdu) (plain : (sn : SnBits) (pdu : Pdu) �
             sorted = subst (λ (y : UeNode). IsSorted bearer_cmp y.bearers) (sym g.1)
                 (subst (λ ks. IsStrictlySortedBy bearer_cmp ks) (sym (keys_mapped (numbered_all w) w.bearers)) sorted);
           };
-          air = ap (λ (y : Part). y.air) (connects_run w b.up)
+          air = ap (λ (y : Model). y.air) (connects_run w b.up)
               ∙ sym (ap (λ xs. packets_put bearer xs) h.0 ∙ said_puts bearer x kind home (connections way w)
               ∙ connections_here way plain w bearer w.bearers (bearer_of b.up (down.run b.down downs)) sorted found)
               ∙ ap (λ xs. xs ++ packets_put bearer (first ++ outputs)) (sym (orders_leave w b.up.terminal []));
@@ -85,7 +85,7 @@ module _ {M C : Type 0} (way : Way M C Pdu) (plain : (sn : SnBits) (pdu : Pdu) �
               ∙ said_delivers bearer x kind home (connections way w) ∙ connections_deliver way plain w bearer w.bearers) ∙ append-nil b.down.delivered);
         }
 
-  module _ (u : UeNode) (bearer : BearerId) (b : Parts) (shown : IsShown u bearer b) where
+  module _ (u : UeNode) (bearer : BearerId) (b : Models) (shown : IsShown u bearer b) where
     -- ---- what puts nothing and keeps all bearers
 
     leaving : (v : UeNode) → v.bearers ≡ u.bearers → v.epoch ≡ u.epoch → is_connected v.state ≡ false
@@ -105,7 +105,7 @@ module _ {M C : Type 0} (way : Way M C Pdu) (plain : (sn : SnBits) (pdu : Pdu) �
     }
 
     -- the terminal says something, and its radio is the same one, or another one down
-    saying : (downs : List down.Order) (v : UeNode) (kind : Option TokenKind) (home : Option NodeId) → v.bearers ≡ u.bearers
+    saying : (downs : List down.ModelStep) (v : UeNode) (kind : Option TokenKind) (home : Option NodeId) → v.bearers ≡ u.bearers
         → v.epoch ≡ (down.run b.down downs).epoch + 1 → is_connected v.state ≡ is_connected u.state
         → (down.run b.down downs).terminal ≡ b.down.terminal → (down.run b.down downs).delivered ≡ b.down.delivered
         → IsAfter bearer b (record { up = []; down = downs }) (said way v kind home) v
@@ -184,16 +184,16 @@ module _ {M C : Type 0} (way : Way M C Pdu) (plain : (sn : SnBits) (pdu : Pdu) �
     told_follows (tokens.Complete ue epoch) = unexpected
     told_follows (tokens.Reestablish ue epoch) = unexpected
 
-    pub letter_follows : (from : NodeId) (message : Message C) → Follows bearer b (of_letter way u b from message) (told_by way from message u)
-    letter_follows (Du gnb number) (rrc token) = told_follows token
-    letter_follows (Du gnb number) (f1 message) = unexpected
-    letter_follows (Du gnb number) (e1 message) = unexpected
-    letter_follows (Du gnb number) (xn message) = unexpected
-    letter_follows (Du gnb number) (core message) = unexpected
-    letter_follows (CuCp gnb) message = unexpected
-    letter_follows (CuUp gnb number) message = unexpected
-    letter_follows Core message = unexpected
-    letter_follows (Ue ue) message = unexpected
+    pub control_message_follows : (from : NodeId) (message : Message C) → Follows bearer b (of_control_message way u b from message) (told_by way from message u)
+    control_message_follows (Du gnb number) (rrc token) = told_follows token
+    control_message_follows (Du gnb number) (f1 message) = unexpected
+    control_message_follows (Du gnb number) (e1 message) = unexpected
+    control_message_follows (Du gnb number) (xn message) = unexpected
+    control_message_follows (Du gnb number) (core message) = unexpected
+    control_message_follows (CuCp gnb) message = unexpected
+    control_message_follows (CuUp gnb number) message = unexpected
+    control_message_follows Core message = unexpected
+    control_message_follows (Ue ue) message = unexpected
 
     -- ---- orders of the script
 
@@ -208,7 +208,7 @@ module _ {M C : Type 0} (way : Way M C Pdu) (plain : (sn : SnBits) (pdu : Pdu) �
         (connect_after (arrived way u) refl bearer at_x (down.arrives x ∷ []) shown.seen.there (ap (λ n. n + 1) shown.seen.epoch)
         shown.sorted refl (Some says.Complete) u.goal (arrived way u))
       where
-        at_x : Parts
+        at_x : Models
         at_x = record { up = after b.up (arrives x); down = b.down }
 
         by : (a : Answer M Pdu UeNode) → Follows bearer at_x (record { up = connecting way u b; down = down.arrives x ∷ [] }) a

@@ -1,4 +1,4 @@
--- What is of another bearer, and what changes nothing, leaves the parts of this one.
+-- What is of another bearer, and what changes nothing, leaves the models of this one.
 use Rattle.std.proofs.Common.{◌≡◌, ℕ, Bool, true, false, if◌then◌else◌, nat_lt, nat_le, length, List, [], ◌∷◌, ◌++◌, Option, Some, None, refl, sym, ap, subst, ◌∙◌}
 use Rattle.std.specs.Prelude.{⊤}
 use Rattle.std.proofs.lemmas.List.{append-nil}
@@ -22,7 +22,7 @@ use Rattle.bearer_defs.specs.chain_defs.Orders as down
 use Rattle.bearer_defs.specs.uplink_defs.Orders.{run}
 use Rattle.proof_node_orders.specs.terminal_rows.Shown.{Gives, packets_of, numbered_all}
 use Rattle.proof_node_orders.proofs.terminal_rows.Numbering.{sends, each_gives}
-use Rattle.proof_node_orders.specs.terminal_inputs.Inputs.{Parts, none, IsShown, left_on, packets_put, packets_delivered, IsAfter, Follows}
+use Rattle.proof_node_orders.specs.terminal_inputs.Inputs.{Models, none, IsShown, left_on, packets_put, packets_delivered, IsAfter, Follows}
 use Rattle.proof_node_orders.proofs.terminal_inputs.Puts.{sent_alone, sent_alone_delivers, delivered_is, delivered_puts}
 
 -- outputs that put nothing on this bearer's radio, and deliver nothing of it
@@ -30,7 +30,7 @@ pub record IsSilent {M : Type 0} (bearer : BearerId) (outputs : List (Output M P
   pub puts_none : packets_put bearer outputs ≡ []
   pub delivers_none : packets_delivered bearer outputs ≡ []
 
-pub rests : {M : Type 0} (bearer : BearerId) (b : Parts) (outputs : List (Output M Pdu)) (v : UeNode) → IsShown v bearer b
+pub rests : {M : Type 0} (bearer : BearerId) (b : Models) (outputs : List (Output M Pdu)) (v : UeNode) → IsShown v bearer b
     → IsSilent bearer outputs → IsAfter bearer b none outputs v
 unfolding run down.run left_on
 rests bearer b outputs v shown silent = record {
@@ -39,12 +39,12 @@ rests bearer b outputs v shown silent = record {
   delivered = sym (ap (λ xs. b.down.delivered ++ xs) silent.delivers_none ∙ append-nil b.down.delivered);
 }
 
-pub drop_rests : {M : Type 0} (bearer : BearerId) (b : Parts) (u : UeNode) → IsShown u bearer b → (reason : DropReason)
+pub drop_rests : {M : Type 0} (bearer : BearerId) (b : Models) (u : UeNode) → IsShown u bearer b → (reason : DropReason)
     → IsAfter {M = M} bearer b none (dropped reason ∷ []) u
 unfolding packets_put packets_delivered
 drop_rests bearer b u shown reason = rests bearer b (dropped reason ∷ []) u shown (record { puts_none = refl; delivers_none = refl })
 
-pub no_rests : {M : Type 0} (bearer : BearerId) (b : Parts) (u : UeNode) → IsShown u bearer b → (reason : RefuseReason)
+pub no_rests : {M : Type 0} (bearer : BearerId) (b : Models) (u : UeNode) → IsShown u bearer b → (reason : RefuseReason)
     → IsAfter {M = M} bearer b none (no reason ∷ []) u
 unfolding packets_put packets_delivered
 no_rests bearer b u shown reason = rests bearer b (no reason ∷ []) u shown (record { puts_none = refl; delivers_none = refl })
@@ -95,7 +95,7 @@ module _ {M C : Type 0} (way : Way M C Pdu) (plain : (sn : SnBits) (pdu : Pdu) �
 
   -- ---- and changes nothing of it
 
-  module _ (b : Parts) (shown : IsShown u bearer b) where
+  module _ (b : Models) (shown : IsShown u bearer b) where
     row_rests : (a : Answer M Pdu UeBearer) → Silent a → Follows bearer b none (a then (λ c. nothing (with_bearer way u q c)))
     unfolding Silent Follows
     row_rests (gives outputs c) silent = rests bearer b (outputs ++ []) (with_bearer way u q c)

@@ -15,13 +15,13 @@ use Rattle.tables.proofs.TableLaws.{find-put-same, sorted-put}
 use Rattle.pdcp_defs.specs.Receivers.{Receiver, Delivery, is_duplicate, is_ahead, stored, deliver as handed_up}
 use Rattle.unit_defs.specs.Ways.{Pdu, Content, packet_content, report_content, Output, dropped, held, no, Way, Answer, gives, spent, ◌then◌, nothing, puts, drops}
 use Rattle.unit_defs.specs.Ue.{UeBearer, UeNode, is_connected, largest_packet, used_uplink, number_waiting, with_bearer, of_bearer, at_bearer, offered, offer, took, handed, take, confirm}
-use Rattle.bearer_defs.specs.chain_defs.Parts.{Part as DownPart}
+use Rattle.bearer_defs.specs.chain_defs.Models.{Model as DownModel}
 use Rattle.bearer_defs.specs.chain_defs.Orders as down
-use Rattle.bearer_defs.specs.uplink_defs.Parts.{Part}
-use Rattle.bearer_defs.specs.uplink_defs.Orders.{Order, offers, acknowledges, reports, run}
+use Rattle.bearer_defs.specs.uplink_defs.Models.{Model}
+use Rattle.bearer_defs.specs.uplink_defs.Orders.{ModelStep, offers, acknowledges, reports, run}
 use Rattle.proof_node_orders.specs.terminal_rows.Shown.{bearer_of, numbering, Does, delivered_to}
 use Rattle.proof_node_orders.proofs.terminal_rows.Rows.{offers_does, reports_does, confirms_does, unknown_does, own_report_does}
-use Rattle.proof_node_orders.specs.terminal_inputs.Inputs.{Parts, none, rest_of, IsShown, of_taken, of_data, of_pdu, of_confirmed, of_offer, offered_to, told_to, known_to, left_on, packets_put, packets_delivered, IsAfter, Follows}
+use Rattle.proof_node_orders.specs.terminal_inputs.Inputs.{Models, none, rest_of, IsShown, of_taken, of_data, of_pdu, of_confirmed, of_offer, offered_to, told_to, known_to, left_on, packets_put, packets_delivered, IsAfter, Follows}
 use Rattle.proof_node_orders.proofs.terminal_inputs.Puts.{orders_if_leave, sent_alone, sent_alone_delivers, delivered_is, delivered_puts}
 use Rattle.proof_node_orders.proofs.terminal_inputs.Others.{no_rests}
 
@@ -29,10 +29,10 @@ pub itself : (bearer : BearerId) → eq_by_cmp bearer_cmp bearer bearer ≡ true
 itself bearer = ap is_eq (tied_itself bearer_total bearer)
 
 module _ {M C : Type 0} (way : Way M C Pdu) (plain : (sn : SnBits) (pdu : Pdu) → way.write sn pdu ≡ pdu) (u : UeNode)
-    (bearer : BearerId) (b : Parts) (shown : IsShown u bearer b) where
+    (bearer : BearerId) (b : Models) (shown : IsShown u bearer b) where
   -- ---- what is told of a row as one of its bearer's
 
-  does_follows : (os : List Order) (base : Part) → left_on b.up.air os ≡ base.air → (a : Answer M Pdu UeNode)
+  does_follows : (os : List ModelStep) (base : Model) → left_on b.up.air os ≡ base.air → (a : Answer M Pdu UeNode)
       → Does way u bearer b.down base (run b.up os) a → Follows bearer b (record { up = os; down = [] }) a
   unfolding Does Follows down.run
   does_follows os base leaves_ (gives outputs v) done = record {
@@ -41,7 +41,7 @@ module _ {M C : Type 0} (way : Way M C Pdu) (plain : (sn : SnBits) (pdu : Pdu) �
       sorted = subst (λ (w : UeNode). IsSorted bearer_cmp w.bearers) (sym done.node)
           (sorted-put bearer_total u.bearers bearer (record done.terminal { receiver = b.down.terminal }) shown.sorted);
     };
-    air = ap (λ (x : Part). x.air) done.part
+    air = ap (λ (x : Model). x.air) done.part
         ∙ ap (λ xs. base.air ++ xs) (sym (ap (λ xs. packets_put bearer xs) done.outputs_are
         ∙ sent_alone way plain u bearer bearer true (itself bearer) done.packets))
         ∙ ap (λ xs. xs ++ packets_put bearer outputs) (sym leaves_);
@@ -58,7 +58,7 @@ module _ {M C : Type 0} (way : Way M C Pdu) (plain : (sn : SnBits) (pdu : Pdu) �
 
   -- ---- a packet of the downlink
 
-  received : (downs : List down.Order) (r : Receiver (List ℕ)) (packets : List (ℕ × List ℕ)) (outputs : List (Output M Pdu))
+  received : (downs : List down.ModelStep) (r : Receiver (List ℕ)) (packets : List (ℕ × List ℕ)) (outputs : List (Output M Pdu))
       → (down.run b.down downs).terminal ≡ r → (down.run b.down downs).epoch ≡ b.down.epoch
       → (down.run b.down downs).delivered ≡ b.down.delivered ++ packets
       → packets_put bearer outputs ≡ [] → packets_delivered bearer outputs ≡ packets
@@ -87,7 +87,7 @@ module _ {M C : Type 0} (way : Way M C Pdu) (plain : (sn : SnBits) (pdu : Pdu) �
     abbrev now : Delivery (List ℕ)
     now = handed_up (stored b.down.terminal count packet)
 
-    abbrev carrying : List down.Order
+    abbrev carrying : List down.ModelStep
     carrying = down.carries count packet (rest_of b.down.air) ∷ []
 
     carried_as : (old : Bool) → is_duplicate b.down.terminal count ≡ old
@@ -105,13 +105,13 @@ module _ {M C : Type 0} (way : Way M C Pdu) (plain : (sn : SnBits) (pdu : Pdu) �
             (if ahead then puts (held Ahead) before else handed way u bearer before now)) then (λ c. nothing (with_bearer way u bearer c)))
         by true ahead is =
             let e = carried_as true is in
-            received carrying b.down.terminal [] (dropped Duplicate ∷ []) (ap (λ (x : DownPart). x.terminal) e) (ap (λ (x : DownPart). x.epoch) e)
-            (ap (λ (x : DownPart). x.delivered) e ∙ sym (append-nil b.down.delivered)) refl refl
+            received carrying b.down.terminal [] (dropped Duplicate ∷ []) (ap (λ (x : DownModel). x.terminal) e) (ap (λ (x : DownModel). x.epoch) e)
+            (ap (λ (x : DownModel). x.delivered) e ∙ sym (append-nil b.down.delivered)) refl refl
         by false true is = same_received (held Ahead ∷ []) refl refl
         by false false is =
             let e = carried_as false is in
-            received carrying now.after now.packets (delivered_to way u bearer now.packets) (ap (λ (x : DownPart). x.terminal) e)
-            (ap (λ (x : DownPart). x.epoch) e) (ap (λ (x : DownPart). x.delivered) e) (delivered_puts way plain u bearer bearer now.packets)
+            received carrying now.after now.packets (delivered_to way u bearer now.packets) (ap (λ (x : DownModel). x.terminal) e)
+            (ap (λ (x : DownModel). x.epoch) e) (ap (λ (x : DownModel). x.delivered) e) (delivered_puts way plain u bearer bearer now.packets)
             (delivered_is way plain u bearer bearer true (itself bearer) now.packets)
 
   -- ---- all that comes from the radio

@@ -7,17 +7,17 @@ use Rattle.gnb_types.specs.declared.names.SnBits.{SnBits}
 use Rattle.pdcp_defs.specs.Senders.{Sender, has_room, numbered as with_next}
 use Rattle.unit_defs.specs.Ways.{Way}
 use Rattle.unit_defs.specs.Ue.{UeBearer, UeNode, is_connected}
-use Rattle.bearer_defs.specs.uplink_defs.Parts.{Part}
-use Rattle.bearer_defs.specs.uplink_defs.Orders.{Order, offers, numbers, connects, leaves, arrives, acknowledges, reports, after, run}
+use Rattle.bearer_defs.specs.uplink_defs.Models.{Model}
+use Rattle.bearer_defs.specs.uplink_defs.Orders.{ModelStep, offers, numbers, connects, leaves, arrives, acknowledges, reports, after, run}
 use Rattle.proof_node_orders.specs.terminal_rows.Shown.{number_orders, orders_of, orders_if, numbering}
 use Rattle.proof_node_orders.specs.terminal_radios.Radios.{IsOfTerminal, clears}
 
 -- ---- what waits is numbered: that leaves no radio, and confirms nothing
 
-pub record IsPlain (os : List Order) : Type 0 where
+pub record IsPlain (os : List ModelStep) : Type 0 where
   pub own : AllByRecursion IsOfTerminal os
   pub stays : clears os ≡ false
-  pub carried : (s : Part) → (run s os).carried ≡ s.carried
+  pub carried : (s : Model) → (run s os).carried ≡ s.carried
 
 none_plain : IsPlain []
 unfolding run
@@ -43,42 +43,42 @@ numbering_plain u b = by (is_connected u.state)
     by true = all_plain u b
     by false = none_plain
 
--- ---- the orders of an input, at a part
+-- ---- the orders of an input, at a model
 
-pub record AreHeard (unknown : List ℕ) (s : Part) (os : List Order) : Type 0 where
+pub record AreReceived (unknown : List ℕ) (s : Model) (os : List ModelStep) : Type 0 where
   pub own : AllByRecursion IsOfTerminal os
   pub carried : (run s os).carried ≡ (if clears os then [] else unknown)
 
 unless : (t : Bool) (unknown : List ℕ) → t ≡ false → unknown ≡ (if t then [] else unknown)
 unless t unknown stays = ap (λ (b : Bool). if b then [] else unknown) (sym stays)
 
-pub none_heard : (s : Part) → AreHeard s.carried s []
+pub none_received : (s : Model) → AreReceived s.carried s []
 unfolding run
-none_heard s = record { own = tt; carried = refl }
+none_received s = record { own = tt; carried = refl }
 
-pub plain_heard : (s : Part) (os : List Order) → IsPlain os → AreHeard s.carried s os
-plain_heard s os p = record { own = p.own; carried = p.carried s ∙ unless (clears os) s.carried p.stays }
+pub plain_received : (s : Model) (os : List ModelStep) → IsPlain os → AreReceived s.carried s os
+plain_received s os p = record { own = p.own; carried = p.carried s ∙ unless (clears os) s.carried p.stays }
 
-pub leaves_heard : (unknown : List ℕ) (s : Part) → AreHeard unknown s (leaves ∷ [])
+pub leaves_received : (unknown : List ℕ) (s : Model) → AreReceived unknown s (leaves ∷ [])
 unfolding run after
-leaves_heard unknown s = record { own = (tt, tt); carried = refl }
+leaves_received unknown s = record { own = (tt, tt); carried = refl }
 
-pub connects_heard : (unknown : List ℕ) (s : Part) (os : List Order) → IsPlain os → AreHeard unknown s (connects ∷ os)
+pub connects_received : (unknown : List ℕ) (s : Model) (os : List ModelStep) → IsPlain os → AreReceived unknown s (connects ∷ os)
 unfolding run after
-connects_heard unknown s os p = record { own = (tt, p.own); carried = p.carried (after s connects) }
+connects_received unknown s os p = record { own = (tt, p.own); carried = p.carried (after s connects) }
 
-pub arrives_heard : (unknown : List ℕ) (s : Part) (x : ℕ) (os : List Order) → IsPlain os → AreHeard unknown s (arrives x ∷ connects ∷ os)
+pub arrives_received : (unknown : List ℕ) (s : Model) (x : ℕ) (os : List ModelStep) → IsPlain os → AreReceived unknown s (arrives x ∷ connects ∷ os)
 unfolding run after
-arrives_heard unknown s x os p = record { own = (tt, (tt, p.own)); carried = p.carried (after (after s (arrives x)) connects) }
+arrives_received unknown s x os p = record { own = (tt, (tt, p.own)); carried = p.carried (after (after s (arrives x)) connects) }
 
-pub offers_heard : (s : Part) (packet : List ℕ) (os : List Order) → IsPlain os → AreHeard s.carried s (offers packet ∷ os)
+pub offers_received : (s : Model) (packet : List ℕ) (os : List ModelStep) → IsPlain os → AreReceived s.carried s (offers packet ∷ os)
 unfolding run after
-offers_heard s packet os p = record { own = (tt, p.own); carried = p.carried (after s (offers packet)) ∙ unless (clears os) s.carried p.stays }
+offers_received s packet os p = record { own = (tt, p.own); carried = p.carried (after s (offers packet)) ∙ unless (clears os) s.carried p.stays }
 
-pub reports_heard : (s : Part) (fmc : ℕ) (bits : List Bool) (os : List Order) → IsPlain os → AreHeard s.carried s (reports fmc bits ∷ os)
+pub reports_received : (s : Model) (fmc : ℕ) (bits : List Bool) (os : List ModelStep) → IsPlain os → AreReceived s.carried s (reports fmc bits ∷ os)
 unfolding run after
-reports_heard s fmc bits os p = record { own = (tt, p.own); carried = p.carried (after s (reports fmc bits)) ∙ unless (clears os) s.carried p.stays }
+reports_received s fmc bits os p = record { own = (tt, p.own); carried = p.carried (after s (reports fmc bits)) ∙ unless (clears os) s.carried p.stays }
 
-pub acknowledges_heard : (s : Part) (count : ℕ) (rest : List ℕ) (os : List Order) → IsPlain os → AreHeard rest s (acknowledges count rest ∷ os)
+pub acknowledges_received : (s : Model) (count : ℕ) (rest : List ℕ) (os : List ModelStep) → IsPlain os → AreReceived rest s (acknowledges count rest ∷ os)
 unfolding run after
-acknowledges_heard s count rest os p = record { own = (tt, p.own); carried = p.carried (after s (acknowledges count rest)) ∙ unless (clears os) rest p.stays }
+acknowledges_received s count rest os p = record { own = (tt, p.own); carried = p.carried (after s (acknowledges count rest)) ∙ unless (clears os) rest p.stays }

@@ -1,4 +1,4 @@
--- Rows that refuse or drop; and what both parts of the downlink say of the terminal.
+-- Rows that refuse or drop; and what both models of the downlink say of the terminal.
 use Rattle.std.proofs.Common.{◌≡◌, ℕ, ◌+◌, ◌==◌, Bool, true, false, not, ◌&&◌, if◌then◌else◌, nat_lt, nat_le, length, List, [], ◌∷◌, ◌++◌, Option, Some, None, refl, sym, ap, subst, ◌∙◌}
 use Rattle.std.specs.Ordering.{eq_by_cmp}
 use Rattle.gnb_types.specs.declared.names.NodeId.{NodeId}
@@ -14,11 +14,11 @@ use Rattle.pdcp_defs.specs.Receivers.{Receiver, Delivery, is_duplicate, stored, 
 use Rattle.unit_defs.specs.Ways.{Content, Taken, packet_input, radio_input, confirm_input, offer_input, Way, spent, ◌then◌, nothing, puts, drops, no, epochs_spent}
 use Rattle.unit_defs.specs.Ue.{UeBearer, UeNode, largest_packet, used_uplink, is_connected, is_accessing, may_obey, may_return, last_epoch, number_waiting, with_bearer, of_bearer, offered, ue_acts, obey, arrived, arrive, returned, return_to, come_back, says_it, connect, accepted_in, accept, fail, offer, took, take, confirmed, confirm}
 use Rattle.unit_defs.specs.declared.UeState.TheVariants as states
-use Rattle.bearer_defs.specs.chain_defs.Parts.{Part as DownPart}
+use Rattle.bearer_defs.specs.chain_defs.Models.{Model as DownModel}
 use Rattle.bearer_defs.specs.chain_defs.Orders as down
 use Rattle.law_downlink_order.specs.path.Paths.{Path}
 use Rattle.law_downlink_order.specs.path.Steps as path
-use Rattle.proof_node_orders.specs.terminal_inputs.Inputs.{Parts, Orders, none, rest_of, if_here, of_pdu, of_confirmed, of_offer, orders_by}
+use Rattle.proof_node_orders.specs.terminal_inputs.Inputs.{Models, Orders, none, rest_of, if_here, of_pdu, of_confirmed, of_offer, orders_by}
 use Rattle.proof_node_orders.specs.terminal_refusals.Ways.{IsAlike, steps_for}
 
 module _ {M C P : Type 0} (way : Way M C P) (u : UeNode) where
@@ -99,7 +99,7 @@ module _ {M C P : Type 0} (way : Way M C P) (u : UeNode) where
 
   -- ---- what is of another bearer
 
-  module _ (b : Parts) (bearer other : BearerId) (far : eq_by_cmp bearer_cmp bearer other ≡ false) (to : Option ℕ) (ue : UeId) where
+  module _ (b : Models) (bearer other : BearerId) (far : eq_by_cmp bearer_cmp bearer other ≡ false) (to : Option ℕ) (ue : UeId) where
     far_none : (o : Orders) → if_here way u b bearer other o ≡ none
     far_none o i = if far i then o else none
 
@@ -117,9 +117,9 @@ module _ {M C P : Type 0} (way : Way M C P) (u : UeNode) where
     unfolding orders_by
     offered_none packet = far_none (of_offer way u b packet)
 
--- ---- the chain's part and the way over one DU
+-- ---- the chain's model and the way over one DU
 
-carries_alike : (d : DownPart) (p : Path) → IsAlike d p → (count : ℕ) (packet : List ℕ) (rest others : List (ℕ × List ℕ))
+carries_alike : (d : DownModel) (p : Path) → IsAlike d p → (count : ℕ) (packet : List ℕ) (rest others : List (ℕ × List ℕ))
     → IsAlike (down.after d (down.carries count packet rest)) (path.after p (path.carries count packet others))
 unfolding down.after path.after
 carries_alike d p is count packet rest others =
@@ -132,18 +132,18 @@ carries_alike d p is count packet rest others =
     by true new = record { terminal = is.terminal; delivered = is.delivered }
     by false new = record { terminal = refl; delivered = ap (λ xs. xs ++ new.packets) is.delivered }
 
-fails_alike : (d : DownPart) (p : Path) → IsAlike d p → IsAlike (down.after d down.fails) (path.after p path.fails)
+fails_alike : (d : DownModel) (p : Path) → IsAlike d p → IsAlike (down.after d down.fails) (path.after p path.fails)
 unfolding down.after path.after
 fails_alike d p is = record { terminal = is.terminal; delivered = is.delivered }
 
 -- by other orders the terminal receives nothing
-abbrev IsKept : DownPart → down.Order → Type 0
+abbrev IsKept : DownModel → down.ModelStep → Type 0
 IsKept d o = ((down.after d o).terminal ≡ d.terminal) × ((down.after d o).delivered ≡ d.delivered)
 
-stays_alike : (d : DownPart) (p : Path) (o : down.Order) → IsAlike d p → IsKept d o → IsAlike (down.after d o) p
+stays_alike : (d : DownModel) (p : Path) (o : down.ModelStep) → IsAlike d p → IsKept d o → IsAlike (down.after d o) p
 stays_alike d p o is kept = record { terminal = is.terminal ∙ sym kept.0; delivered = is.delivered ∙ sym kept.1 }
 
-pub runs_alike : (d : DownPart) (p : Path) → IsAlike d p → (os : List down.Order) → IsAlike (down.run d os) (path.run p (steps_for p os))
+pub runs_alike : (d : DownModel) (p : Path) → IsAlike d p → (os : List down.ModelStep) → IsAlike (down.run d os) (path.run p (steps_for p os))
 unfolding down.run down.after path.run steps_for
 runs_alike d p is [] = is
 runs_alike d p is (down.carries count packet rest ∷ os) =
@@ -194,7 +194,7 @@ runs_alike d p is (down.confirms at count ∷ os) =
     runs_alike (down.after d (down.confirms at count)) p (stays_alike d p (down.confirms at count) is (refl, refl)) os
 runs_alike d p is (down.reports at fmc bits ∷ os) =
     runs_alike (down.after d (down.reports at fmc bits)) p (stays_alike d p (down.reports at fmc bits) is (refl, refl)) os
-runs_alike d p is (down.tells_loss at ∷ os) =
-    runs_alike (down.after d (down.tells_loss at)) p (stays_alike d p (down.tells_loss at) is (refl, refl)) os
+runs_alike d p is (down.reports_loss at ∷ os) =
+    runs_alike (down.after d (down.reports_loss at)) p (stays_alike d p (down.reports_loss at) is (refl, refl)) os
 runs_alike d p is (down.sends_again at ∷ os) =
     runs_alike (down.after d (down.sends_again at)) p (stays_alike d p (down.sends_again at) is (refl, refl)) os

@@ -8,19 +8,19 @@ use Rattle.pdcp_defs.specs.Senders.{Sender, numbered as with_next, has_room}
 use Rattle.unit_defs.specs.Ways.{Output, Way, Answer, gives, spent, with_outputs, ◌then◌, nothing, puts, counts_spent}
 use Rattle.unit_defs.specs.Ue.{UeBearer, UeNode, is_connected, data_output, number_each}
 use Rattle.proof_cu_up_orders.specs.chain_rows.Shown.{numbers_all, still_waits, numbered_packets}
-use Rattle.bearer_defs.specs.uplink_defs.Parts.{Part}
+use Rattle.bearer_defs.specs.uplink_defs.Models.{Model}
 use Rattle.bearer_defs.specs.uplink_defs.Orders.{numbers, after, run}
-use Rattle.bearer_defs.specs.uplink_defs.Guards.{IsReady, IsOwed, AreKept}
+use Rattle.bearer_defs.specs.uplink_defs.Assumptions.{IsReady, IsAssumed, AreKept}
 use Rattle.proof_node_orders.specs.terminal_rows.Shown.{number_orders, orders_of, packets_of, with_lists, numbered_all, orders_if, Gives}
 
--- the part with this sender, what waits there, and what stands on its radio
-abbrev with_all : Part → Sender (List ℕ) → List (List ℕ) → List (ℕ × List ℕ) → Part
+-- the model with this sender, what waits there, and what stands on its radio
+abbrev with_all : Model → Sender (List ℕ) → List (List ℕ) → List (ℕ × List ℕ) → Model
 with_all s q waiting air = record s { terminal = with_lists s.terminal q waiting; air = air }
 
 module _ (sn : SnBits) (quota : ℕ) where
-  pub numbers_kept : (ps : List (List ℕ)) (s : Part) (q : Sender (List ℕ)) (air : List (ℕ × List ℕ)) → s.connected ≡ true
+  pub numbers_kept : (ps : List (List ℕ)) (s : Model) (q : Sender (List ℕ)) (air : List (ℕ × List ℕ)) → s.connected ≡ true
       → AreKept (with_all s q ps air) (number_orders sn quota ps q)
-  unfolding AreKept number_orders IsReady IsOwed after
+  unfolding AreKept number_orders IsReady IsAssumed after
   numbers_kept [] s q air is = tt
   numbers_kept (p ∷ ps) s q air is = by (has_room sn quota q) (numbers_kept ps s (with_next q p) (air ++ (q.next, p) ∷ []) is)
     where
@@ -29,7 +29,7 @@ module _ (sn : SnBits) (quota : ℕ) where
       by true rest = ((is, refl), tt, rest)
       by false rest = tt
 
-  pub numbers_run : (ps : List (List ℕ)) (s : Part) (q : Sender (List ℕ)) (air : List (ℕ × List ℕ))
+  pub numbers_run : (ps : List (List ℕ)) (s : Model) (q : Sender (List ℕ)) (air : List (ℕ × List ℕ))
       → run (with_all s q ps air) (number_orders sn quota ps q)
       ≡ with_all s (numbers_all sn quota ps q) (still_waits sn quota ps ps q) (air ++ numbered_packets sn quota ps q)
   unfolding run number_orders numbers_all still_waits numbered_packets after
@@ -51,7 +51,7 @@ module _ (sn : SnBits) (quota : ℕ) where
       by false h = ap (λ xs. with_all s q (p ∷ ps) xs) (sym (append-nil air))
 
 -- of the bearer as it stands
-pub numbering_kept : (u : UeNode) (s : Part) (b : UeBearer) → s.connected ≡ is_connected u.state
+pub numbering_kept : (u : UeNode) (s : Model) (b : UeBearer) → s.connected ≡ is_connected u.state
     → AreKept (record s { terminal = b }) (orders_if (is_connected u.state) u b)
 unfolding AreKept
 numbering_kept u s b is = by (is_connected u.state) is
@@ -60,7 +60,7 @@ numbering_kept u s b is = by (is_connected u.state) is
     by true e = numbers_kept u.plan.sn u.plan.quota b.waiting (record s { terminal = b }) b.sender s.air e
     by false e = tt
 
-pub numbering_run : (u : UeNode) (s : Part) (b : UeBearer)
+pub numbering_run : (u : UeNode) (s : Model) (b : UeBearer)
     → run (record s { terminal = b }) (orders_of u b) ≡ record s { terminal = numbered_all u b; air = s.air ++ packets_of u b }
 numbering_run u s b = numbers_run u.plan.sn u.plan.quota b.waiting (record s { terminal = b }) b.sender s.air
 

@@ -16,11 +16,11 @@ use Rattle.unit_defs.specs.declared.UeState.{UeState}
 use Rattle.unit_defs.specs.declared.UeState.TheVariants as states
 use Rattle.unit_defs.specs.Ways.{report_pdu, Output, no, Way, Answer, gives, spent, with_outputs, ◌then◌, nothing, puts, drops, epochs_spent}
 use Rattle.unit_defs.specs.Ue.{UeBearer, UeNode, is_connected, is_accessing, may_return, last_epoch, data_output, on_air, number_each, number_waiting, connect_bearer, connect_each, connect, with_bearers, said, says_it, may_obey, obey, arrived, arrive, returned, return_to, come_back, accepted_in, accept, fail}
-use Rattle.bearer_defs.specs.chain_defs.Parts.{Part as DownPart}
+use Rattle.bearer_defs.specs.chain_defs.Models.{Model as DownModel}
 use Rattle.bearer_defs.specs.chain_defs.Orders as down
-use Rattle.bearer_defs.specs.uplink_defs.Parts.{Part}
+use Rattle.bearer_defs.specs.uplink_defs.Models.{Model}
 use Rattle.bearer_defs.specs.uplink_defs.Orders.{connects, leaves, arrives, after, run}
-use Rattle.bearer_defs.specs.uplink_defs.Guards.{IsReady, IsOwed, AreKept}
+use Rattle.bearer_defs.specs.uplink_defs.Assumptions.{IsReady, IsAssumed, AreKept}
 use Rattle.proof_node_orders.specs.terminal_rows.Shown.{IsSeen, bearer_of, orders_of, packets_of, numbered_all, connection, connections, with_all_numbered, Gives, Shows}
 use Rattle.proof_node_orders.proofs.terminal_rows.Numbering.{numbers_kept, numbering_run, gives_more, sends, each_gives}
 
@@ -33,7 +33,7 @@ back_again u = record u { token = None; state = states.Connected }
 abbrev all_numbered : UeNode → Bearers → Bearers
 all_numbered u es = map_values (numbered_all u) es
 
-pub connects_run : (u : UeNode) (s : Part) → run s (connects ∷ orders_of u s.terminal) ≡ record s {
+pub connects_run : (u : UeNode) (s : Model) → run s (connects ∷ orders_of u s.terminal) ≡ record s {
   connected = true;
   terminal = numbered_all u s.terminal;
   air = s.terminal.sender.unconfirmed ++ packets_of u s.terminal;
@@ -42,8 +42,8 @@ pub connects_run : (u : UeNode) (s : Part) → run s (connects ∷ orders_of u s
 unfolding run after
 connects_run u s = numbering_run u (record s { connected = true; air = s.terminal.sender.unconfirmed; carried = [] }) s.terminal
 
-pub connects_asked : (u : UeNode) (s : Part) → AreKept s (connects ∷ orders_of u s.terminal)
-unfolding AreKept IsReady IsOwed after
+pub connects_asked : (u : UeNode) (s : Model) → AreKept s (connects ∷ orders_of u s.terminal)
+unfolding AreKept IsReady IsAssumed after
 connects_asked u s = (
   tt,
   tt,
@@ -103,28 +103,28 @@ module _ {M C P : Type 0} (way : Way M C P) where
         (then_gives (connections way u) [] (all_numbered u u.bearers) (record u { bearers = all_numbered u u.bearers })
         (connect_each way u u.bearers) (λ bearers. nothing (with_bearers way u bearers)) (each_connects u.bearers) (refl, refl))
 
-    -- each bearer's parts then
-    connect_shows : (bearer : BearerId) (s : Part) (d : DownPart) → find bearer_cmp u.bearers bearer ≡ Some (bearer_of s d)
+    -- each bearer's models then
+    connect_shows : (bearer : BearerId) (s : Model) (d : DownModel) → find bearer_cmp u.bearers bearer ≡ Some (bearer_of s d)
         → u.epoch ≡ d.epoch + 1
         → IsSeen (record u { bearers = all_numbered u u.bearers }) bearer (run s (connects ∷ orders_of u s.terminal)) d
     unfolding run after
     connect_shows bearer s d found epoch =
-        let base : Part = record s { connected = true; air = s.terminal.sender.unconfirmed; carried = [] } in
+        let base : Model = record s { connected = true; air = s.terminal.sender.unconfirmed; carried = [] } in
         let is = numbering_run u base s.terminal in
         record {
           there = find-mapped bearer_cmp (numbered_all u) u.bearers bearer ∙ ap (option_map (numbered_all u)) found
-              ∙ ap Some (sym (ap (λ (x : Part). record x.terminal { receiver = d.terminal }) is));
-          connected = ap (λ (x : Part). x.connected) is ∙ sym there;
+              ∙ ap Some (sym (ap (λ (x : Model). record x.terminal { receiver = d.terminal }) is));
+          connected = ap (λ (x : Model). x.connected) is ∙ sym there;
           epoch = epoch;
         }
 
-    pub connected_shows : (bearer : BearerId) (s : Part) (d : DownPart) (first : List (Output M P))
+    pub connected_shows : (bearer : BearerId) (s : Model) (d : DownModel) (first : List (Output M P))
         → find bearer_cmp u.bearers bearer ≡ Some (bearer_of s d) → u.epoch ≡ d.epoch + 1
         → Shows (first ++ connections way u) bearer (run s (connects ∷ orders_of u s.terminal)) d (gives first u then connect way)
     unfolding Gives Shows
     connected_shows bearer s d first found epoch = by (connect way u) connect_gives
       where
-        t : Part
+        t : Model
         t = run s (connects ∷ orders_of u s.terminal)
 
         by : (a : Answer M P UeNode) → Gives (connections way u) (record u { bearers = all_numbered u u.bearers }) a
@@ -161,14 +161,14 @@ module _ {M C P : Type 0} (way : Way M C P) where
         by false = then_gives (says (arrived way u)) (connections way (arrived way u)) (arrived way u) (with_all_numbered way (arrived way u))
             (gives (says (arrived way u)) (arrived way u)) (connect way) (refl, refl) (connect_gives (arrived way u) refl)
 
-    arrives_shows : (bearer : BearerId) (s : Part) (d e : DownPart) → find bearer_cmp u.bearers bearer ≡ Some (bearer_of s d)
+    arrives_shows : (bearer : BearerId) (s : Model) (d e : DownModel) → find bearer_cmp u.bearers bearer ≡ Some (bearer_of s d)
         → u.epoch ≡ d.epoch + 1 → e.terminal ≡ d.terminal → e.epoch ≡ d.epoch + 1
         → Shows arrival bearer (run s (connects ∷ orders_of u s.terminal)) e (arrive way u)
     unfolding Shows
     arrives_shows bearer s d e found epoch same later =
         subst (λ a. Shows arrival bearer t e a) (sym (arrive_is u accessing)) (by (nat_le last_epoch u.epoch))
       where
-        t : Part
+        t : Model
         t = run s (connects ∷ orders_of u s.terminal)
 
         there : find bearer_cmp u.bearers bearer ≡ Some (bearer_of s e)
@@ -179,7 +179,7 @@ module _ {M C P : Type 0} (way : Way M C P) where
         by false = connected_shows (arrived way u) refl bearer s e (says (arrived way u)) there
             (ap (λ n. n + 1) epoch ∙ ap (λ n. n + 1) (sym later))
 
-  module _ (u : UeNode) (bearer : BearerId) (s : Part) (d : DownPart) (seen : IsSeen u bearer s d) where
+  module _ (u : UeNode) (bearer : BearerId) (s : Model) (d : DownModel) (seen : IsSeen u bearer s d) where
     pub arrives_elsewhere : (accessing : is_accessing u.state ≡ true) (x : ℕ)
         → Shows (arrival u accessing) bearer (run s (arrives x ∷ connects ∷ orders_of u s.terminal)) (down.run d (down.arrives x ∷ [])) (arrive way u)
     unfolding run after down.run down.after
@@ -203,7 +203,7 @@ module _ {M C P : Type 0} (way : Way M C P) where
     returned_shows epoch is returning = subst (λ a. Shows (connections way (back_again u)) bearer t d a)
         (sym (accept_is epoch is ∙ ap (λ x. accepted_in way u x) returning)) (by (connect way (back_again u)) (connect_gives (back_again u) refl))
       where
-        t : Part
+        t : Model
         t = run s (connects ∷ orders_of u s.terminal)
 
         by : (a : Answer M P UeNode) → Gives (connections way (back_again u)) (with_all_numbered way (back_again u)) a

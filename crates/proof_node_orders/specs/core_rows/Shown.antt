@@ -14,8 +14,8 @@ use Rattle.unit_defs.specs.Ways.{Message, core, Load, fresh, end_marker, Output,
 use Rattle.unit_defs.specs.Transactions.{Kind, request, kind_of}
 use Rattle.unit_defs.specs.Messages.{channel}
 use Rattle.unit_defs.specs.Core.{CorePath, CoreRecord}
-use Rattle.bearer_defs.specs.chain_defs.Parts.{Item, fresh as fresh_item, end_marker as end_item, Part}
-use Rattle.bearer_defs.specs.chain_defs.Orders.{Order, switches_path}
+use Rattle.bearer_defs.specs.chain_defs.Models.{Item, fresh as fresh_item, end_marker as end_item, Model}
+use Rattle.bearer_defs.specs.chain_defs.Orders.{ModelStep, switches_path}
 
 -- the TEIDs of a bearer, in a list of tunnels
 abbrev pub teids_of : BearerId → List Tunnel → List ℕ
@@ -26,8 +26,8 @@ teids_of bearer (t ∷ ts) = (if eq_by_cmp bearer_cmp bearer t.bearer then t.tei
 abbrev pub Places : Type 0
 Places = NodeId → ℕ → ℕ
 
--- The path of the terminal has one tunnel of this bearer, and it ends at the context that the part sends to.
-pub record IsPath {M C : Type 0} (places : Places) (r : CoreRecord M C) (ue : UeId) (bearer : BearerId) (s : Part) : Type 0 where
+-- The path of the terminal has one tunnel of this bearer, and it ends at the context that the model sends to.
+pub record IsPath {M C : Type 0} (places : Places) (r : CoreRecord M C) (ue : UeId) (bearer : BearerId) (s : Model) : Type 0 where
   pub path : CorePath
   pub teid : ℕ
   pub there : find ue_cmp r.paths ue ≡ Some path
@@ -67,11 +67,11 @@ goal_by ue bearer r (CuCp gnb) message = goal_at ue bearer r (CuCp gnb) message 
 goal_by ue bearer r from message = None
 
 -- its orders
-abbrev pub to_first : Places → NodeId → List ℕ → List Order
+abbrev pub to_first : Places → NodeId → List ℕ → List ModelStep
 to_first places up [] = []
 to_first places up (teid ∷ teids) = switches_path (places up teid) ∷ []
 
-abbrev pub orders_to : Places → Option Goal → List Order
+abbrev pub orders_to : Places → Option Goal → List ModelStep
 orders_to places None = []
 orders_to places (Some goal) = to_first places goal.up goal.teids
 
@@ -80,7 +80,7 @@ abbrev pub IsOne : Option Goal → Type 0
 IsOne None = ⊤
 IsOne (Some goal) = (teid : ℕ) × (goal.teids ≡ teid ∷ [])
 
--- ---- what is put for one bearer: on which tunnel, and what of it the part has
+-- ---- what is put for one bearer: on which tunnel, and what of it the model has
 
 abbrev pub item_of : {P : Type 0} → Load P → List Item
 item_of (fresh p) = fresh_item p ∷ []
@@ -95,12 +95,12 @@ items_put places ue bearer x (packet to teid other q dir tag load ∷ outputs) =
     ++ items_put places ue bearer x outputs
 items_put places ue bearer x (output ∷ outputs) = items_put places ue bearer x outputs
 
--- The core's path is that of the part after these orders, and what it put is what came to the contexts' N3 tunnels.
-pub record IsAfter {M C P : Type 0} (places : Places) (ue : UeId) (bearer : BearerId) (s t : Part) (outputs : List (Output M P))
+-- The core's path is that of the model after these orders, and what it put is what came to the contexts' N3 tunnels.
+pub record IsAfter {M C P : Type 0} (places : Places) (ue : UeId) (bearer : BearerId) (s t : Model) (outputs : List (Output M P))
     (v : CoreRecord M C) : Type 0 where
   pub path : IsPath places v ue bearer t
   pub n3 : (x : ℕ) → (t.members x).n3 ≡ (s.members x).n3 ++ items_put places ue bearer x outputs
 
-unfoldable pub Follows : {M C P : Type 0} → Places → UeId → BearerId → Part → Part → Answer M P (CoreRecord M C) → Type 0
+unfoldable pub Follows : {M C P : Type 0} → Places → UeId → BearerId → Model → Model → Answer M P (CoreRecord M C) → Type 0
 Follows places ue bearer s t (gives outputs v) = IsAfter places ue bearer s t outputs v
 Follows places ue bearer s t (spent counter) = ⊤

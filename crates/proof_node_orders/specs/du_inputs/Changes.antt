@@ -20,21 +20,21 @@ use Rattle.law_downlink_order.specs.path.Paths.{Frame, taken_by}
 use Rattle.proof_node_orders.specs.du_rows.Shown.{renewed}
 
 -- one bearer at a DU: of its context the epoch and the length of numbers, and what the DU keeps of the bearer
-pub record DuPart : Type 0 where
+pub record DuModel : Type 0 where
   pub epoch : ℕ
   pub sn : SnBits
   pub bearer : DuBearer
 
-abbrev pub part_with : DuContext → Option DuBearer → Option DuPart
-part_with c None = None
-part_with c (Some b) = Some (record { epoch = c.epoch; sn = c.sn; bearer = b })
+abbrev pub model_with : DuContext → Option DuBearer → Option DuModel
+model_with c None = None
+model_with c (Some b) = Some (record { epoch = c.epoch; sn = c.sn; bearer = b })
 
-abbrev pub part_in : BearerId → Option DuContext → Option DuPart
-part_in bearer None = None
-part_in bearer (Some c) = part_with c (find bearer_cmp c.bearers bearer)
+abbrev pub model_in : BearerId → Option DuContext → Option DuModel
+model_in bearer None = None
+model_in bearer (Some c) = model_with c (find bearer_cmp c.bearers bearer)
 
-abbrev pub part_of : {M C : Type 0} → Du M C → UeId → BearerId → Option DuPart
-part_of r ue bearer = part_in bearer (context_of r ue)
+abbrev pub model_of : {M C : Type 0} → Du M C → UeId → BearerId → Option DuModel
+model_of r ue bearer = model_in bearer (context_of r ue)
 
 -- It stays; a frame is taken; a radio of another epoch begins, with a downlink tunnel of its own; a context is set up, in place of what
 -- was there; the context ends.
@@ -42,15 +42,15 @@ pub data Change : Type 0 where
   stays : Change
   takes : (frame : Frame) → Change
   renews : (epoch teid : ℕ) → Change
-  sets_up : (part : Option DuPart) → Change
+  sets_up : (part : Option DuModel) → Change
   ends : Change
 
-abbrev pub changed_in : Change → DuPart → DuPart
+abbrev pub changed_in : Change → DuModel → DuModel
 changed_in (takes frame) d = record d { bearer = taken_by d.bearer frame }
 changed_in (renews epoch teid) d = record d { epoch = epoch; bearer = renewed d.bearer teid }
 changed_in change d = d
 
-unfoldable pub changed : Change → Option DuPart → Option DuPart
+unfoldable pub changed : Change → Option DuModel → Option DuModel
 changed (sets_up part) d = part
 changed ends d = None
 changed change None = None
@@ -85,7 +85,7 @@ module _ {M C P : Type 0} (way : Way M C P) where
   abbrev pub of_setup : BearerId → ℕ → List Tunnel → SnBits → Peer → Du M C → Change
   of_setup bearer epoch uplinks sn peer r =
       if not (are_first_bearers (bearers_of uplinks)) then stays
-      else sets_up (part_in bearer (Some (context_with way r epoch uplinks sn peer)))
+      else sets_up (model_in bearer (Some (context_with way r epoch uplinks sn peer)))
 
   abbrev pub of_request : UeId → BearerId → Message C → Du M C → Change
   of_request ue bearer (f1 (f1s.UeContextSetupRequest other instance epoch uplinks sn peer)) r =
@@ -105,19 +105,19 @@ module _ {M C P : Type 0} (way : Way M C P) where
       if_new (verdict r.transactions.callee (channel other from) instance) (of_request ue bearer message r)
   of_kind ue bearer from message r kind = stays
 
-  abbrev pub of_letter : UeId → BearerId → NodeId → Message C → Du M C → Change
-  of_letter ue bearer (CuCp gnb) message r =
+  abbrev pub of_control_message : UeId → BearerId → NodeId → Message C → Du M C → Change
+  of_control_message ue bearer (CuCp gnb) message r =
       if is_same_gnb gnb r.gnb then of_kind ue bearer (CuCp gnb) message r (kind_of message) else stays
-  of_letter ue bearer from message r = stays
+  of_control_message ue bearer from message r = stays
 
   -- ---- the table
 
   unfoldable pub change_by : UeId → BearerId → Du M C → Input C Pdu → Change
-  change_by ue bearer r (control_input from message) = of_letter ue bearer from message r
+  change_by ue bearer r (control_input from message) = of_control_message ue bearer from message r
   change_by ue bearer r (packet_input teid item) = of_tunnel ue bearer item (find nat_cmp r.tunnels teid)
   change_by ue bearer r input = stays
 
 -- afterwards the DU has this of the bearer
-unfoldable pub Has : {M C P : Type 0} → UeId → BearerId → Option DuPart → Answer M P (Du M C) → Type 0
-Has ue bearer part (gives outputs v) = part_of v ue bearer ≡ part
+unfoldable pub Has : {M C P : Type 0} → UeId → BearerId → Option DuModel → Answer M P (Du M C) → Type 0
+Has ue bearer part (gives outputs v) = model_of v ue bearer ≡ part
 Has ue bearer part (spent counter) = ⊤

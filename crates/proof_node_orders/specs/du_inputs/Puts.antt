@@ -9,7 +9,7 @@ use Rattle.gnb_types.specs.Orders.{ue_cmp, bearer_cmp}
 use Rattle.unit_defs.specs.Ways.{Pdu, Load, status, end_marker, Output, packet, radio, Way, Answer, gives, spent}
 use Rattle.unit_defs.specs.Du.{missing, is_missing}
 use Rattle.law_downlink_order.specs.path.Paths.{gap_after}
-use Rattle.proof_node_orders.specs.du_inputs.Changes.{DuPart, Change, takes, ends}
+use Rattle.proof_node_orders.specs.du_inputs.Changes.{DuModel, Change, takes, ends}
 
 -- an item on a tunnel: at which node, with which TEID, and what
 pub record OnTunnel : Type 0 where
@@ -35,16 +35,16 @@ radio_put ue bearer (output ∷ outputs) = radio_put ue bearer outputs
 
 -- ---- what the rows put. Nothing is put where a context is set up in place of another one: no End Marker says that it ended.
 
-abbrev pub on_uplink : DuPart → Load Pdu → List OnTunnel
+abbrev pub on_uplink : DuModel → Load Pdu → List OnTunnel
 on_uplink d load = record { to = d.bearer.up; teid = d.bearer.uplink; load = load } ∷ []
 
-abbrev pub of_number : Option ℕ → DuPart → List OnTunnel
+abbrev pub of_number : Option ℕ → DuModel → List OnTunnel
 of_number None d = []
 of_number (Some number) d = on_uplink d (status [] (Some number))
 
-abbrev pub of_part : {X : Type 0} → (DuPart → List X) → Option DuPart → List X
-of_part f None = []
-of_part f (Some d) = f d
+abbrev pub of_model : {X : Type 0} → (DuModel → List X) → Option DuModel → List X
+of_model f None = []
+of_model f (Some d) = f d
 
 -- what a frame carries, unless it is in a gap
 abbrev pub carried_if : Bool → ℕ → Option Pdu → List (ℕ × Pdu)
@@ -52,12 +52,12 @@ carried_if gap epoch None = []
 carried_if true epoch (Some pdu) = []
 carried_if false epoch (Some pdu) = (epoch, pdu) ∷ []
 
-abbrev pub carried_of : Change → DuPart → List (ℕ × Pdu)
+abbrev pub carried_of : Change → DuModel → List (ℕ × Pdu)
 carried_of (takes f) d = carried_if (gap_after d.bearer f f.pdu) d.epoch f.pdu
 carried_of change d = []
 
 module _ {M C : Type 0} (way : Way M C Pdu) where
-  abbrev pub of_change : Change → DuPart → List OnTunnel
+  abbrev pub of_change : Change → DuModel → List OnTunnel
   of_change (takes f) d =
       if is_missing way d.bearer f.number || f.poll then on_uplink d (status (missing way d.bearer f.number) None) else []
   of_change ends d = on_uplink d end_marker

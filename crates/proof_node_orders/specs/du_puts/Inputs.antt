@@ -7,8 +7,8 @@ use Rattle.gnb_types.specs.Orders.{bearer_cmp}
 use Rattle.tables.specs.Tables.{IsSorted}
 use Rattle.unit_defs.specs.Ways.{Pdu, uplink, Input, radio_input, confirm_input, Way}
 use Rattle.unit_defs.specs.Du.{Du, DuContext, context_of}
-use Rattle.proof_node_orders.specs.du_inputs.Changes.{part_of, change_by}
-use Rattle.proof_node_orders.specs.du_inputs.Puts.{OnTunnel, is_of, on_uplink, of_number, of_change, of_part}
+use Rattle.proof_node_orders.specs.du_inputs.Changes.{model_of, change_by}
+use Rattle.proof_node_orders.specs.du_inputs.Puts.{OnTunnel, is_of, on_uplink, of_number, of_change, of_model}
 
 -- no two bearers of the terminal's context have one name
 abbrev pub IsInOrder : {M C : Type 0} → Du M C → UeId → Type 0
@@ -18,7 +18,7 @@ IsInOrder r ue = (c : DuContext) → context_of r ue ≡ Some c → IsSorted bea
 -- status of a frame, an End Marker where the context ends.
 unfoldable pub ups_by : {M C : Type 0} → Way M C Pdu → UeId → BearerId → Du M C → Input C Pdu → List OnTunnel
 ups_by way ue bearer r (radio_input other q Ul pdu content) =
-    of_part (λ d. if is_of ue bearer other q then on_uplink d (uplink pdu) else []) (part_of r ue bearer)
+    of_model (λ d. if is_of ue bearer other q then on_uplink d (uplink pdu) else []) (model_of r ue bearer)
 ups_by way ue bearer r (confirm_input other q Dl pdu content) =
-    of_part (λ d. if is_of ue bearer other q then of_number (way.number d.sn pdu) d else []) (part_of r ue bearer)
-ups_by way ue bearer r input = of_part (of_change way (change_by way ue bearer r input)) (part_of r ue bearer)
+    of_model (λ d. if is_of ue bearer other q then of_number (way.number d.sn pdu) d else []) (model_of r ue bearer)
+ups_by way ue bearer r input = of_model (of_change way (change_by way ue bearer r input)) (model_of r ue bearer)

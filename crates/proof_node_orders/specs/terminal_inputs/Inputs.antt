@@ -1,4 +1,4 @@
--- What each input of a terminal does to one bearer, in orders of its part up and of its part down; and what they ask for.
+-- What each input of a terminal does to one bearer, in orders of its model up and of its model down; and what they ask for.
 use Rattle.std.specs.Prelude.{◌≡◌, ◌==◌, ℕ, ◌+◌, ◌<◌, Bool, true, not, ◌&&◌, if◌then◌else◌, nat_lt, nat_le, List, [], ◌∷◌, ◌++◌, length, Option, Some, None, ⊤}
 use Rattle.std.specs.Ordering.{eq_by_cmp}
 use Rattle.gnb_types.specs.declared.names.SnBits.{SnBits}
@@ -6,7 +6,7 @@ use Rattle.gnb_types.specs.declared.names.NodeId.{NodeId}
 use Rattle.gnb_types.specs.declared.names.NodeId.TheVariants.{Du}
 use Rattle.gnb_types.specs.declared.names.BearerId.{BearerId}
 use Rattle.gnb_types.specs.declared.names.Dir.TheVariants.{Dl, Ul}
-use Rattle.gnb_types.specs.declared.inputs.Order.{Order as UeOrder}
+use Rattle.gnb_types.specs.declared.inputs.Order.{ModelStep as UeOrder}
 use Rattle.gnb_types.specs.declared.inputs.Order.TheVariants as orders
 use Rattle.gnb_types.specs.Orders.{bearer_cmp}
 use Rattle.tables.specs.Tables.{IsSorted}
@@ -18,43 +18,43 @@ use Rattle.unit_defs.specs.declared.UeState.{UeState}
 use Rattle.unit_defs.specs.declared.UeState.TheVariants as states
 use Rattle.unit_defs.specs.Ways.{Message, rrc, Pdu, packet_pdu, report_pdu, Content, packet_content, report_content, Input, control_input, radio_input, confirm_input, offer_input, order_input, Output, radio, deliver, Way, Answer, gives, spent}
 use Rattle.unit_defs.specs.Ue.{UeBearer, UeNode, largest_packet, used_uplink, is_connected, is_accessing, may_obey, may_return}
-use Rattle.bearer_defs.specs.chain_defs.Parts.{Part as DownPart}
+use Rattle.bearer_defs.specs.chain_defs.Models.{Model as DownModel}
 use Rattle.bearer_defs.specs.chain_defs.Orders as down
-use Rattle.bearer_defs.specs.chain_defs.Guards as down_guards
-use Rattle.bearer_defs.specs.uplink_defs.Parts.{Part}
-use Rattle.bearer_defs.specs.uplink_defs.Orders.{Order, offers, connects, leaves, arrives, acknowledges, reports, run}
-use Rattle.bearer_defs.specs.uplink_defs.Guards.{IsOwed, AreKept}
+use Rattle.bearer_defs.specs.chain_defs.Assumptions as down_assumptions
+use Rattle.bearer_defs.specs.uplink_defs.Models.{Model}
+use Rattle.bearer_defs.specs.uplink_defs.Orders.{ModelStep, offers, connects, leaves, arrives, acknowledges, reports, run}
+use Rattle.bearer_defs.specs.uplink_defs.Assumptions.{IsAssumed, AreKept}
 use Rattle.proof_node_orders.specs.terminal_rows.Shown.{IsSeen, orders_of, numbering}
 
--- one bearer's parts, and orders of each
-pub record Parts : Type 0 where
-  pub up : Part
-  pub down : DownPart
+-- one bearer's models, and orders of each
+pub record Models : Type 0 where
+  pub up : Model
+  pub down : DownModel
 
 pub record Orders : Type 0 where
-  pub up : List Order
-  pub down : List down.Order
+  pub up : List ModelStep
+  pub down : List down.ModelStep
 
 abbrev pub none : Orders
 none = record { up = []; down = [] }
 
-abbrev pub carried_out : Parts → Orders → Parts
+abbrev pub carried_out : Models → Orders → Models
 carried_out b o = record { up = run b.up o.up; down = down.run b.down o.down }
 
 abbrev pub rest_of : {X : Type 0} → List X → List X
 rest_of [] = []
 rest_of (x ∷ xs) = xs
 
--- the terminal shows the parts of this bearer, and has no two bearers of one name
-pub record IsShown (u : UeNode) (bearer : BearerId) (b : Parts) : Type 0 where
+-- the terminal shows the models of this bearer, and has no two bearers of one name
+pub record IsShown (u : UeNode) (bearer : BearerId) (b : Models) : Type 0 where
   pub seen : IsSeen u bearer b.up b.down
   pub sorted : IsSorted bearer_cmp u.bearers
 
-module _ {M C P : Type 0} (way : Way M C P) (u : UeNode) (b : Parts) where
+module _ {M C P : Type 0} (way : Way M C P) (u : UeNode) (b : Models) where
   -- ---- a token: a command, and what is accepted
 
   -- a new connection
-  abbrev pub connecting : List Order
+  abbrev pub connecting : List ModelStep
   connecting = connects ∷ orders_of u b.up.terminal
 
   abbrev pub of_command : ℕ → Orders
@@ -69,9 +69,9 @@ module _ {M C P : Type 0} (way : Way M C P) (u : UeNode) (b : Parts) where
   of_token (tokens.Accepted ue epoch) = if ue.0 == u.plan.ue.0 then (if epoch == u.epoch then of_accepted u.state else none) else none
   of_token token = none
 
-  abbrev pub of_letter : NodeId → Message C → Orders
-  of_letter (Du gnb number) (rrc token) = of_token token
-  of_letter from message = none
+  abbrev pub of_control_message : NodeId → Message C → Orders
+  of_control_message (Du gnb number) (rrc token) = of_token token
+  of_control_message from message = none
 
   -- ---- a PDU from the radio, and one that was confirmed there
 
@@ -135,7 +135,7 @@ module _ {M C P : Type 0} (way : Way M C P) (u : UeNode) (b : Parts) where
   if_here bearer other o = if eq_by_cmp bearer_cmp bearer other then o else none
 
   unfoldable pub orders_by : BearerId → Option ℕ → Input C P → Orders
-  orders_by bearer to (control_input from message) = of_letter from message
+  orders_by bearer to (control_input from message) = of_control_message from message
   orders_by bearer to (radio_input ue other Dl pdu content) = if_here bearer other (of_pdu content)
   orders_by bearer to (confirm_input ue other Ul pdu content) = if_here bearer other (of_confirmed content)
   orders_by bearer to (offer_input ue other packet) = if_here bearer other (of_offer packet)
@@ -145,32 +145,32 @@ module _ {M C P : Type 0} (way : Way M C P) (u : UeNode) (b : Parts) where
   -- ---- what they ask for. Owed is that what is taken from a radio, or confirmed there, is the first that stands there; that a report
   -- says what was carried up; and that an arrival may lead where it leads.
 
-  abbrev pub OwedTaken : Content → Type 0
-  OwedTaken (packet_content None packet) = ⊤
-  OwedTaken (packet_content (Some count) packet) = b.down.air ≡ (count, packet) ∷ rest_of b.down.air
-  OwedTaken (report_content fmc bits) = (i : ℕ) → is_reported fmc bits i ≡ true → i < b.up.reached
+  abbrev pub AssumedTaken : Content → Type 0
+  AssumedTaken (packet_content None packet) = ⊤
+  AssumedTaken (packet_content (Some count) packet) = b.down.air ≡ (count, packet) ∷ rest_of b.down.air
+  AssumedTaken (report_content fmc bits) = (i : ℕ) → is_reported fmc bits i ≡ true → i < b.up.reached
 
-  abbrev pub OwedConfirmed : Content → Type 0
-  OwedConfirmed (packet_content None packet) = ⊤
-  OwedConfirmed (packet_content (Some count) packet) = b.up.carried ≡ count ∷ rest_of b.up.carried
-  OwedConfirmed (report_content fmc bits) = ⊤
+  abbrev pub AssumedConfirmed : Content → Type 0
+  AssumedConfirmed (packet_content None packet) = ⊤
+  AssumedConfirmed (packet_content (Some count) packet) = b.up.carried ≡ count ∷ rest_of b.up.carried
+  AssumedConfirmed (report_content fmc bits) = ⊤
 
-  abbrev pub OwedArrival : Option ℕ → Type 0
-  OwedArrival None = ⊤
-  OwedArrival (Some x) = IsOwed b.up (arrives x) × down_guards.IsOwed b.down (down.arrives x)
+  abbrev pub AssumedArrival : Option ℕ → Type 0
+  AssumedArrival None = ⊤
+  AssumedArrival (Some x) = IsAssumed b.up (arrives x) × down_assumptions.IsAssumed b.down (down.arrives x)
 
-  abbrev pub OwedOrder : Option ℕ → UeOrder → Type 0
-  OwedOrder to (orders.Arrive ue) = OwedArrival to
-  OwedOrder to order = ⊤
+  abbrev pub AssumedOrder : Option ℕ → UeOrder → Type 0
+  AssumedOrder to (orders.Arrive ue) = AssumedArrival to
+  AssumedOrder to order = ⊤
 
-  unfoldable pub IsOwedFor : BearerId → Option ℕ → Input C P → Type 0
-  IsOwedFor bearer to (radio_input ue other Dl pdu content) = eq_by_cmp bearer_cmp bearer other ≡ true → OwedTaken content
-  IsOwedFor bearer to (confirm_input ue other Ul pdu content) = eq_by_cmp bearer_cmp bearer other ≡ true → OwedConfirmed content
-  IsOwedFor bearer to (order_input order) = OwedOrder to order
-  IsOwedFor bearer to input = ⊤
+  unfoldable pub IsAssumedFor : BearerId → Option ℕ → Input C P → Type 0
+  IsAssumedFor bearer to (radio_input ue other Dl pdu content) = eq_by_cmp bearer_cmp bearer other ≡ true → AssumedTaken content
+  IsAssumedFor bearer to (confirm_input ue other Ul pdu content) = eq_by_cmp bearer_cmp bearer other ≡ true → AssumedConfirmed content
+  IsAssumedFor bearer to (order_input order) = AssumedOrder to order
+  IsAssumedFor bearer to input = ⊤
 
-abbrev pub AllKept : Parts → Orders → Type 0
-AllKept b o = AreKept b.up o.up × ((sn : SnBits) (quota : ℕ) → down_guards.AreKept sn quota b.down o.down)
+abbrev pub AllKept : Models → Orders → Type 0
+AllKept b o = AreKept b.up o.up × ((sn : SnBits) (quota : ℕ) → down_assumptions.AreKept sn quota b.down o.down)
 
 -- ---- what is put: packets on this bearer's radio, where PDUs are what they say, and those that are delivered
 
@@ -191,20 +191,20 @@ packets_delivered bearer (deliver ue other Dl count packet ∷ outputs) =
 packets_delivered bearer (output ∷ outputs) = packets_delivered bearer outputs
 
 -- what still stands on the radio up after these orders, of what stood there before; the rest was put meanwhile
-unfoldable pub left_on : List (ℕ × List ℕ) → List Order → List (ℕ × List ℕ)
+unfoldable pub left_on : List (ℕ × List ℕ) → List ModelStep → List (ℕ × List ℕ)
 left_on air [] = air
 left_on air (connects ∷ os) = left_on [] os
 left_on air (leaves ∷ os) = left_on [] os
 left_on air (arrives x ∷ os) = left_on [] os
 left_on air (o ∷ os) = left_on air os
 
--- The terminal shows the parts after these orders; what it put on the bearer's radio is what came there, and what it delivered is what
+-- The terminal shows the models after these orders; what it put on the bearer's radio is what came there, and what it delivered is what
 -- was delivered more.
-pub record IsAfter {M : Type 0} (bearer : BearerId) (b : Parts) (o : Orders) (outputs : List (Output M Pdu)) (v : UeNode) : Type 0 where
+pub record IsAfter {M : Type 0} (bearer : BearerId) (b : Models) (o : Orders) (outputs : List (Output M Pdu)) (v : UeNode) : Type 0 where
   pub shown : IsShown v bearer (carried_out b o)
   pub air : (carried_out b o).up.air ≡ left_on b.up.air o.up ++ packets_put bearer outputs
   pub delivered : (carried_out b o).down.delivered ≡ b.down.delivered ++ packets_delivered bearer outputs
 
-unfoldable pub Follows : {M : Type 0} → BearerId → Parts → Orders → Answer M Pdu UeNode → Type 0
+unfoldable pub Follows : {M : Type 0} → BearerId → Models → Orders → Answer M Pdu UeNode → Type 0
 Follows bearer b o (gives outputs v) = IsAfter bearer b o outputs v
 Follows bearer b o (spent counter) = ⊤

@@ -11,11 +11,11 @@ use Rattle.unit_defs.specs.declared.UeState.{UeState}
 use Rattle.unit_defs.specs.declared.UeState.TheVariants as states
 use Rattle.unit_defs.specs.Ways.{packet_content, Input, confirm_input, Output, radio, Answer, gives, spent}
 use Rattle.unit_defs.specs.Ue.{UeNode, is_connected}
-use Rattle.bearer_defs.specs.uplink_defs.Orders.{Order, offers, numbers, connects, leaves, arrives, acknowledges, reports}
-use Rattle.proof_node_orders.specs.terminal_inputs.Inputs.{Parts, Orders, carried_out, rest_of}
+use Rattle.bearer_defs.specs.uplink_defs.Orders.{ModelStep, offers, numbers, connects, leaves, arrives, acknowledges, reports}
+use Rattle.proof_node_orders.specs.terminal_inputs.Inputs.{Models, Orders, carried_out, rest_of}
 
 -- orders of the terminal
-abbrev pub IsOfTerminal : Order → Type 0
+abbrev pub IsOfTerminal : ModelStep → Type 0
 IsOfTerminal (offers packet) = ⊤
 IsOfTerminal (numbers packet rest) = ⊤
 IsOfTerminal connects = ⊤
@@ -26,7 +26,7 @@ IsOfTerminal (reports fmc bits) = ⊤
 IsOfTerminal order = ⊥
 
 -- they leave the radio, or begin another
-abbrev pub clears : List Order → Bool
+abbrev pub clears : List ModelStep → Bool
 clears [] = false
 clears (connects ∷ os) = true
 clears (leaves ∷ os) = true
@@ -56,13 +56,13 @@ IsMoved true u v = is_on_radio v.state ≡ false
 IsMoved false u v = (is_connected v.state ≡ true) × (v.epoch ≡ u.epoch)
 
 -- so much of what was carried isn't confirmed then
-pub record IsHeard {M P : Type 0} (unknown : List ℕ) (b : Parts) (o : Orders) (u v : UeNode) (outputs : List (Output M P)) : Type 0 where
+pub record IsReceived {M P : Type 0} (unknown : List ℕ) (b : Models) (o : Orders) (u v : UeNode) (outputs : List (Output M P)) : Type 0 where
   pub plan : v.plan ≡ u.plan
   pub puts : AllByRecursion (IsPutIn v.plan.ue v.epoch (is_connected v.state)) outputs
   pub own : AllByRecursion IsOfTerminal o.up
   pub carried : (carried_out b o).up.carried ≡ (if clears o.up then [] else unknown)
   pub moved : is_connected u.state ≡ true → IsMoved (clears o.up) u v
 
-unfoldable pub Hears : {M P : Type 0} → List ℕ → Parts → Orders → UeNode → Answer M P UeNode → Type 0
-Hears unknown b o u (gives outputs v) = IsHeard unknown b o u v outputs
-Hears unknown b o u (spent counter) = ⊤
+unfoldable pub Receives : {M P : Type 0} → List ℕ → Models → Orders → UeNode → Answer M P UeNode → Type 0
+Receives unknown b o u (gives outputs v) = IsReceived unknown b o u v outputs
+Receives unknown b o u (spent counter) = ⊤

@@ -1,4 +1,4 @@
--- What a row of the terminal does to one bearer, beside what its orders do to the bearer's parts, up and down.
+-- What a row of the terminal does to one bearer, beside what its orders do to the bearer's models, up and down.
 use Rattle.std.specs.Prelude.{◌≡◌, ℕ, ◌+◌, Bool, if◌then◌else◌, List, [], ◌∷◌, ◌++◌, map, flat_map, Some, false, ⊤}
 use Rattle.std.specs.Ordering.{eq_by_cmp}
 use Rattle.gnb_types.specs.declared.names.SnBits.{SnBits}
@@ -12,26 +12,26 @@ use Rattle.pdcp_defs.specs.Receivers.{Receiver, received_bits}
 use Rattle.unit_defs.specs.Ways.{report_pdu, Output, deliver, Way, Answer, gives, spent}
 use Rattle.unit_defs.specs.Ue.{UeBearer, UeNode, is_connected, on_air, data_output}
 use Rattle.proof_cu_up_orders.specs.chain_rows.Shown.{numbers_all, still_waits, numbered_packets}
-use Rattle.bearer_defs.specs.chain_defs.Parts.{Part as DownPart}
-use Rattle.bearer_defs.specs.uplink_defs.Parts.{Part}
-use Rattle.bearer_defs.specs.uplink_defs.Orders.{Order, numbers}
+use Rattle.bearer_defs.specs.chain_defs.Models.{Model as DownModel}
+use Rattle.bearer_defs.specs.uplink_defs.Models.{Model}
+use Rattle.bearer_defs.specs.uplink_defs.Orders.{ModelStep, numbers}
 
--- The two parts have this bearer of the terminal: what it sends is that of the part up, its receiver that of the part down. The radio
--- up is there while the terminal is connected; each of its epochs is a radio of the part down, from the first one on, which is 1.
-abbrev pub bearer_of : Part → DownPart → UeBearer
+-- The two models have this bearer of the terminal: what it sends is that of the model up, its receiver that of the model down. The radio
+-- up is there while the terminal is connected; each of its epochs is a radio of the model down, from the first one on, which is 1.
+abbrev pub bearer_of : Model → DownModel → UeBearer
 bearer_of s d = record s.terminal { receiver = d.terminal }
 
-pub record IsSeen (u : UeNode) (bearer : BearerId) (s : Part) (d : DownPart) : Type 0 where
+pub record IsSeen (u : UeNode) (bearer : BearerId) (s : Model) (d : DownModel) : Type 0 where
   pub there : find bearer_cmp u.bearers bearer ≡ Some (bearer_of s d)
   pub connected : s.connected ≡ is_connected u.state
   pub epoch : u.epoch ≡ d.epoch + 1
 
 -- what waits is numbered while there is room: the orders, the packets with their COUNTs, and the bearer after them
-unfoldable pub number_orders : SnBits → ℕ → List (List ℕ) → Sender (List ℕ) → List Order
+unfoldable pub number_orders : SnBits → ℕ → List (List ℕ) → Sender (List ℕ) → List ModelStep
 number_orders sn quota [] s = []
 number_orders sn quota (p ∷ ps) s = if has_room sn quota s then numbers p ps ∷ number_orders sn quota ps (with_next s p) else []
 
-abbrev pub orders_of : UeNode → UeBearer → List Order
+abbrev pub orders_of : UeNode → UeBearer → List ModelStep
 orders_of u b = number_orders u.plan.sn u.plan.quota b.waiting b.sender
 
 abbrev pub packets_of : UeNode → UeBearer → List (ℕ × List ℕ)
@@ -45,10 +45,10 @@ numbered_all u b =
     with_lists b (numbers_all u.plan.sn u.plan.quota b.waiting b.sender) (still_waits u.plan.sn u.plan.quota b.waiting b.waiting b.sender)
 
 -- the orders, where a terminal that isn't connected numbers nothing
-abbrev pub orders_if : Bool → UeNode → UeBearer → List Order
+abbrev pub orders_if : Bool → UeNode → UeBearer → List ModelStep
 orders_if is_there u b = if is_there then orders_of u b else []
 
-abbrev pub numbering : UeNode → UeBearer → List Order
+abbrev pub numbering : UeNode → UeBearer → List ModelStep
 numbering u b = orders_if (is_connected u.state) u b
 
 -- exactly these outputs, and this kept; or a counter is spent
@@ -56,15 +56,15 @@ unfoldable pub Gives : {M P R : Type 0} → List (Output M P) → R → Answer M
 Gives outputs after (gives others r) = (others ≡ outputs) × (r ≡ after)
 Gives outputs after (spent counter) = ⊤
 
--- exactly these outputs, and the terminal shows these parts then
-unfoldable pub Shows : {M P : Type 0} → List (Output M P) → BearerId → Part → DownPart → Answer M P UeNode → Type 0
+-- exactly these outputs, and the terminal shows these models then
+unfoldable pub Shows : {M P : Type 0} → List (Output M P) → BearerId → Model → DownModel → Answer M P UeNode → Type 0
 Shows outputs bearer t d (gives others v) = (others ≡ outputs) × IsSeen v bearer t d
 Shows outputs bearer t d (spent counter) = ⊤
 
 module _ {M C P : Type 0} (way : Way M C P) where
-  -- A row changes this bearer alone, which is that of the part up then, and nothing of the part down; and what it puts out is what went
-  -- to the part's radio. `base` is the part with what the row changes besides.
-  pub record IsDone (u : UeNode) (bearer : BearerId) (d : DownPart) (base t : Part) (outputs : List (Output M P)) (v : UeNode) : Type 0 where
+  -- A row changes this bearer alone, which is that of the model up then, and nothing of the model down; and what it puts out is what went
+  -- to the model's radio. `base` is the model with what the row changes besides.
+  pub record IsDone (u : UeNode) (bearer : BearerId) (d : DownModel) (base t : Model) (outputs : List (Output M P)) (v : UeNode) : Type 0 where
     pub terminal : UeBearer
     pub packets : List (ℕ × List ℕ)
     pub part : t ≡ record base { terminal = terminal; air = base.air ++ packets }
@@ -73,7 +73,7 @@ module _ {M C P : Type 0} (way : Way M C P) where
     pub seen : IsSeen v bearer t d
     pub others : (q : BearerId) → eq_by_cmp bearer_cmp q bearer ≡ false → find bearer_cmp v.bearers q ≡ find bearer_cmp u.bearers q
 
-  unfoldable pub Does : UeNode → BearerId → DownPart → Part → Part → Answer M P UeNode → Type 0
+  unfoldable pub Does : UeNode → BearerId → DownModel → Model → Model → Answer M P UeNode → Type 0
   Does u bearer d base t (gives outputs v) = IsDone u bearer d base t outputs v
   Does u bearer d base t (spent counter) = ⊤
 
@@ -94,5 +94,5 @@ module _ {M C P : Type 0} (way : Way M C P) where
   delivered_to u bearer packets = map (λ e. deliver u.plan.ue bearer Dl e.0 e.1) packets
 
   -- a bearer's receiver changes, and this bearer alone
-  abbrev pub with_receiver : UeNode → BearerId → Part → Receiver (List ℕ) → UeNode
+  abbrev pub with_receiver : UeNode → BearerId → Model → Receiver (List ℕ) → UeNode
   with_receiver u bearer s r = record u { bearers = put bearer_cmp u.bearers bearer (record s.terminal { receiver = r }) }

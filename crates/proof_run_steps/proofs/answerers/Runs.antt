@@ -18,18 +18,18 @@ use Rattle.message_types.specs.declared.rrc.Token.{Token}
 use Rattle.message_types.specs.declared.f1.F1.TheVariants as f1s
 use Rattle.message_types.specs.declared.e1.E1Message.TheVariants as e1s
 use Rattle.scenario_text.specs.declared.event.Event.{Event}
-use Rattle.transport_defs.specs.declared.Letter.{Letter}
+use Rattle.transport_defs.specs.declared.ControlMessage.{ControlMessage}
 use Rattle.unit_defs.specs.Ways.{Message, f1, e1, Pdu, Load, Put, control, packet, radio, deliver, dropped, held, opened, closed, failed, no, Input, control_input, packet_input, radio_input, confirm_input, offer_input, tick_input, order_input, Answer, gives, spent}
 use Rattle.unit_defs.specs.Transactions.{kind_of}
-use Rattle.unit_defs.specs.UpRecords.{UpBearer, UpContext, CuUp}
-use Rattle.unit_defs.specs.UpBearers.{made}
+use Rattle.unit_defs.specs.CuUpRecords.{CuUpBearer, CuUpContext, CuUp}
+use Rattle.unit_defs.specs.CuUpBearers.{made}
 use Rattle.unit_defs.specs.CuUp.{bearers_from, bearers_made, cu_up_acts}
 use Rattle.unit_defs.specs.Du.{DuContext, Du, bearers_made as du_bearers, du_acts}
 use Rattle.unit_defs.specs.Ue.{UeNode, ue_acts}
-use Rattle.unit_defs.specs.CpRecords.{CpTerminal, CuCpRecord}
+use Rattle.unit_defs.specs.CuCpRecords.{CuCpTerminal, CuCpRecord}
 use Rattle.unit_defs.specs.CuCp.{cu_cp_acts}
 use Rattle.unit_defs.specs.Core.{CorePath, CoreRecord}
-use Rattle.unit_defs.specs.Static.{with_downlinks, up_context, up_placed, uplinks_from, du_context, du_placed, cp_context, cp_placed}
+use Rattle.unit_defs.specs.Static.{with_downlinks, cu_up_context, cu_up_placed, uplinks_from, du_context, du_placed, cu_cp_context, cu_cp_placed}
 use Rattle.run_defs.specs.Written.{Written}
 use Rattle.run_defs.specs.States.{State, new_state}
 use Rattle.run_defs.specs.Runs.{Reading, plain_way, plain_world}
@@ -38,10 +38,10 @@ use Rattle.proof_run_steps.specs.facts.Facts.{PutFits, PutsFit}
 use Rattle.proof_run_steps.specs.facts.UnitFacts.{UnitFacts, as_facts, InputFits, AnswerFits, UnitsKeep}
 use Rattle.proof_run_steps.proofs.facts.Plain.{plain_run_holds}
 use Rattle.proof_unit_steps.specs.tunnel_names.Names.{Owners, Names, Property, InputNames, OutputNames, OutputsName, AnswerNames}
-use Rattle.proof_unit_steps.specs.tunnel_names.CuCps.{TerminalNames, PathNames, CpNames, CoreNames}
+use Rattle.proof_unit_steps.specs.tunnel_names.CuCps.{TerminalNames, PathNames, CuCpNames, CoreNames}
 use Rattle.proof_unit_steps.proofs.tunnel_names.CuCps.{cu_cp_names}
 use Rattle.proof_unit_steps.proofs.tunnel_names.Cores.{core_names}
-use Rattle.proof_unit_steps.specs.tunnels.Units.{Each, BearerNames, BearerHolds, UplinkNames, UpHolds, DuHolds, UpNames, DuNames, AnswerIf}
+use Rattle.proof_unit_steps.specs.tunnels.Units.{Each, BearerNames, BearerHolds, UplinkNames, CuUpHolds, DuHolds, CuUpNames, DuNames, AnswerIf}
 use Rattle.proof_unit_steps.proofs.packets.Keyed.{keyed_put}
 use Rattle.proof_unit_steps.proofs.tunnels.CuUps.{cu_up_names}
 use Rattle.proof_unit_steps.proofs.tunnels.Dus.{du_names}
@@ -70,12 +70,12 @@ all_free (x ∷ xs) = (tt, all_free xs)
 
 abbrev pub AnyNames : UnitFacts
 AnyNames = record {
-  up = λ g n r. UpNames Any g n r;
+  up = λ g n r. CuUpNames Any g n r;
   du = λ g n r. DuNames Any g n r;
-  cp = λ g r. CpNames Any g r;
+  cp = λ g r. CuCpNames Any g r;
   ue = λ ue x. Unit {0};
   core = λ r. CoreNames Any r;
-  letter = λ l. Names any l.from l.message;
+  control_message = λ l. Names any l.from l.message;
   puts_on = λ node end item. Unit {0};
   puts_on_air = λ node key item. Unit {0};
   on_tunnel = λ end item. Unit {0};
@@ -122,10 +122,10 @@ given_names node taken tick_input p = tt
 given_names node taken (order_input (orders.Attach plan)) p = tt
 given_names node taken (order_input order) p = tt
 
-up_holds : (g : Gnb) (n : ℕ) (r : CuUp (Message Token) Token) → UpHolds any g n r
+up_holds : (g : Gnb) (n : ℕ) (r : CuUp (Message Token) Token) → CuUpHolds any g n r
 up_holds g n r ue c there = by c.bearers
   where
-    by : (es : List (BearerId × UpBearer)) → Each (BearerHolds any g n ue) es
+    by : (es : List (BearerId × CuUpBearer)) → Each (BearerHolds any g n ue) es
     by [] = tt
     by (e ∷ es) = (
       record {
@@ -142,8 +142,8 @@ du_holds g n r ue c there = all_free c.bearers
 
 -- ---- terminals that are set up without messages
 
-abbrev served : Plan → CpTerminal
-served plan = record { context = Some (cp_context plan); taken = None }
+abbrev served : Plan → CuCpTerminal
+served plan = record { context = Some (cu_cp_context plan); taken = None }
 
 abbrev path_of : Plan → List Tunnel → CorePath
 path_of plan ts = record { up = up_id plan.gnb plan.up; n3 = ts }
@@ -158,13 +158,13 @@ placed_uplinks : (ue : UeId) (gnb : Gnb) (up next : ℕ) (ts : List Tunnel) → 
 placed_uplinks ue gnb up next [] = tt
 placed_uplinks ue gnb up next (t ∷ ts) = (tt, placed_uplinks ue gnb up (next + 1) ts)
 
-up_placed_names : (r : CuUp (Message Token) Token) (plan : Plan) (downlink : ℕ) → UpNames Any plan.gnb plan.up r → UpNames Any plan.gnb plan.up (up_placed r plan downlink)
-unfolding up_placed
+up_placed_names : (r : CuUp (Message Token) Token) (plan : Plan) (downlink : ℕ) → CuUpNames Any plan.gnb plan.up r → CuUpNames Any plan.gnb plan.up (cu_up_placed r plan downlink)
+unfolding cu_up_placed
 up_placed_names r plan downlink p = record {
   own = p.own;
-  contexts = keyed_put ue_cmp ue_exact (λ (ue : UeId) (c : UpContext). Each (BearerNames any ue) c.bearers) r.contexts plan.ue (up_context r plan downlink) p.contexts
+  contexts = keyed_put ue_cmp ue_exact (λ (ue : UeId) (c : CuUpContext). Each (BearerNames any ue) c.bearers) r.contexts plan.ue (cu_up_context r plan downlink) p.contexts
       (placed_bearers plan.ue r.gnb plan.du downlink r.next_teid (bearers_from 1 plan.bearers));
-  lengths = keyed_put ue_cmp ue_exact (λ (ue : UeId) (c : UpContext). Unit {0}) r.contexts plan.ue (up_context r plan downlink) p.lengths tt;
+  lengths = keyed_put ue_cmp ue_exact (λ (ue : UeId) (c : CuUpContext). Unit {0}) r.contexts plan.ue (cu_up_context r plan downlink) p.lengths tt;
   kept = p.kept;
 }
 
@@ -178,8 +178,8 @@ du_placed_names r plan uplink p = record {
   kept = p.kept;
 }
 
-cp_placed_names : (r : CuCpRecord (Message Token) Token) (plan : Plan) → CpNames Any plan.gnb r → CpNames Any plan.gnb (cp_placed r plan)
-unfolding cp_placed
+cp_placed_names : (r : CuCpRecord (Message Token) Token) (plan : Plan) → CuCpNames Any plan.gnb r → CuCpNames Any plan.gnb (cu_cp_placed r plan)
+unfolding cu_cp_placed
 cp_placed_names r plan p = record {
   own = p.own;
   terminals = λ ue t e. by ue t (eq_by_cmp ue_cmp ue plan.ue)
@@ -187,11 +187,11 @@ cp_placed_names r plan p = record {
   kept = p.kept;
 }
   where
-    by : (ue : UeId) (t : CpTerminal) (b : Bool) → cond b (Some (served plan)) (find ue_cmp r.terminals ue) ≡ Some t
+    by : (ue : UeId) (t : CuCpTerminal) (b : Bool) → cond b (Some (served plan)) (find ue_cmp r.terminals ue) ≡ Some t
         → TerminalNames Any plan.gnb ue t.context
     by ue t true e =
         let those : served plan ≡ t = cc in
-        subst (λ (x : CpTerminal). TerminalNames Any plan.gnb ue x.context) those tt
+        subst (λ (x : CuCpTerminal). TerminalNames Any plan.gnb ue x.context) those tt
     by ue t false e = p.terminals ue t e
 
 path_names : (r : CoreRecord (Message Token) Token) (plan : Plan) (ts : List Tunnel) → CoreNames Any r
@@ -213,11 +213,11 @@ path_names r plan ts p = record {
 pub any_kept : UnitsKeep AnyNames
 unfolding find
 any_kept = record {
-  ups_act = λ g n r taken input p fits. if_fit (UpHolds any g n) (UpNames Any g n) (up_id g n) taken (cu_up_acts plain_way r input) (up_holds g n)
+  ups_act = λ g n r taken input p fits. if_fit (CuUpHolds any g n) (CuUpNames Any g n) (up_id g n) taken (cu_up_acts plain_way r input) (up_holds g n)
       (cu_up_names Any (record { up = λ g n kind ue bearer. tt; du = λ g n ue bearer. tt }) g n r input (given_names (up_id g n) taken input fits) p);
   dus_act = λ g n r taken input p fits. if_fit (DuHolds any g n) (DuNames Any g n) (du_id g n) taken (du_acts plain_way r input) (du_holds g n)
       (du_names Any g n r input (given_names (du_id g n) taken input fits) p);
-  cps_act = λ g r taken input p fits. names_fit (CpNames Any g) (CuCp g) taken (cu_cp_acts plain_way r input)
+  cps_act = λ g r taken input p fits. names_fit (CuCpNames Any g) (CuCp g) taken (cu_cp_acts plain_way r input)
       (cu_cp_names Any g r input (given_names (CuCp g) taken input fits) p);
   ues_act = λ ue x taken input p fits. names_fit (λ (y : UeNode). Unit {0}) (Ue ue.0) taken (ue_acts plain_way x input) (terminal_keeps Any (Ue ue.0) x input tt);
   core_acts = λ r from message p fits. names_fit (CoreNames Any) Core None _ (core_names Any r from message fits.1 p);
@@ -247,10 +247,10 @@ own_answer (up_id g n) (e1 (e1s.BearerContextSetupResponse ue i uplinks paths do
 own_answer from (e1 (e1s.BearerContextSetupResponse ue i uplinks paths down up)) p = absurd p.0
 own_answer from m p = tt
 
-all_own : (ls : List (ℕ × Letter (Message Token))) → AllByRecursion (λ (e : ℕ × Letter (Message Token)). Names any e.1.from e.1.message) ls → AllAnswerOwn ls
+all_own : (ls : List (ℕ × ControlMessage (Message Token))) → AllByRecursion (λ (e : ℕ × ControlMessage (Message Token)). Names any e.1.from e.1.message) ls → AllAnswerOwn ls
 all_own [] p = tt
 all_own (e ∷ es) p = (own_answer e.1.from e.1.message p.0, all_own es p.1)
 
 pub all_answer_own : (reading : Reading) (events : List Event) (t : State (Message Token) Token (Written (Load Pdu)) (Written Pdu))
-    → reached (plain_world reading) events new_state ≡ Some t → AllAnswerOwn t.bag.letters
-all_answer_own reading events t is = all_own t.bag.letters (plain_run_holds AnyNames any_kept reading events t is).letters
+    → reached (plain_world reading) events new_state ≡ Some t → AllAnswerOwn t.bag.control_messages
+all_answer_own reading events t is = all_own t.bag.control_messages (plain_run_holds AnyNames any_kept reading events t is).control_messages

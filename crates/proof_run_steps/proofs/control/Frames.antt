@@ -15,15 +15,15 @@ use Rattle.tables.specs.Tables.{find}
 use Rattle.unit_defs.specs.Ways.{Put, control, packet, radio, deliver, dropped, held, opened, closed, failed, no}
 use Rattle.unit_defs.specs.Ue.{new_ue}
 use Rattle.transport_defs.specs.declared.Item.{Item}
-use Rattle.transport_defs.specs.declared.Letter.{Letter}
-use Rattle.transport_defs.specs.Links.{is_epoch, emptied, put_letter, landed}
+use Rattle.transport_defs.specs.declared.ControlMessage.{ControlMessage}
+use Rattle.transport_defs.specs.Links.{is_epoch, emptied, put_control_message, landed}
 use Rattle.run_defs.specs.Lines.{RunLine, put_item, lost_items, tunnel_link, radio_link, shown}
 use Rattle.run_defs.specs.Units.{Units, with_ue}
 use Rattle.run_defs.specs.States.{State, World, Stop, goes, stops, told_before, ◌next◌, goes_on, Ending, Within, as_step, entity, radio_of, with_radio}
 use Rattle.run_defs.specs.Steps.{first_outstanding, entities_of, checked_by, check_spans, noted, count_beside, item_of, on_tunnel, put_on_tunnel, put_on_connected, put_on_radio, put_control, opens, closes, radio_lost, lose_each, lose_radios_of, lose_radios, radios_of, same_epoch, epoch_now, connect_in, reconnect, reconnect_node, put_out, put_out_all, carried_out}
 use Rattle.run_defs.specs.Events.{leaves}
-use Rattle.proof_run_steps.specs.steps.Causes.{Cause, by_order, by_tick, by_octets, by_octets_on, by_attach, by_release, by_offer, by_item, by_air, by_ack, by_letter, node_of, count_of, first_of}
-use Rattle.proof_run_steps.specs.control.Control.{Control, control_of, letter_in, letters_in, with_letters}
+use Rattle.proof_run_steps.specs.steps.Causes.{Cause, by_order, by_tick, by_octets, by_octets_on, by_attach, by_release, by_offer, by_item, by_air, by_ack, by_control_message, node_of, count_of, first_of}
+use Rattle.proof_run_steps.specs.control.Control.{Control, control_of, control_message_in, control_messages_in, with_control_messages}
 
 module _ {M C L P : Type 0} (world : World M C L P) where
   -- ---- within a step the control is this
@@ -87,22 +87,22 @@ module _ {M C L P : Type 0} (world : World M C L P) where
   noted_control key Same s = refl
 
   -- an output adds the control message that it puts
-  abbrev pub Adds : List (Letter M) → (State M C L P → Within M C L P) → Type 0
-  Adds more f = (t : State M C L P) → HasControl (with_letters (control_of t) more) (f t)
+  abbrev pub Adds : List (ControlMessage M) → (State M C L P → Within M C L P) → Type 0
+  Adds more f = (t : State M C L P) → HasControl (with_control_messages (control_of t) more) (f t)
 
-  nothing_added : (k : Control M C) → k ≡ with_letters k []
-  nothing_added k = λ i. record { units = k.units; core = k.core; letters = sym (append-nil k.letters) i }
+  nothing_added : (k : Control M C) → k ≡ with_control_messages k []
+  nothing_added k = λ i. record { units = k.units; core = k.core; control_messages = sym (append-nil k.control_messages) i }
 
   adds_none : (f : State M C L P → Within M C L P) → KeepsControl f → Adds [] f
   adds_none f keeps t = subst (λ (k : Control M C). HasControl k (f t)) (nothing_added (control_of t)) (keeps t)
 
-  add_put : (node : NodeId) (taken : Option ℕ) (output : Put M L P) → Adds (letter_in node output) (put_out world node taken output)
-  unfolding put_control opens closes put_letter
+  add_put : (node : NodeId) (taken : Option ℕ) (output : Put M L P) → Adds (control_message_in node output) (put_out world node taken output)
+  unfolding put_control opens closes put_control_message
   add_put node taken (control to ue message) s = λ i. record {
     units = s.units;
     core = s.core;
-    letters = map-append (λ (e : ℕ × Letter M). e.1) s.bag.letters
-        ((length s.bag.letters + 1, record { from = node; to = to; ue = ue; message = message }) ∷ []) i;
+    control_messages = map-append (λ (e : ℕ × ControlMessage M). e.1) s.bag.control_messages
+        ((length s.bag.control_messages + 1, record { from = node; to = to; ue = ue; message = message }) ∷ []) i;
   }
   add_put node taken (packet to teid ue bearer dir tag load) s =
       adds_none (λ t. put_on_tunnel world (record { node = to; teid = teid }) (item_of world ue bearer dir (count_beside tag taken) load) (noted (entity ue bearer dir) tag t))
@@ -122,17 +122,17 @@ module _ {M C L P : Type 0} (world : World M C L P) where
   add_put node taken (held reason) s = nothing_added (control_of s)
   add_put node taken (no reason) s = nothing_added (control_of s)
 
-  both_added : (k : Control M C) (a b : List (Letter M)) → with_letters (with_letters k a) b ≡ with_letters k (a ++ b)
-  both_added k a b = λ i. record { units = k.units; core = k.core; letters = append_assoc k.letters a b i }
+  both_added : (k : Control M C) (a b : List (ControlMessage M)) → with_control_messages (with_control_messages k a) b ≡ with_control_messages k (a ++ b)
+  both_added k a b = λ i. record { units = k.units; core = k.core; control_messages = append_assoc k.control_messages a b i }
 
-  pub add_put_all : (node : NodeId) (taken : Option ℕ) (outputs : List (Put M L P)) → Adds (letters_in node outputs) (put_out_all world node taken outputs)
+  pub add_put_all : (node : NodeId) (taken : Option ℕ) (outputs : List (Put M L P)) → Adds (control_messages_in node outputs) (put_out_all world node taken outputs)
   unfolding put_out_all
   add_put_all node taken [] s = nothing_added (control_of s)
   add_put_all node taken (output ∷ outputs) s =
-      then_has (with_letters (control_of s) (letter_in node output)) (with_letters (control_of s) (letter_in node output ++ letters_in node outputs))
+      then_has (with_control_messages (control_of s) (control_message_in node output)) (with_control_messages (control_of s) (control_message_in node output ++ control_messages_in node outputs))
       (put_out world node taken output s) (put_out_all world node taken outputs) (add_put node taken output s)
       (λ t same. subst (λ (k : Control M C). HasControl k (put_out_all world node taken outputs t))
-      (ap (λ (k : Control M C). with_letters k (letters_in node outputs)) same ∙ both_added (control_of s) (letter_in node output) (letters_in node outputs))
+      (ap (λ (k : Control M C). with_control_messages k (control_messages_in node outputs)) same ∙ both_added (control_of s) (control_message_in node output) (control_messages_in node outputs))
       (add_put_all node taken outputs t))
 
   keep_lose_each : (epoch : ℕ) (keys : List EntityKey) → KeepsControl (lose_each world epoch keys)
@@ -186,19 +186,19 @@ module _ {M C L P : Type 0} (world : World M C L P) where
   first_has (by_item end item rest) s = refl
   first_has (by_air key home item) s = refl
   first_has (by_ack key home item rest) s = refl
-  first_has (by_letter number l to) s = refl
+  first_has (by_control_message number l to) s = refl
 
   pub act_has : (cause : Cause M L P) (outputs : List (Put M L P)) (units : Units M C) (s : State M C L P)
-      → HasControl (with_letters (first_control cause (record (control_of s) { units = units })) (letters_in (node_of cause) outputs))
+      → HasControl (with_control_messages (first_control cause (record (control_of s) { units = units })) (control_messages_in (node_of cause) outputs))
       (carried_out world (node_of cause) (count_of cause) (first_of world cause) outputs units s)
   act_has cause outputs units s =
       let k : Control M C = first_control cause (record (control_of s) { units = units }) in
-      let m : Control M C = with_letters k (letters_in (node_of cause) outputs) in
+      let m : Control M C = with_control_messages k (control_messages_in (node_of cause) outputs) in
       let first : Within M C L P = first_of world cause (record s { units = units }) in
       then_control m (first next reconnect_node world (node_of cause) next put_out_all world (node_of cause) (count_of cause) outputs) check_spans
       (then_has k m (first next reconnect_node world (node_of cause)) (put_out_all world (node_of cause) (count_of cause) outputs)
       (then_control k first (reconnect_node world (node_of cause)) (first_has cause (record s { units = units })) (keep_reconnect_node (node_of cause)))
-      (λ t same. subst (λ (x : Control M C). HasControl (with_letters x (letters_in (node_of cause) outputs)) (put_out_all world (node_of cause) (count_of cause) outputs t))
+      (λ t same. subst (λ (x : Control M C). HasControl (with_control_messages x (control_messages_in (node_of cause) outputs)) (put_out_all world (node_of cause) (count_of cause) outputs t))
       same (add_put_all (node_of cause) (count_of cause) outputs t)))
       keep_checked
 

@@ -5,10 +5,10 @@ use Rattle.gnb_types.specs.declared.names.NodeId.{NodeId}
 use Rattle.gnb_types.specs.declared.names.UeId.{UeId}
 use Rattle.message_types.specs.declared.rrc.Token.{Token}
 use Rattle.unit_defs.specs.Ways.{Message, Pdu, Load, Put, control, packet, radio, deliver, dropped, held, opened, closed, failed, no, Answer, gives, spent}
-use Rattle.unit_defs.specs.UpRecords.{CuUp}
+use Rattle.unit_defs.specs.CuUpRecords.{CuUp}
 use Rattle.unit_defs.specs.Du.{Du}
 use Rattle.unit_defs.specs.Ue.{UeNode}
-use Rattle.unit_defs.specs.CpRecords.{CuCpRecord}
+use Rattle.unit_defs.specs.CuCpRecords.{CuCpRecord}
 use Rattle.unit_defs.specs.Core.{CoreRecord}
 use Rattle.proof_unit_steps.specs.answers.After.{HoldsAfter}
 use Rattle.proof_run_steps.specs.facts.Facts.{PutFits, PutsFit}
@@ -23,7 +23,7 @@ module _ (up : Gnb → ℕ → CuUp (Message Token) Token → Type 0) (du : Gnb 
     cp = cp;
     ue = ue;
     core = core;
-    letter = λ l. Unit {0};
+    control_message = λ l. Unit {0};
     puts_on = λ node end item. Unit {0};
     puts_on_air = λ node key item. Unit {0};
     on_tunnel = λ end item. Unit {0};

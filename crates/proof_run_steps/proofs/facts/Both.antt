@@ -7,7 +7,7 @@ use Rattle.gnb_types.specs.declared.keys.TunnelEnd.{TunnelEnd}
 use Rattle.unit_defs.specs.Ways.{Put, control, packet, radio, deliver, dropped, held, opened, closed, failed, no}
 use Rattle.transport_defs.specs.declared.Item.{Item}
 use Rattle.run_defs.specs.Units.{Units}
-use Rattle.run_defs.specs.States.{World, Given, letter_for, item_for, carried_for, confirmed_for, offer_for, tick_for, order_for, octets_from, octets_on}
+use Rattle.run_defs.specs.States.{World, Given, control_message_for, item_for, carried_for, confirmed_for, offer_for, tick_for, order_for, octets_from, octets_on}
 use Rattle.proof_run_steps.specs.facts.Facts.{Facts, PutFits, PutsFit, GivenFits, AreKept}
 use Rattle.proof_run_steps.specs.facts.Later.{AreKeptTo}
 
@@ -17,7 +17,7 @@ module _ {M C L P : Type 0} (one other : Facts M C L P) (on : TunnelEnd → Item
   both = record {
     units = λ u. one.units u × other.units u;
     core = λ r. one.core r × other.core r;
-    letter = λ l. one.letter l × other.letter l;
+    control_message = λ l. one.control_message l × other.control_message l;
     puts_on = λ node end item. one.puts_on node end item × other.puts_on node end item;
     puts_on_air = λ node key item. one.puts_on_air node key item × other.puts_on_air node key item;
     on_tunnel = λ end item. one.on_tunnel end item × (other.on_tunnel end item × on end item);
@@ -30,7 +30,7 @@ module _ {M C L P : Type 0} (one other : Facts M C L P) (on : TunnelEnd → Item
   -- ---- what is given and put has both facts
 
   pub given_one : (node : NodeId) (taken : Option ℕ) (given : Given M L P) → GivenFits both node taken given → GivenFits one node taken given
-  given_one node taken (letter_for from message) p = (p.0, p.1.0)
+  given_one node taken (control_message_for from message) p = (p.0, p.1.0)
   given_one node taken (item_for teid item) p = (p.0, p.1.0)
   given_one node taken (carried_for item) p = (p.0, (p.1.0, p.1.1.0))
   given_one node taken (confirmed_for item) p = (p.0, (p.1.0, p.1.1.0))
@@ -41,7 +41,7 @@ module _ {M C L P : Type 0} (one other : Facts M C L P) (on : TunnelEnd → Item
   given_one node taken (octets_on teid octets) p = tt
 
   pub given_other : (node : NodeId) (taken : Option ℕ) (given : Given M L P) → GivenFits both node taken given → GivenFits other node taken given
-  given_other node taken (letter_for from message) p = (p.0, p.1.1)
+  given_other node taken (control_message_for from message) p = (p.0, p.1.1)
   given_other node taken (item_for teid item) p = (p.0, p.1.1.0)
   given_other node taken (carried_for item) p = (p.0, (p.1.0, p.1.1.1))
   given_other node taken (confirmed_for item) p = (p.0, (p.1.0, p.1.1.1))

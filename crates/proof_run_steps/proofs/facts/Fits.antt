@@ -11,7 +11,7 @@ use Rattle.transaction_defs.specs.Callers.{is_open, is_awaited, close, Begin, be
 use Rattle.transaction_defs.specs.Callees.{Verdict, new, again, stale, verdict, taken as taken_in, kept_reply}
 use Rattle.unit_defs.specs.Ways.{Message, Pdu, Output, Answer, gives, spent, with_outputs, ◌then◌, nothing, drops}
 use Rattle.unit_defs.specs.Transactions.{Transactions, Waiting, Asked, is_empty, waits_at, with_waiting, begun_as, begin_request, ask, advance_with, advance, ask_at_once, replied, replied_late, answered_again, request_by, on_request, on_reply}
-use Rattle.transport_defs.specs.declared.Letter.{Letter}
+use Rattle.transport_defs.specs.declared.ControlMessage.{ControlMessage}
 use Rattle.run_defs.specs.Runs.{plain_way}
 use Rattle.proof_run_steps.specs.facts.Facts.{PutFits, PutsFit}
 use Rattle.proof_run_steps.proofs.facts.Within.{all_both}
@@ -45,9 +45,9 @@ module _ (facts : UnitFacts) (node : NodeId) (taken : Option ℕ) where
 
   -- ---- control messages alone
 
-  module _ (any_letter : (l : Letter (Message Token)) → facts.letter l) where
+  module _ (any_control_message : (l : ControlMessage (Message Token)) → facts.control_message l) where
     begun_fits : (t : Transactions (Message Token) Token) (c : Channel) (w : Waiting Token) (b : Begin (Message Token)) → FitsAny (begun_as plain_way t c w b)
-    begun_fits t c w (begun instance after) = (tt, (any_letter _, tt))
+    begun_fits t c w (begun instance after) = (tt, (any_control_message _, tt))
     begun_fits t c w running = (tt, tt)
     begun_fits t c w begins_no_more = tt
 
@@ -78,11 +78,11 @@ module _ (facts : UnitFacts) (node : NodeId) (taken : Option ℕ) where
 
     pub replied_fits : (t : Transactions (Message Token) Token) (c : Channel) (m : Message Token) → FitsAny (replied plain_way t c m)
     unfolding replied
-    replied_fits t c m = (tt, (any_letter _, tt))
+    replied_fits t c m = (tt, (any_control_message _, tt))
 
     pub late_fits : (t : Transactions (Message Token) Token) (c : Channel) (instance : ℕ) (m : Message Token) → FitsAny (replied_late plain_way t c instance m)
     unfolding replied_late
-    late_fits t c instance m = (tt, (any_letter _, tt))
+    late_fits t c instance m = (tt, (any_control_message _, tt))
 
     pub fits_request : {R : Type 0} (Q : R → Type 0) (same : R) (t : Transactions (Message Token) Token) (c : Channel) (instance : ℕ)
         (row : Transactions (Message Token) Token → Answer (Message Token) Pdu R) → Q same
@@ -92,7 +92,7 @@ module _ (facts : UnitFacts) (node : NodeId) (taken : Option ℕ) where
       where
         kept_again : (kept : Option (Message Token)) → AnswerFits facts Q node taken (answered_again plain_way same c kept)
         kept_again None = (is, tt)
-        kept_again (Some m) = (is, (any_letter _, tt))
+        kept_again (Some m) = (is, (any_control_message _, tt))
 
         by : (v : Verdict) → AnswerFits facts Q node taken (request_by plain_way same t c instance row v)
         by new = each (record t { callee = taken_in t.callee c instance })

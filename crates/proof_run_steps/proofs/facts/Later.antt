@@ -9,17 +9,17 @@ use Rattle.gnb_types.specs.declared.keys.TunnelEnd.{TunnelEnd}
 use Rattle.gnb_types.specs.declared.plans.Plan.{Plan}
 use Rattle.scenario_text.specs.declared.event.Event.{Event}
 use Rattle.unit_defs.specs.Messages.{teid_of}
-use Rattle.unit_defs.specs.Static.{up_has_room, up_has_teids, du_has_teids}
+use Rattle.unit_defs.specs.Static.{cu_up_has_room, cu_up_has_teids, du_has_teids}
 use Rattle.transport_defs.specs.declared.Item.{Item}
-use Rattle.transport_defs.specs.Links.{most_letters, letter, landed}
-use Rattle.run_defs.specs.Units.{Units, up_of, du_of}
-use Rattle.run_defs.specs.States.{State, World, letter_for, octets_from, goes, stops, told_before, ◌next◌, Ending, Within, Outcome, as_step, entity, sn_of, was_attached}
-use Rattle.run_defs.specs.Steps.{check_spans, put_on_tunnel, put_out_all, count_letters, carried_out}
+use Rattle.transport_defs.specs.Links.{most_control_messages, control_message, landed}
+use Rattle.run_defs.specs.Units.{Units, cu_up_of, du_of}
+use Rattle.run_defs.specs.States.{State, World, control_message_for, octets_from, goes, stops, told_before, ◌next◌, Ending, Within, Outcome, as_step, entity, sn_of, was_attached}
+use Rattle.run_defs.specs.Steps.{check_spans, put_on_tunnel, put_out_all, count_control_messages, carried_out}
 use Rattle.run_defs.specs.Conditions.{is_held_by_units, units_placed, all_set_up}
 use Rattle.run_defs.specs.Events.{landed_as, offered}
 use Rattle.run_defs.specs.Runs.{happens}
-use Rattle.proof_run_steps.specs.steps.Causes.{Cause, by_order, by_tick, by_octets, by_octets_on, by_attach, by_release, by_offer, by_item, by_air, by_ack, by_letter, node_of, given_of, count_of, first_of}
-use Rattle.proof_run_steps.specs.steps.Made.{Made, stays, ends, then_made, sets_up, starts, acts, holds_item, holds_pdu, offers, core_takes, core_reads, lands, loses_letter, loses_item, remarks}
+use Rattle.proof_run_steps.specs.steps.Causes.{Cause, by_order, by_tick, by_octets, by_octets_on, by_attach, by_release, by_offer, by_item, by_air, by_ack, by_control_message, node_of, given_of, count_of, first_of}
+use Rattle.proof_run_steps.specs.steps.IsOutcome.{IsOutcome, stays, ends, then_made, sets_up, starts, acts, holds_item, holds_pdu, offers, core_takes, core_reads, lands, loses_control_message, loses_item, remarks}
 use Rattle.proof_run_steps.specs.steps.Reached.{reached_by, reached}
 use Rattle.proof_run_steps.proofs.steps.Frames.{HasUnits, units_by, act_units, Relates, made_relates, reached_relates}
 use Rattle.proof_run_steps.proofs.steps.Runs.{made_of_steps}
@@ -45,11 +45,11 @@ module _ {M C L P : Type 0} (world : World M C L P) (facts : Facts M C L P) (lat
   joined : (u v w : Units M C) → Back u v → Back v w → Back u w
   joined u v w p q l = p (q l)
 
-  placing : (u : Units M C) (plan : Plan) → is_held_by_units plan u ≡ false → up_has_room (up_of u plan.gnb plan.up) plan ≡ true
-      → up_has_teids (up_of u plan.gnb plan.up) plan && du_has_teids (du_of u plan.gnb plan.du) plan ≡ true → Back u (all_set_up (units_placed plan u))
+  placing : (u : Units M C) (plan : Plan) → is_held_by_units plan u ≡ false → cu_up_has_room (cu_up_of u plan.gnb plan.up) plan ≡ true
+      → cu_up_has_teids (cu_up_of u plan.gnb plan.up) plan && du_has_teids (du_of u plan.gnb plan.du) plan ≡ true → Back u (all_set_up (units_placed plan u))
   placing u plan free room teids = kept.before_placing u plan (free, room, teids)
 
-  made_back : (event : Event) (s : State M C L P) (e : Outcome M C L P) → Made world event s e → Relates world Back same joined kept.before_answer kept.before_coming placing s.units e
+  made_back : (event : Event) (s : State M C L P) (e : Outcome M C L P) → IsOutcome world event s e → Relates world Back same joined kept.before_answer kept.before_coming placing s.units e
   made_back event s e p = made_relates world Back same joined kept.before_answer kept.before_coming placing event s e p
 
   before_terminal : (cause : Cause M L P) (u : Units M C) → later (units_by world cause u) → later u
@@ -63,7 +63,7 @@ module _ {M C L P : Type 0} (world : World M C L P) (facts : Facts M C L P) (lat
   before_terminal (by_item end item rest) u l = l
   before_terminal (by_air key home item) u l = l
   before_terminal (by_ack key home item rest) u l = l
-  before_terminal (by_letter number m to) u l = l
+  before_terminal (by_control_message number m to) u l = l
 
   -- a step, with these units afterwards
   step_later : (actor : Option NodeId) (v : Units M C) (w : Within M C L P) → HasUnits world v w → (later v → HoldsWith world facts 0 w)
@@ -84,8 +84,8 @@ module _ {M C L P : Type 0} (world : World M C L P) (facts : Facts M C L P) (lat
       by (stops further why) b r l = tt
   then_later (stops told why) more p back q l = tt
 
-  pub made_later : (event : Event) (s : State M C L P) (e : Outcome M C L P) → Made world event s e → Hold facts s → LaterAt e → HoldsWith world facts 0 e
-  unfolding landed letter
+  pub made_later : (event : Event) (s : State M C L P) (e : Outcome M C L P) → IsOutcome world event s e → Hold facts s → LaterAt e → HoldsWith world facts 0 e
+  unfolding landed control_message
   made_later event s e (stays t) h l = h
   made_later event s e (ends t why) h l = tt
   made_later event s e (then_made t d more p q) h l =
@@ -112,42 +112,42 @@ module _ {M C L P : Type 0} (world : World M C L P) (facts : Facts M C L P) (lat
       (same_links world facts 0 t (offered world (entity ue bearer Dl) t) h refl refl refl refl refl))
       (λ x k. keep_checked world facts 0 x k))
   made_later event s e (core_takes t number m outputs core found at is few) h l =
-      let answered = kept.core_answers (sn_of t) t.core core (letter_for m.from m.message) outputs h.core (
+      let answered = kept.core_answers (sn_of t) t.core core (control_message_for m.from m.message) outputs h.core (
         m.ue,
-        subst (λ (n : NodeId). facts.letter (record { from = m.from; to = n; ue = m.ue; message = m.message })) at
-            (found_has nat_cmp facts.letter t.bag.letters number m h.letters found),
+        subst (λ (n : NodeId). facts.control_message (record { from = m.from; to = n; ue = m.ue; message = m.message })) at
+            (found_has nat_cmp facts.control_message t.bag.control_messages number m h.control_messages found),
       ) is in
-      let ready : HoldWith facts (count_letters world outputs) (record t { core = core }) =
-      core_ready world facts t core (count_letters world outputs) h answered.0 (λ c. few_after (length t.bag.letters) (count_letters world outputs) few) in
+      let ready : HoldWith facts (count_control_messages world outputs) (record t { core = core }) =
+      core_ready world facts t core (count_control_messages world outputs) h answered.0 (λ c. few_after (length t.bag.control_messages) (count_control_messages world outputs) few) in
       core_holds world facts t core outputs (landed_as world number m (record t { core = core })) (record {
         units = ready.units;
         core = ready.core;
-        letters = ready.letters;
+        control_messages = ready.control_messages;
         tunnels = ready.tunnels;
         radios = ready.radios;
         few = ready.few;
       }) answered.1
   made_later event s e (core_reads t from octets outputs core is) h l =
-      let n : ℕ = count_letters world outputs in
+      let n : ℕ = count_control_messages world outputs in
       let answered = kept.core_answers (sn_of t) t.core core (octets_from from octets) outputs h.core tt is in
       step_holds world facts (Some Core) (put_out_all world Core None outputs (record t { core = core }) next check_spans)
       (then_holds world facts 0 0 (put_out_all world Core None outputs (record t { core = core })) check_spans
       (keep_put_all world facts Core None outputs answered.1 (record t { core = core })
       (core_ready world facts t core n h answered.0
-      (λ c. subst (λ (k : ℕ). length t.bag.letters + k ≤ most_letters) (sym (kept.silent c (sn_of t) t.core core from octets outputs is)) (h.few c))))
+      (λ c. subst (λ (k : ℕ). length t.bag.control_messages + k ≤ most_control_messages) (sym (kept.silent c (sn_of t) t.core core from octets outputs is)) (h.few c))))
       (λ x k. keep_checked world facts 0 x k))
   made_later event s e (lands t number m to found at) h l = record {
     units = h.units;
     core = h.core;
-    letters = h.letters;
+    control_messages = h.control_messages;
     tunnels = h.tunnels;
     radios = h.radios;
     few = h.few;
   }
-  made_later event s e (loses_letter t number) h l = record {
+  made_later event s e (loses_control_message t number) h l = record {
     units = h.units;
     core = h.core;
-    letters = h.letters;
+    control_messages = h.control_messages;
     tunnels = h.tunnels;
     radios = h.radios;
     few = h.few;

@@ -10,17 +10,17 @@ use Rattle.scenario_text.specs.declared.event.Event.{Event}
 use Rattle.tables.specs.Tables.{find, at}
 use Rattle.unit_defs.specs.Ways.{Message, Pdu, Load, Put, control, packet, radio, deliver, dropped, held, opened, closed, failed, no, Input, gives, spent}
 use Rattle.unit_defs.specs.Ue.{UeNode, new_ue, ue_acts}
-use Rattle.unit_defs.specs.UpRecords.{CuUp}
+use Rattle.unit_defs.specs.CuUpRecords.{CuUp}
 use Rattle.unit_defs.specs.CuUp.{cu_up_acts}
 use Rattle.unit_defs.specs.Du.{Du, du_acts}
-use Rattle.unit_defs.specs.CpRecords.{CuCpRecord}
+use Rattle.unit_defs.specs.CuCpRecords.{CuCpRecord}
 use Rattle.unit_defs.specs.CuCp.{cu_cp_acts}
 use Rattle.unit_defs.specs.Core.{CoreRecord, core_acts}
 use Rattle.transport_defs.specs.declared.Item.{Item}
-use Rattle.run_defs.specs.Units.{Units, cp_of, with_cp, up_of, with_up, du_of, with_du, ue_of, with_ue}
+use Rattle.run_defs.specs.Units.{Units, cu_cp_of, with_cu_cp, cu_up_of, with_cu_up, du_of, with_du, ue_of, with_ue}
 use Rattle.run_defs.specs.Written.{Written, written_put, PlainStepped, WrittenStepped, WrittenCoreStepped, written_step}
-use Rattle.run_defs.specs.States.{State, new_state, Lengths, letter_for, item_for, carried_for, confirmed_for, offer_for, tick_for, order_for, octets_from, octets_on, stepped, step_spent, core_stepped}
-use Rattle.run_defs.specs.Steps.{count_letters}
+use Rattle.run_defs.specs.States.{State, new_state, Lengths, control_message_for, item_for, carried_for, confirmed_for, offer_for, tick_for, order_for, octets_from, octets_on, stepped, step_spent, core_stepped}
+use Rattle.run_defs.specs.Steps.{count_control_messages}
 use Rattle.run_defs.specs.Runs.{Reading, PlainGiven, Plain, plain_way, input_of, stepped_with, ue_stepped, acts_on, plain_by, core_done, plain_core, plain_world}
 use Rattle.proof_run_steps.specs.steps.Reached.{reached}
 use Rattle.proof_run_steps.specs.facts.Facts.{Hold, PutFits, PutsFit, GivenFits, AreKept}
@@ -63,12 +63,12 @@ module _ (facts : UnitFacts) (keep : UnitsKeep facts) (reading : Reading) where
   AnsweredWell node taken (step_spent counter) = Unit {0}
 
   by_cp : (u : PlainUnits) (gnb : Gnb) (taken : Option ℕ) (a : Plain (CuCpRecord (Message Token) Token)) → OfUnits facts u
-      → AnswerFits facts (facts.cp gnb) (CuCp gnb) taken a → Answered (CuCp gnb) taken (stepped_with reading (with_cp u gnb) a)
+      → AnswerFits facts (facts.cp gnb) (CuCp gnb) taken a → Answered (CuCp gnb) taken (stepped_with reading (with_cu_cp u gnb) a)
   by_cp u gnb taken (gives outputs r) p h = (with_cp_holds facts u gnb r p h.0, h.1)
   by_cp u gnb taken (spent counter) p h = tt
 
   by_up : (u : PlainUnits) (gnb : Gnb) (number : ℕ) (taken : Option ℕ) (a : Plain (CuUp (Message Token) Token)) → OfUnits facts u
-      → AnswerFits facts (facts.up gnb number) (up_id gnb number) taken a → Answered (up_id gnb number) taken (stepped_with reading (with_up u gnb number) a)
+      → AnswerFits facts (facts.up gnb number) (up_id gnb number) taken a → Answered (up_id gnb number) taken (stepped_with reading (with_cu_up u gnb number) a)
   by_up u gnb number taken (gives outputs r) p h = (with_up_holds facts u gnb number r p h.0, h.1)
   by_up u gnb number taken (spent counter) p h = tt
 
@@ -85,9 +85,9 @@ module _ (facts : UnitFacts) (keep : UnitsKeep facts) (reading : Reading) where
   acted : (u : PlainUnits) (node : NodeId) (taken : Option ℕ) (input : Input Token Pdu) → OfUnits facts u → InputFits facts node taken input
       → Answered node taken (acts_on reading u node input)
   acted u (CuCp gnb) taken input p fits =
-      by_cp u gnb taken (cu_cp_acts plain_way (cp_of u gnb) input) p (keep.cps_act gnb (cp_of u gnb) taken input (p.2 gnb) fits)
+      by_cp u gnb taken (cu_cp_acts plain_way (cu_cp_of u gnb) input) p (keep.cps_act gnb (cu_cp_of u gnb) taken input (p.2 gnb) fits)
   acted u (up_id gnb number) taken input p fits =
-      by_up u gnb number taken (cu_up_acts plain_way (up_of u gnb number) input) p (keep.ups_act gnb number (up_of u gnb number) taken input (p.0 gnb number) fits)
+      by_up u gnb number taken (cu_up_acts plain_way (cu_up_of u gnb number) input) p (keep.ups_act gnb number (cu_up_of u gnb number) taken input (p.0 gnb number) fits)
   acted u (du_id gnb number) taken input p fits =
       by_du u gnb number taken (du_acts plain_way (du_of u gnb number) input) p (keep.dus_act gnb number (du_of u gnb number) taken input (p.1 gnb number) fits)
   acted u (Ue ue) taken input p fits = there (ue_of u (record { 0 = ue })) refl
@@ -108,7 +108,7 @@ module _ (facts : UnitFacts) (keep : UnitsKeep facts) (reading : Reading) where
 
   given_fits : (node : NodeId) (taken : Option ℕ) (given : PlainGiven) → GivenFits (written_facts facts) node taken given
       → Fits node taken (input_of reading given)
-  given_fits node taken (letter_for from message) p = p
+  given_fits node taken (control_message_for from message) p = p
   given_fits node taken (item_for teid item) p =
       (item.content.says, refl, (item.key, beside (facts.on_tunnel (record { node = node; teid = teid })) item.key item.content.says taken item.count p.0 p.1.0))
   given_fits node taken (carried_for item) p =
@@ -142,7 +142,7 @@ module _ (facts : UnitFacts) (keep : UnitsKeep facts) (reading : Reading) where
 
   core_answered : (lengths : Lengths) (r : CoreRecord (Message Token) Token) (given : PlainGiven) → facts.core r → GivenFits (written_facts facts) Core None given
       → CoreAnswered (plain_core reading lengths r given)
-  core_answered lengths r (letter_for from message) p fits = by_core lengths r (core_acts plain_way r from message) p (keep.core_acts r from message p fits)
+  core_answered lengths r (control_message_for from message) p fits = by_core lengths r (core_acts plain_way r from message) p (keep.core_acts r from message p fits)
   core_answered lengths r (item_for teid item) p fits = (p, (tt, tt))
   core_answered lengths r (carried_for item) p fits = (p, (tt, tt))
   core_answered lengths r (confirmed_for item) p fits = (p, (tt, tt))
@@ -153,7 +153,7 @@ module _ (facts : UnitFacts) (keep : UnitsKeep facts) (reading : Reading) where
   core_answered lengths r (octets_on teid octets) p fits = (p, (tt, tt))
 
   abbrev Silent : WrittenCoreStepped → Type 0
-  Silent (core_stepped outputs r) = count_letters (plain_world reading) outputs ≡ 0
+  Silent (core_stepped outputs r) = count_control_messages (plain_world reading) outputs ≡ 0
 
   pub plain_kept : AreKept (plain_world reading) (written_facts facts)
   plain_kept = record {
@@ -179,7 +179,7 @@ module _ (facts : UnitFacts) (keep : UnitsKeep facts) where
   first_holds = record {
     units = first_units facts keep;
     core = keep.first_core;
-    letters = tt;
+    control_messages = tt;
     tunnels = λ end items found. absurd cc;
     radios = λ key. tt;
     few = λ counted. omega arith;

@@ -11,18 +11,18 @@ use Rattle.scenario_text.specs.declared.event.Event.{Event}
 use Rattle.unit_defs.specs.Ways.{Put}
 use Rattle.unit_defs.specs.Messages.{teid_of}
 use Rattle.unit_defs.specs.Core.{CoreRecord}
-use Rattle.unit_defs.specs.Static.{up_has_room, up_has_teids, du_has_teids}
+use Rattle.unit_defs.specs.Static.{cu_up_has_room, cu_up_has_teids, du_has_teids}
 use Rattle.transport_defs.specs.declared.Item.{Item}
-use Rattle.transport_defs.specs.Links.{most_letters, letter, landed}
-use Rattle.run_defs.specs.Units.{up_of, du_of}
-use Rattle.run_defs.specs.States.{State, World, letter_for, octets_from, goes, stops, told_before, ◌next◌, Within, Outcome, as_step, entity, sn_of, was_attached}
+use Rattle.transport_defs.specs.Links.{most_control_messages, control_message, landed}
+use Rattle.run_defs.specs.Units.{cu_up_of, du_of}
+use Rattle.run_defs.specs.States.{State, World, control_message_for, octets_from, goes, stops, told_before, ◌next◌, Within, Outcome, as_step, entity, sn_of, was_attached}
 use Rattle.gnb_types.specs.declared.keys.TunnelEnd.{TunnelEnd}
-use Rattle.run_defs.specs.Steps.{check_spans, put_on_tunnel, put_out_all, count_letters, with_tunnel}
+use Rattle.run_defs.specs.Steps.{check_spans, put_on_tunnel, put_out_all, count_control_messages, with_tunnel}
 use Rattle.run_defs.specs.Conditions.{is_held_by_units, tunnels_from, n3_from, statically}
 use Rattle.run_defs.specs.Events.{landed_as, offered}
 use Rattle.run_defs.specs.Runs.{happens}
 use Rattle.proof_run_steps.specs.steps.Causes.{node_of}
-use Rattle.proof_run_steps.specs.steps.Made.{Made, stays, ends, then_made, sets_up, starts, acts, holds_item, holds_pdu, offers, core_takes, core_reads, lands, loses_letter, loses_item, remarks}
+use Rattle.proof_run_steps.specs.steps.IsOutcome.{IsOutcome, stays, ends, then_made, sets_up, starts, acts, holds_item, holds_pdu, offers, core_takes, core_reads, lands, loses_control_message, loses_item, remarks}
 use Rattle.proof_run_steps.specs.steps.Reached.{reached_by, reached}
 use Rattle.proof_run_steps.proofs.steps.Runs.{made_of_steps}
 use Rattle.proof_run_steps.specs.facts.Facts.{Facts, HoldWith, Hold, PutsFit, AreKept}
@@ -56,47 +56,47 @@ module _ {M C L P : Type 0} (world : World M C L P) (facts : Facts M C L P) wher
   pub statically_holds : (plan : Plan) (s : State M C L P) → Hold facts s → facts.units (statically plan s).units → facts.core (statically plan s).core
       → Hold facts (statically plan s)
   statically_holds plan s h units core =
-      let up : ℕ = (up_of s.units plan.gnb plan.up).next_teid in
+      let up : ℕ = (cu_up_of s.units plan.gnb plan.up).next_teid in
       let du : ℕ = (du_of s.units plan.gnb plan.du).next_teid in
       let ups = tunnels_open (CuUp plan.gnb plan.up) up (2 * plan.bearers) s h in
       let all = tunnels_open (Du plan.gnb plan.du) du plan.bearers
       (record s { tunnels = tunnels_from (CuUp plan.gnb plan.up) up (2 * plan.bearers) s.tunnels }) ups in
-      record { units = units; core = core; letters = h.letters; tunnels = all.tunnels; radios = h.radios; few = h.few }
+      record { units = units; core = core; control_messages = h.control_messages; tunnels = all.tunnels; radios = h.radios; few = h.few }
 
   -- ---- the core
 
   pub core_holds : (s : State M C L P) (core : CoreRecord M C) (outputs : List (Put M L P)) (e : Within M C L P)
-      → HoldsWith world facts (count_letters world outputs) e → PutsFit facts Core None outputs
+      → HoldsWith world facts (count_control_messages world outputs) e → PutsFit facts Core None outputs
       → HoldsWith world facts 0 (as_step (Some Core) (e next put_out_all world Core None outputs next check_spans))
   core_holds s core outputs e h fits =
       step_holds (Some Core) (e next put_out_all world Core None outputs next check_spans)
       (then_holds world facts 0 0 (e next put_out_all world Core None outputs) check_spans
-      (then_holds world facts (count_letters world outputs) 0 e (put_out_all world Core None outputs) h (λ t k. keep_put_all world facts Core None outputs fits t k))
+      (then_holds world facts (count_control_messages world outputs) 0 e (put_out_all world Core None outputs) h (λ t k. keep_put_all world facts Core None outputs fits t k))
       (λ t k. keep_checked world facts 0 t k))
 
-  pub core_ready : (s : State M C L P) (core : CoreRecord M C) (n : ℕ) → Hold facts s → facts.core core → (facts.counted → length s.bag.letters + n ≤ most_letters)
+  pub core_ready : (s : State M C L P) (core : CoreRecord M C) (n : ℕ) → Hold facts s → facts.core core → (facts.counted → length s.bag.control_messages + n ≤ most_control_messages)
       → HoldWith facts n (record s { core = core })
   core_ready s core n h is few = record {
     units = h.units;
     core = is;
-    letters = h.letters;
+    control_messages = h.control_messages;
     tunnels = h.tunnels;
     radios = h.radios;
     few = few;
   }
 
 module _ {M C L P : Type 0} (world : World M C L P) (facts : Facts M C L P) (kept : AreKept world facts) where
-  placed_holds : (plan : Plan) (s : State M C L P) → is_held_by_units plan s.units ≡ false → up_has_room (up_of s.units plan.gnb plan.up) plan ≡ true
-      → up_has_teids (up_of s.units plan.gnb plan.up) plan && du_has_teids (du_of s.units plan.gnb plan.du) plan ≡ true
+  placed_holds : (plan : Plan) (s : State M C L P) → is_held_by_units plan s.units ≡ false → cu_up_has_room (cu_up_of s.units plan.gnb plan.up) plan ≡ true
+      → cu_up_has_teids (cu_up_of s.units plan.gnb plan.up) plan && du_has_teids (du_of s.units plan.gnb plan.du) plan ≡ true
       → Hold facts s → Hold facts (statically plan s)
   placed_holds plan s free room teids h =
       statically_holds world facts plan s h (kept.placed s.units plan free room teids h.units)
-      (kept.core_placed s.core plan (n3_from 1 (up_of s.units plan.gnb plan.up).next_teid plan.bearers) h.core)
+      (kept.core_placed s.core plan (n3_from 1 (cu_up_of s.units plan.gnb plan.up).next_teid plan.bearers) h.core)
 
   -- ---- an event
 
-  pub made_holds : (event : Event) (s : State M C L P) (e : Outcome M C L P) → Made world event s e → Hold facts s → HoldsWith world facts 0 e
-  unfolding landed letter
+  pub made_holds : (event : Event) (s : State M C L P) (e : Outcome M C L P) → IsOutcome world event s e → Hold facts s → HoldsWith world facts 0 e
+  unfolding landed control_message
   made_holds event s e (stays t) h = h
   made_holds event s e (ends t why) h = tt
   made_holds event s e (then_made t d more p q) h =
@@ -117,42 +117,42 @@ module _ {M C L P : Type 0} (world : World M C L P) (facts : Facts M C L P) (kep
       (same_links world facts 0 t (offered world (entity ue bearer Dl) t) h refl refl refl refl refl))
       (λ x k. keep_checked world facts 0 x k))
   made_holds event s e (core_takes t number l outputs core found at is few) h =
-      let answered = kept.core_answers (sn_of t) t.core core (letter_for l.from l.message) outputs h.core (
+      let answered = kept.core_answers (sn_of t) t.core core (control_message_for l.from l.message) outputs h.core (
         l.ue,
-        subst (λ (n : NodeId). facts.letter (record { from = l.from; to = n; ue = l.ue; message = l.message })) at
-            (found_has nat_cmp facts.letter t.bag.letters number l h.letters found),
+        subst (λ (n : NodeId). facts.control_message (record { from = l.from; to = n; ue = l.ue; message = l.message })) at
+            (found_has nat_cmp facts.control_message t.bag.control_messages number l h.control_messages found),
       ) is in
-      let ready : HoldWith facts (count_letters world outputs) (record t { core = core }) =
-      core_ready world facts t core (count_letters world outputs) h answered.0 (λ c. few_after (length t.bag.letters) (count_letters world outputs) few) in
+      let ready : HoldWith facts (count_control_messages world outputs) (record t { core = core }) =
+      core_ready world facts t core (count_control_messages world outputs) h answered.0 (λ c. few_after (length t.bag.control_messages) (count_control_messages world outputs) few) in
       core_holds world facts t core outputs (landed_as world number l (record t { core = core })) (record {
         units = ready.units;
         core = ready.core;
-        letters = ready.letters;
+        control_messages = ready.control_messages;
         tunnels = ready.tunnels;
         radios = ready.radios;
         few = ready.few;
       }) answered.1
   made_holds event s e (core_reads t from octets outputs core is) h =
-      let n : ℕ = count_letters world outputs in
+      let n : ℕ = count_control_messages world outputs in
       let answered = kept.core_answers (sn_of t) t.core core (octets_from from octets) outputs h.core tt is in
       step_holds world facts (Some Core) (put_out_all world Core None outputs (record t { core = core }) next check_spans)
       (then_holds world facts 0 0 (put_out_all world Core None outputs (record t { core = core })) check_spans
       (keep_put_all world facts Core None outputs answered.1 (record t { core = core })
       (core_ready world facts t core n h answered.0
-      (λ c. subst (λ (k : ℕ). length t.bag.letters + k ≤ most_letters) (sym (kept.silent c (sn_of t) t.core core from octets outputs is)) (h.few c))))
+      (λ c. subst (λ (k : ℕ). length t.bag.control_messages + k ≤ most_control_messages) (sym (kept.silent c (sn_of t) t.core core from octets outputs is)) (h.few c))))
       (λ x k. keep_checked world facts 0 x k))
   made_holds event s e (lands t number l to found at) h = record {
     units = h.units;
     core = h.core;
-    letters = h.letters;
+    control_messages = h.control_messages;
     tunnels = h.tunnels;
     radios = h.radios;
     few = h.few;
   }
-  made_holds event s e (loses_letter t number) h = record {
+  made_holds event s e (loses_control_message t number) h = record {
     units = h.units;
     core = h.core;
-    letters = h.letters;
+    control_messages = h.control_messages;
     tunnels = h.tunnels;
     radios = h.radios;
     few = h.few;

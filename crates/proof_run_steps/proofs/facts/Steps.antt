@@ -12,19 +12,19 @@ use Rattle.tables.specs.Tables.{find}
 use Rattle.scenario_text.specs.declared.event.Event.{Event}
 use Rattle.unit_defs.specs.Ways.{Put}
 use Rattle.transport_defs.specs.declared.Item.{Item}
-use Rattle.transport_defs.specs.Links.{most_letters, letter, landed, nth}
+use Rattle.transport_defs.specs.Links.{most_control_messages, control_message, landed, nth}
 use Rattle.gnb_types.specs.declared.plans.Plan.{Plan}
 use Rattle.unit_defs.specs.Ue.{new_ue}
 use Rattle.run_defs.specs.Units.{Units, with_ue}
 use Rattle.run_defs.specs.States.{State, World, ◌next◌, goes_on, stepped, radio_of, sn_of}
-use Rattle.run_defs.specs.Steps.{connect_in, lose_radios, check_spans, reconnect_node, put_out_all, count_letters, too_many_letters, carried_out}
+use Rattle.run_defs.specs.Steps.{connect_in, lose_radios, check_spans, reconnect_node, put_out_all, count_control_messages, too_many_control_messages, carried_out}
 use Rattle.run_defs.specs.Events.{leaves}
-use Rattle.proof_run_steps.specs.steps.Causes.{Cause, by_order, by_tick, by_octets, by_octets_on, by_attach, by_release, by_offer, by_item, by_air, by_ack, by_letter, node_of, given_of, count_of, first_of, Stands}
+use Rattle.proof_run_steps.specs.steps.Causes.{Cause, by_order, by_tick, by_octets, by_octets_on, by_attach, by_release, by_offer, by_item, by_air, by_ack, by_control_message, node_of, given_of, count_of, first_of, Stands}
 use Rattle.proof_run_steps.specs.facts.Facts.{Facts, HoldWith, Hold, PutsFit, GivenFits, AreKept}
 use Rattle.proof_run_steps.proofs.facts.Within.{HoldsWith, then_holds, keep_checked, with_tunnels, with_radios, keep_lose, same_links, keep_reconnect_node, keep_put_all}
 
 -- so many messages may still be put
-pub few_after : (a b : ℕ) → nat_lt most_letters (a + b) ≡ false → a + b ≤ most_letters
+pub few_after : (a b : ℕ) → nat_lt most_control_messages (a + b) ≡ false → a + b ≤ most_control_messages
 few_after a b h = grind arith
 
 pub nth_has : {X : Type 0} (Q : X → Type 0) (xs : List X) (n : ℕ) (x : X) → AllByRecursion Q xs → nth xs n ≡ Some x → Q x
@@ -47,11 +47,11 @@ found_has R Q (e ∷ es) k x all is = by (found_has R Q es k x all.1) (is_at (R 
     by later false h = later h
 
 module _ {M C L P : Type 0} (world : World M C L P) (facts : Facts M C L P) where
-  with_more : (n m : ℕ) (s : State M C L P) → HoldWith facts n s → (facts.counted → length s.bag.letters + m ≤ most_letters) → HoldWith facts m s
+  with_more : (n m : ℕ) (s : State M C L P) → HoldWith facts n s → (facts.counted → length s.bag.control_messages + m ≤ most_control_messages) → HoldWith facts m s
   with_more n m s h few = record {
     units = h.units;
     core = h.core;
-    letters = h.letters;
+    control_messages = h.control_messages;
     tunnels = h.tunnels;
     radios = h.radios;
     few = few;
@@ -61,7 +61,7 @@ module _ {M C L P : Type 0} (world : World M C L P) (facts : Facts M C L P) wher
   with_units n s u h is = record {
     units = is;
     core = h.core;
-    letters = h.letters;
+    control_messages = h.control_messages;
     tunnels = h.tunnels;
     radios = h.radios;
     few = h.few;
@@ -70,7 +70,7 @@ module _ {M C L P : Type 0} (world : World M C L P) (facts : Facts M C L P) wher
   -- what a step takes has its facts
   pub taken_has : (event : Event) (cause : Cause M L P) (s : State M C L P) → Hold facts s → Stands event s cause
       → GivenFits facts (node_of cause) (count_of cause) (given_of cause)
-  unfolding letter
+  unfolding control_message
   taken_has event (by_order node order) s h at = tt
   taken_has event (by_tick node) s h at = tt
   taken_has event (by_octets from to octets) s h at = tt
@@ -83,10 +83,10 @@ module _ {M C L P : Type 0} (world : World M C L P) (facts : Facts M C L P) wher
       (refl, (key, nth_has (facts.on_radio key) (radio_of s key).items (radio_of s key).carried item (h.radios key) at.1))
   taken_has event (by_ack key home item rest) s h at =
       (refl, (key, (subst (λ (xs : List (Item P)). AllByRecursion (facts.on_radio key) xs) at.1 (h.radios key)).0))
-  taken_has event (by_letter number l to) s h at = (
+  taken_has event (by_control_message number l to) s h at = (
     l.ue,
-    subst (λ (n : NodeId). facts.letter (record { from = l.from; to = n; ue = l.ue; message = l.message })) at.1
-        (found_has nat_cmp facts.letter s.bag.letters number l h.letters at.0),
+    subst (λ (n : NodeId). facts.control_message (record { from = l.from; to = n; ue = l.ue; message = l.message })) at.1
+        (found_has nat_cmp facts.control_message s.bag.control_messages number l h.control_messages at.0),
   )
 
   keep_leaves : (ue : UeId) (n : ℕ) (s : State M C L P) → HoldWith facts n s → HoldsWith world facts n (leaves world ue s)
@@ -108,7 +108,7 @@ module _ {M C L P : Type 0} (world : World M C L P) (facts : Facts M C L P) wher
   first_keeps event (by_attach plan) s u came n h at k = record {
     units = came plan refl;
     core = k.core;
-    letters = k.letters;
+    control_messages = k.control_messages;
     tunnels = k.tunnels;
     radios = k.radios;
     few = k.few;
@@ -117,7 +117,7 @@ module _ {M C L P : Type 0} (world : World M C L P) (facts : Facts M C L P) wher
   first_keeps event (by_offer ue bearer p) s u came n h at k = record {
     units = k.units;
     core = k.core;
-    letters = k.letters;
+    control_messages = k.control_messages;
     tunnels = k.tunnels;
     radios = k.radios;
     few = k.few;
@@ -129,10 +129,10 @@ module _ {M C L P : Type 0} (world : World M C L P) (facts : Facts M C L P) wher
   first_keeps event (by_ack key home item rest) s u came n h at k =
       with_radios world facts n (record s { units = u }) key (record { items = rest; carried = (radio_of s key).carried - 1 }) k
       (subst (λ (xs : List (Item P)). AllByRecursion (facts.on_radio key) xs) at.1 (h.radios key)).1
-  first_keeps event (by_letter number l to) s u came n h at k = record {
+  first_keeps event (by_control_message number l to) s u came n h at k = record {
     units = k.units;
     core = k.core;
-    letters = k.letters;
+    control_messages = k.control_messages;
     tunnels = k.tunnels;
     radios = k.radios;
     few = k.few;
@@ -140,14 +140,14 @@ module _ {M C L P : Type 0} (world : World M C L P) (facts : Facts M C L P) wher
 
   -- the step of a unit that answered so
   pub act_holds : (event : Event) (cause : Cause M L P) (outputs : List (Put M L P)) (u : Units M C) (s : State M C L P) → Came cause u → Hold facts s
-      → Stands event s cause → facts.units u × PutsFit facts (node_of cause) (count_of cause) outputs → too_many_letters world outputs s ≡ false
+      → Stands event s cause → facts.units u × PutsFit facts (node_of cause) (count_of cause) outputs → too_many_control_messages world outputs s ≡ false
       → HoldsWith world facts 0 (carried_out world (node_of cause) (count_of cause) (first_of world cause) outputs u s)
   act_holds event cause outputs u s came h at answered few =
-      let n : ℕ = count_letters world outputs in
+      let n : ℕ = count_control_messages world outputs in
       let node : NodeId = node_of cause in
       let t : State M C L P = record s { units = u } in
       let room : HoldWith facts n t =
-      with_more n n t (with_units n s u (with_more 0 n s h (λ c. few_after (length s.bag.letters) n few)) answered.0) (λ c. few_after (length s.bag.letters) n few) in
+      with_more n n t (with_units n s u (with_more 0 n s h (λ c. few_after (length s.bag.control_messages) n few)) answered.0) (λ c. few_after (length s.bag.control_messages) n few) in
       then_holds world facts 0 0 (first_of world cause t next reconnect_node world node next put_out_all world node (count_of cause) outputs) check_spans
       (then_holds world facts n 0 (first_of world cause t next reconnect_node world node) (put_out_all world node (count_of cause) outputs)
       (then_holds world facts n n (first_of world cause t) (reconnect_node world node) (first_keeps event cause s u came n h at room)
@@ -162,7 +162,7 @@ module _ {M C L P : Type 0} (world : World M C L P) (facts : Facts M C L P) (kep
 
   pub act_keeps : (event : Event) (cause : Cause M L P) (outputs : List (Put M L P)) (u : Units M C) (s : State M C L P) → Hold facts s
       → Stands event s cause → world.answer (sn_of s) s.units (node_of cause) (given_of cause) ≡ stepped outputs u
-      → too_many_letters world outputs s ≡ false
+      → too_many_control_messages world outputs s ≡ false
       → HoldsWith world facts 0 (carried_out world (node_of cause) (count_of cause) (first_of world cause) outputs u s)
   act_keeps event cause outputs u s h at is few =
       let answered = kept.answers (sn_of s) s.units u (node_of cause) (count_of cause) (given_of cause) outputs h.units (taken_has world facts event cause s h at) is in

@@ -14,9 +14,9 @@ use Rattle.scenario_text.specs.declared.event.Event.{Event}
 use Rattle.unit_defs.specs.Ways.{Put, control, packet, radio, deliver, dropped, held, opened, closed, failed, no}
 use Rattle.unit_defs.specs.Messages.{teid_of}
 use Rattle.transport_defs.specs.declared.Item.{Item}
-use Rattle.transport_defs.specs.Links.{is_epoch, emptied, letter}
+use Rattle.transport_defs.specs.Links.{is_epoch, emptied, control_message}
 use Rattle.run_defs.specs.Lines.{RunLine, put_item, lost_items, is_quiet, is_busy, has_settled, has_not_settled, was_refused, tunnel_link, radio_link, shown}
-use Rattle.run_defs.specs.States.{State, World, Stop, goes, stops, told_before, ◌next◌, goes_on, Within, Outcome, as_step, entity, radio_of, with_radio, sn_of, stepped, letter_for, octets_from}
+use Rattle.run_defs.specs.States.{State, World, Stop, goes, stops, told_before, ◌next◌, goes_on, Within, Outcome, as_step, entity, radio_of, with_radio, sn_of, stepped, control_message_for, octets_from}
 use Rattle.run_defs.specs.Steps.{first_outstanding, entities_of, checked_by, check_spans, noted, count_beside, item_of, on_tunnel, put_on_tunnel, put_on_connected, put_on_radio, put_control, opens, closes, lost_if, radio_lost, lose_each, lose_radios_of, lose_radios, radios_of, same_epoch, epoch_now, connect_in, reconnect, reconnect_node, put_out, put_out_all, carried_out}
 use Rattle.run_defs.specs.Local.{puts_something}
 use Rattle.run_defs.specs.Events.{landed_as, offered}
@@ -26,8 +26,8 @@ use Rattle.std.specs.Ordering.{nat_cmp}
 use Rattle.proof_run_steps.proofs.facts.Within.{all_both, HoldsWith, same_links}
 use Rattle.proof_run_steps.proofs.facts.Steps.{found_has, taken_fits}
 use Rattle.proof_run_steps.proofs.facts.Runs.{made_holds}
-use Rattle.proof_run_steps.specs.steps.Causes.{Cause, by_order, by_tick, by_octets, by_octets_on, by_attach, by_release, by_offer, by_item, by_air, by_ack, by_letter, node_of, given_of, count_of, first_of, Stands}
-use Rattle.proof_run_steps.specs.steps.Made.{IsRemark, Made, stays, ends, then_made, sets_up, starts, acts, holds_item, holds_pdu, offers, core_takes, core_reads, lands, loses_letter, loses_item, remarks}
+use Rattle.proof_run_steps.specs.steps.Causes.{Cause, by_order, by_tick, by_octets, by_octets_on, by_attach, by_release, by_offer, by_item, by_air, by_ack, by_control_message, node_of, given_of, count_of, first_of, Stands}
+use Rattle.proof_run_steps.specs.steps.IsOutcome.{IsRemark, IsOutcome, stays, ends, then_made, sets_up, starts, acts, holds_item, holds_pdu, offers, core_takes, core_reads, lands, loses_control_message, loses_item, remarks}
 use Rattle.proof_run_steps.proofs.steps.Runs.{made_of_steps}
 use Rattle.proof_run_steps.specs.facts.Facts.{Facts, Hold, PutFits, PutsFit, AreKept}
 use Rattle.proof_run_steps.specs.facts.TellFacts.{Tells, StepTells}
@@ -156,7 +156,7 @@ module _ {M C L P : Type 0} (world : World M C L P) (facts : Facts M C L P) wher
     first_says (by_item end item rest) s = (tt, tt)
     first_says (by_air key home item) s = (tt, tt)
     first_says (by_ack key home item rest) s = tt
-    first_says (by_letter number l to) s = (tt, tt)
+    first_says (by_control_message number l to) s = (tt, tt)
 
   -- ---- a step, and an event
 
@@ -206,8 +206,8 @@ module _ {M C L P : Type 0} (world : World M C L P) (facts : Facts M C L P) wher
         (then_says Core (e next put_out_all world Core None outputs) check_spans
         (then_says Core e (put_out_all world Core None outputs) p (puts_say Core None outputs fits)) (checked_says Core))
 
-    pub made_tells : (event : Event) (s : State M C L P) (e : Outcome M C L P) → Made world event s e → Hold facts s → OutcomeTells e
-    unfolding letter
+    pub made_tells : (event : Event) (s : State M C L P) (e : Outcome M C L P) → IsOutcome world event s e → Hold facts s → OutcomeTells e
+    unfolding control_message
     made_tells event s e (stays t) h = tt
     made_tells event s e (ends t why) h = tt
     made_tells event s e (then_made t d more p q) h =
@@ -226,10 +226,10 @@ module _ {M C L P : Type 0} (world : World M C L P) (facts : Facts M C L P) wher
         (then_says Core (put_on_tunnel world end item (offered world (entity ue bearer Dl) t)) check_spans
         (tunnel_says Core end item (kept.lays t.core ue bearer p path h.core found) (offered world (entity ue bearer Dl) t)) (checked_says Core))
     made_tells event s e (core_takes t number l outputs core found at is few) h =
-        let answered = kept.core_answers (sn_of t) t.core core (letter_for l.from l.message) outputs h.core (
+        let answered = kept.core_answers (sn_of t) t.core core (control_message_for l.from l.message) outputs h.core (
           l.ue,
-          subst (λ (n : NodeId). facts.letter (record { from = l.from; to = n; ue = l.ue; message = l.message })) at
-              (found_has nat_cmp facts.letter t.bag.letters number l h.letters found),
+          subst (λ (n : NodeId). facts.control_message (record { from = l.from; to = n; ue = l.ue; message = l.message })) at
+              (found_has nat_cmp facts.control_message t.bag.control_messages number l h.control_messages found),
         ) is in
         core_says outputs (landed_as world number l (record t { core = core })) (tt, tt) answered.1
     made_tells event s e (core_reads t from octets outputs core is) h =
@@ -238,7 +238,7 @@ module _ {M C L P : Type 0} (world : World M C L P) (facts : Facts M C L P) wher
         (then_says Core (put_out_all world Core None outputs (record t { core = core })) check_spans (puts_say Core None outputs answered.1 (record t { core = core }))
         (checked_says Core))
     made_tells event s e (lands t number l to found at) h = ((tt, tt), tt)
-    made_tells event s e (loses_letter t number) h = (refl, tt)
+    made_tells event s e (loses_control_message t number) h = (refl, tt)
     made_tells event s e (loses_item t end item rest found) h = (refl, tt)
     made_tells event s e (remarks t lines plain) h = (remarks_put_none lines plain, tt)
 

@@ -17,11 +17,11 @@ use Rattle.tables.specs.Tables.{find, put, without, at}
 use Rattle.tables.proofs.TableLaws.{find-put, find-without, at-put, at-without}
 use Rattle.unit_defs.specs.Ways.{Put, control, packet, radio, deliver, dropped, held, opened, closed, failed, no}
 use Rattle.transport_defs.specs.declared.Item.{Item}
-use Rattle.transport_defs.specs.declared.Letter.{Letter}
-use Rattle.transport_defs.specs.Links.{Bag, Radio, is_epoch, emptied, most_letters, put_letter}
+use Rattle.transport_defs.specs.declared.ControlMessage.{ControlMessage}
+use Rattle.transport_defs.specs.Links.{Bag, Radio, is_epoch, emptied, most_control_messages, put_control_message}
 use Rattle.run_defs.specs.Lines.{RunLine, put_item, lost_items, tunnel_link, radio_link, shown}
 use Rattle.run_defs.specs.States.{State, World, Stop, goes, stops, told_before, ◌next◌, goes_on, Ending, Within, entity, radio_of, with_radio}
-use Rattle.run_defs.specs.Steps.{first_outstanding, entities_of, checked_by, check_spans, noted, count_beside, item_of, letter_of, with_tunnel, on_tunnel, put_on_tunnel, put_on_connected, put_on_radio, put_control, opens, closes, radio_lost, lose_each, lose_radios_of, lose_radios, radios_of, same_epoch, epoch_now, connect_in, reconnect, reconnect_node, delivered, put_out, put_out_all, count_letters}
+use Rattle.run_defs.specs.Steps.{first_outstanding, entities_of, checked_by, check_spans, noted, count_beside, item_of, control_message_of, with_tunnel, on_tunnel, put_on_tunnel, put_on_connected, put_on_radio, put_control, opens, closes, radio_lost, lose_each, lose_radios_of, lose_radios, radios_of, same_epoch, epoch_now, connect_in, reconnect, reconnect_node, delivered, put_out, put_out_all, count_control_messages}
 use Rattle.proof_run_steps.specs.facts.Facts.{Facts, HoldWith, PutFits, PutsFit}
 
 pub all_and : {X : Type 0} (Q : X → Type 0) (xs : List X) (x : X) → AllByRecursion Q xs → Q x → AllByRecursion Q (xs ++ x ∷ [])
@@ -102,7 +102,7 @@ module _ {M C L P : Type 0} (world : World M C L P) (facts : Facts M C L P) wher
   with_tunnels more s end items h is = record {
     units = h.units;
     core = h.core;
-    letters = h.letters;
+    control_messages = h.control_messages;
     tunnels = on_put s.tunnels end items h.tunnels is;
     radios = h.radios;
     few = h.few;
@@ -119,7 +119,7 @@ module _ {M C L P : Type 0} (world : World M C L P) (facts : Facts M C L P) wher
   without_tunnel more s end h = record {
     units = h.units;
     core = h.core;
-    letters = h.letters;
+    control_messages = h.control_messages;
     tunnels = on_without s.tunnels end h.tunnels;
     radios = h.radios;
     few = h.few;
@@ -172,7 +172,7 @@ module _ {M C L P : Type 0} (world : World M C L P) (facts : Facts M C L P) wher
   with_radios more s key r h is = record {
     units = h.units;
     core = h.core;
-    letters = h.letters;
+    control_messages = h.control_messages;
     tunnels = h.tunnels;
     radios = radio_put s.radios key r h.radios is;
     few = h.few;
@@ -183,7 +183,7 @@ module _ {M C L P : Type 0} (world : World M C L P) (facts : Facts M C L P) wher
   without_radio more s key h = record {
     units = h.units;
     core = h.core;
-    letters = h.letters;
+    control_messages = h.control_messages;
     tunnels = h.tunnels;
     radios = radio_without s.radios key h.radios;
     few = h.few;
@@ -226,12 +226,12 @@ module _ {M C L P : Type 0} (world : World M C L P) (facts : Facts M C L P) wher
   same_links more s t h units core bag tunnels radios = record {
     units = subst facts.units (sym units) h.units;
     core = subst facts.core (sym core) h.core;
-    letters = subst (λ (b : Bag M). AllByRecursion (λ (e : ℕ × Letter M). facts.letter e.1) b.letters) (sym bag) h.letters;
+    control_messages = subst (λ (b : Bag M). AllByRecursion (λ (e : ℕ × ControlMessage M). facts.control_message e.1) b.control_messages) (sym bag) h.control_messages;
     tunnels =
         subst (λ (ts : List (TunnelEnd × List (Item L))). (end : TunnelEnd) (items : List (Item L)) → find tunnel_cmp ts end ≡ Some items → AllByRecursion (facts.on_tunnel end) items) (sym tunnels) h.tunnels;
     radios =
         subst (λ (rs : List (EntityKey × Radio P)). (key : EntityKey) → AllByRecursion (facts.on_radio key) (at entity_cmp (record { items = []; carried = 0 }) rs key).items) (sym radios) h.radios;
-    few = subst (λ (b : Bag M). facts.counted → length b.letters + more ≤ most_letters) (sym bag) h.few;
+    few = subst (λ (b : Bag M). facts.counted → length b.control_messages + more ≤ most_control_messages) (sym bag) h.few;
   }
 
   keep_reconnect : (ue : UeId) → KeepsFacts (reconnect world ue)
@@ -258,44 +258,44 @@ module _ {M C L P : Type 0} (world : World M C L P) (facts : Facts M C L P) wher
   keep_noted key (Own count) more s h = same_links more s (noted key (Own count) s) h refl refl refl refl refl
   keep_noted key Same more s h = h
 
-  keep_control : (l : Letter M) (more : ℕ) (s : State M C L P) → HoldWith facts (more + 1) s → facts.letter l → HoldsWith more (put_control world l s)
-  unfolding put_control put_letter
+  keep_control : (l : ControlMessage M) (more : ℕ) (s : State M C L P) → HoldWith facts (more + 1) s → facts.control_message l → HoldsWith more (put_control world l s)
+  unfolding put_control put_control_message
   keep_control l more s h is = record {
     units = h.units;
     core = h.core;
-    letters = all_and (λ (e : ℕ × Letter M). facts.letter e.1) s.bag.letters (length s.bag.letters + 1, l) h.letters is;
+    control_messages = all_and (λ (e : ℕ × ControlMessage M). facts.control_message e.1) s.bag.control_messages (length s.bag.control_messages + 1, l) h.control_messages is;
     tunnels = h.tunnels;
     radios = h.radios;
-    few = λ c. omega (arith, h.few c, length-append s.bag.letters ((length s.bag.letters + 1, l) ∷ []));
+    few = λ c. omega (arith, h.few c, length-append s.bag.control_messages ((length s.bag.control_messages + 1, l) ∷ []));
   }
 
   -- before an output so many control messages are still to be put
   keep_put : (node : NodeId) (taken : Option ℕ) (output : Put M L P) (rest : List (Put M L P)) → PutFits facts node taken output → (s : State M C L P)
-      → HoldWith facts (count_letters world (output ∷ rest)) s → HoldsWith (count_letters world rest) (put_out world node taken output s)
+      → HoldWith facts (count_control_messages world (output ∷ rest)) s → HoldsWith (count_control_messages world rest) (put_out world node taken output s)
   unfolding opens closes
-  keep_put node taken (control to ue message) rest is s h = keep_control (letter_of world node to ue message) (count_letters world rest) s h is
+  keep_put node taken (control to ue message) rest is s h = keep_control (control_message_of world node to ue message) (count_control_messages world rest) s h is
   keep_put node taken (packet to teid ue bearer dir tag load) rest is s h =
       let end : TunnelEnd = record { node = to; teid = teid } in
       let item : Item L = item_of world ue bearer dir (count_beside tag taken) load in
-      keep_put_on_tunnel end item (facts.stands node end item is) (count_letters world rest) (noted (entity ue bearer dir) tag s)
-      (keep_noted (entity ue bearer dir) tag (count_letters world rest) s h)
+      keep_put_on_tunnel end item (facts.stands node end item is) (count_control_messages world rest) (noted (entity ue bearer dir) tag s)
+      (keep_noted (entity ue bearer dir) tag (count_control_messages world rest) s h)
   keep_put node taken (radio ue bearer dir epoch tag pdu) rest is s h =
       let item : Item P = item_of world ue bearer dir (count_beside tag taken) pdu in
-      keep_put_on_radio epoch item (facts.stands_on_air node (entity ue bearer dir) item is) (count_letters world rest) (noted (entity ue bearer dir) tag s)
-      (keep_noted (entity ue bearer dir) tag (count_letters world rest) s h)
+      keep_put_on_radio epoch item (facts.stands_on_air node (entity ue bearer dir) item is) (count_control_messages world rest) (noted (entity ue bearer dir) tag s)
+      (keep_noted (entity ue bearer dir) tag (count_control_messages world rest) s h)
   keep_put node taken (deliver ue bearer dir count p) rest is s h =
-      same_links (count_letters world rest) s (delivered world (entity ue bearer dir) s) h refl refl refl refl refl
+      same_links (count_control_messages world rest) s (delivered world (entity ue bearer dir) s) h refl refl refl refl refl
   keep_put node taken (dropped reason) rest is s h = h
-  keep_put node taken (opened teid) rest is s h = with_open (count_letters world rest) s (record { node = node; teid = teid }) h
-  keep_put node taken (closed teid) rest is s h = without_tunnel (count_letters world rest) s (record { node = node; teid = teid }) h
+  keep_put node taken (opened teid) rest is s h = with_open (count_control_messages world rest) s (record { node = node; teid = teid }) h
+  keep_put node taken (closed teid) rest is s h = without_tunnel (count_control_messages world rest) s (record { node = node; teid = teid }) h
   keep_put node taken (failed ue cause) rest is s h = h
   keep_put node taken (held reason) rest is s h = h
   keep_put node taken (no reason) rest is s h = h
 
   pub keep_put_all : (node : NodeId) (taken : Option ℕ) (outputs : List (Put M L P)) → PutsFit facts node taken outputs → (s : State M C L P)
-      → HoldWith facts (count_letters world outputs) s → HoldsWith 0 (put_out_all world node taken outputs s)
+      → HoldWith facts (count_control_messages world outputs) s → HoldsWith 0 (put_out_all world node taken outputs s)
   unfolding put_out_all
   keep_put_all node taken [] all s h = h
   keep_put_all node taken (output ∷ outputs) all s h =
-      then_holds (count_letters world outputs) 0 (put_out world node taken output s) (put_out_all world node taken outputs)
+      then_holds (count_control_messages world outputs) 0 (put_out world node taken output s) (put_out_all world node taken outputs)
       (keep_put node taken output outputs all.0 s h) (λ t k. keep_put_all node taken outputs all.1 t k)

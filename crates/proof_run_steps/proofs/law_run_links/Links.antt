@@ -9,11 +9,11 @@ use Rattle.unit_defs.specs.Ways.{Message, Pdu, Load, Put, control, packet, radio
 use Rattle.unit_defs.specs.Core.{CoreRecord}
 use Rattle.tables.specs.Tables.{find, at}
 use Rattle.transport_defs.specs.declared.Item.{Item}
-use Rattle.transport_defs.specs.declared.Letter.{Letter}
-use Rattle.transport_defs.specs.Links.{most_letters}
+use Rattle.transport_defs.specs.declared.ControlMessage.{ControlMessage}
+use Rattle.transport_defs.specs.Links.{most_control_messages}
 use Rattle.run_defs.specs.Written.{Written}
 use Rattle.run_defs.specs.States.{State, new_state, World, Lengths, octets_from, CoreStepped, core_stepped, radio_of}
-use Rattle.run_defs.specs.Steps.{count_letters}
+use Rattle.run_defs.specs.Steps.{count_control_messages}
 use Rattle.run_defs.specs.Runs.{Reading, plain_world}
 use Rattle.proof_run_steps.specs.steps.Reached.{reached}
 use Rattle.proof_run_steps.specs.facts.Facts.{Facts, Hold, PutFits, AreKept}
@@ -30,7 +30,7 @@ module _ (M C L P : Type 0) where
   own_asked = record {
     units = λ u. Unit {0};
     core = λ r. Unit {0};
-    letter = λ l. Unit {0};
+    control_message = λ l. Unit {0};
     puts_on = λ node end item. Unit {0};
     puts_on_air = λ node key item. item.key ≡ key;
     on_tunnel = λ end item. Unit {0};
@@ -45,7 +45,7 @@ module _ (M C L P : Type 0) where
   few_asked = record {
     units = λ u. Unit {0};
     core = λ r. Unit {0};
-    letter = λ l. Unit {0};
+    control_message = λ l. Unit {0};
     puts_on = λ node end item. Unit {0};
     puts_on_air = λ node key item. Unit {0};
     on_tunnel = λ end item. Unit {0};
@@ -95,7 +95,7 @@ module _ (M C L P : Type 0) where
       let first : Hold own_asked s = record {
         units = tt;
         core = tt;
-        letters = each_of (λ (e : ℕ × Letter M). Unit {0}) s.bag.letters (λ e. tt);
+        control_messages = each_of (λ (e : ℕ × ControlMessage M). Unit {0}) s.bag.control_messages (λ e. tt);
         tunnels = λ end items found. each_of (λ (item : Item L). Unit {0}) items (λ item. tt);
         radios = own;
         few = λ counted. absurd counted;
@@ -106,7 +106,7 @@ module _ (M C L P : Type 0) where
   -- ---- control messages, where the core puts none when it is given octets from outside
 
   few_kept : (world : World M C L P) → ((lengths : Lengths) (r q : CoreRecord M C) (from : NodeId) (octets : List ℕ) (outputs : List (Put M L P))
-      → world.core_answer lengths r (octets_from from octets) ≡ core_stepped outputs q → count_letters world outputs ≡ 0) → AreKept world few_asked
+      → world.core_answer lengths r (octets_from from octets) ≡ core_stepped outputs q → count_control_messages world outputs ≡ 0) → AreKept world few_asked
   few_kept world silent = record {
     answers = λ lengths u v node taken given outputs h fits is. (tt, each_of (PutFits few_asked node taken) outputs (few_fits node taken));
     comes = λ u plan h. tt;
@@ -118,14 +118,14 @@ module _ (M C L P : Type 0) where
   }
 
   few_later : (world : World M C L P) → ((lengths : Lengths) (r q : CoreRecord M C) (from : NodeId) (octets : List ℕ) (outputs : List (Put M L P))
-      → world.core_answer lengths r (octets_from from octets) ≡ core_stepped outputs q → count_letters world outputs ≡ 0)
-      → (events : List Event) (s t : State M C L P) → length s.bag.letters ≤ most_letters → reached world events s ≡ Some t
-      → length t.bag.letters ≤ most_letters
+      → world.core_answer lengths r (octets_from from octets) ≡ core_stepped outputs q → count_control_messages world outputs ≡ 0)
+      → (events : List Event) (s t : State M C L P) → length s.bag.control_messages ≤ most_control_messages → reached world events s ≡ Some t
+      → length t.bag.control_messages ≤ most_control_messages
   few_later world silent events s t few is =
       let first : Hold few_asked s = record {
         units = tt;
         core = tt;
-        letters = each_of (λ (e : ℕ × Letter M). Unit {0}) s.bag.letters (λ e. tt);
+        control_messages = each_of (λ (e : ℕ × ControlMessage M). Unit {0}) s.bag.control_messages (λ e. tt);
         tunnels = λ end items found. each_of (λ (item : Item L). Unit {0}) items (λ item. tt);
         radios = λ key. each_of (λ (item : Item P). Unit {0}) (radio_of s key).items (λ item. tt);
         few = λ counted. omega (arith, few);
@@ -134,13 +134,13 @@ module _ (M C L P : Type 0) where
       omega (arith, later.few tt)
 
 pub few_in_run : (reading : Reading) (events : List Event) (s t : State (Message Token) Token (Written (Load Pdu)) (Written Pdu))
-    → length s.bag.letters ≤ most_letters → reached (plain_world reading) events s ≡ Some t → length t.bag.letters ≤ most_letters
+    → length s.bag.control_messages ≤ most_control_messages → reached (plain_world reading) events s ≡ Some t → length t.bag.control_messages ≤ most_control_messages
 few_in_run reading events s t few is =
     few_later (Message Token) Token (Written (Load Pdu)) (Written Pdu) (plain_world reading)
     (λ lengths r q from octets outputs at. subst none at refl) events s t few is
   where
     none : CoreStepped (Message Token) Token (Written (Load Pdu)) (Written Pdu) → Type 0
-    none (core_stepped outputs core) = count_letters (plain_world reading) outputs ≡ 0
+    none (core_stepped outputs core) = count_control_messages (plain_world reading) outputs ≡ 0
 
 -- ---- the first state
 
@@ -148,5 +148,5 @@ pub first_own : (M C L P : Type 0) → HoldTheirOwn (new_state {M = M} {C = C} {
 unfolding at find
 first_own M C L P key = tt
 
-pub first_few : (M C L P : Type 0) → length (new_state {M = M} {C = C} {L = L} {P = P}).bag.letters ≤ most_letters
+pub first_few : (M C L P : Type 0) → length (new_state {M = M} {C = C} {L = L} {P = P}).bag.control_messages ≤ most_control_messages
 first_few M C L P = omega arith

@@ -17,15 +17,15 @@ use Rattle.unit_defs.specs.Ways.{Put}
 use Rattle.unit_defs.specs.Messages.{teid_of}
 use Rattle.unit_defs.specs.Ue.{new_ue}
 use Rattle.transport_defs.specs.declared.Item.{Item}
-use Rattle.transport_defs.specs.declared.Letter.{Letter}
-use Rattle.transport_defs.specs.Links.{most_letters, letter, landed}
+use Rattle.transport_defs.specs.declared.ControlMessage.{ControlMessage}
+use Rattle.transport_defs.specs.Links.{most_control_messages, control_message, landed}
 use Rattle.run_defs.specs.Units.{Units, with_ue}
-use Rattle.run_defs.specs.States.{State, World, letter_for, octets_from, goes, stops, told_before, ◌next◌, stepped, Ending, Within, Outcome, as_step, entity, radio_of, sn_of, was_attached}
-use Rattle.run_defs.specs.Steps.{check_spans, put_on_tunnel, put_out_all, count_letters, too_many_letters, carried_out}
+use Rattle.run_defs.specs.States.{State, World, control_message_for, octets_from, goes, stops, told_before, ◌next◌, stepped, Ending, Within, Outcome, as_step, entity, radio_of, sn_of, was_attached}
+use Rattle.run_defs.specs.Steps.{check_spans, put_on_tunnel, put_out_all, count_control_messages, too_many_control_messages, carried_out}
 use Rattle.run_defs.specs.Events.{landed_as, offered}
 use Rattle.run_defs.specs.Runs.{happens}
-use Rattle.proof_run_steps.specs.steps.Causes.{Cause, by_order, by_tick, by_octets, by_octets_on, by_attach, by_release, by_offer, by_item, by_air, by_ack, by_letter, node_of, given_of, count_of, first_of, Stands}
-use Rattle.proof_run_steps.specs.steps.Made.{Made, stays, ends, then_made, sets_up, starts, acts, holds_item, holds_pdu, offers, core_takes, core_reads, lands, loses_letter, loses_item, remarks}
+use Rattle.proof_run_steps.specs.steps.Causes.{Cause, by_order, by_tick, by_octets, by_octets_on, by_attach, by_release, by_offer, by_item, by_air, by_ack, by_control_message, node_of, given_of, count_of, first_of, Stands}
+use Rattle.proof_run_steps.specs.steps.IsOutcome.{IsOutcome, stays, ends, then_made, sets_up, starts, acts, holds_item, holds_pdu, offers, core_takes, core_reads, lands, loses_control_message, loses_item, remarks}
 use Rattle.proof_run_steps.specs.steps.Reached.{reached_by, reached}
 use Rattle.proof_run_steps.proofs.steps.Runs.{made_of_steps}
 use Rattle.proof_run_steps.specs.plans.Plans.{Plans, PlansStay}
@@ -45,7 +45,7 @@ pub hold_grows : {M C L P : Type 0} (f g : Facts M C L P) (more : ℕ) (s : Stat
 hold_grows f g more s grows h = record {
   units = grows.units s.units h.units;
   core = grows.core s.core h.core;
-  letters = each_grows (λ (e : ℕ × Letter _). f.letter e.1) (λ (e : ℕ × Letter _). g.letter e.1) s.bag.letters (λ e. grows.letter e.1) h.letters;
+  control_messages = each_grows (λ (e : ℕ × ControlMessage _). f.control_message e.1) (λ (e : ℕ × ControlMessage _). g.control_message e.1) s.bag.control_messages (λ e. grows.control_message e.1) h.control_messages;
   tunnels = λ end items found. each_grows (f.on_tunnel end) (g.on_tunnel end) items (grows.on_tunnel end) (h.tunnels end items found);
   radios = λ key. each_grows (f.on_radio key) (g.on_radio key) (radio_of s key).items (grows.on_radio key) (h.radios key);
   few = λ c. h.few (grows.counted c);
@@ -114,11 +114,11 @@ module _ {M C L P : Type 0} (world : World M C L P) (facts : Plans → Facts M C
     answered (by_item end item rest) may at is = (other (by_item end item rest) at is tt, λ q is_it. absurd cc)
     answered (by_air key home item) may at is = (other (by_air key home item) at is tt, λ q is_it. absurd cc)
     answered (by_ack key home item rest) may at is = (other (by_ack key home item rest) at is tt, λ q is_it. absurd cc)
-    answered (by_letter number l to) may at is = (other (by_letter number l to) at is tt, λ q is_it. absurd cc)
+    answered (by_control_message number l to) may at is = (other (by_control_message number l to) at is tt, λ q is_it. absurd cc)
 
   act_along : (event : Event) (cause : Cause M L P) (outputs : List (Put M L P)) (units : Units M C) (s : State M C L P) → Holds s → IsAllowed allowed event s.plans
       → Stands event s cause → world.answer (sn_of s) s.units (node_of cause) (given_of cause) ≡ stepped outputs units
-      → too_many_letters world outputs s ≡ false
+      → too_many_control_messages world outputs s ≡ false
       → Now (as_step (Some (node_of cause)) (carried_out world (node_of cause) (count_of cause) (first_of world cause) outputs units s))
   act_along event cause outputs units s h may at is few =
       let plans : Plans = plans_by world cause s.plans in
@@ -137,8 +137,8 @@ module _ {M C L P : Type 0} (world : World M C L P) (facts : Plans → Facts M C
       by (stops further why) h = tt
   then_along ps (stops told why) more p stay q = tt
 
-  pub made_along : (event : Event) (s : State M C L P) (e : Outcome M C L P) → Made world event s e → Holds s → IsAllowed allowed event s.plans → Now e
-  unfolding landed letter
+  pub made_along : (event : Event) (s : State M C L P) (e : Outcome M C L P) → IsOutcome world event s e → Holds s → IsAllowed allowed event s.plans → Now e
+  unfolding landed control_message
   made_along event s e (stays t) h may = h
   made_along event s e (ends t why) h may = tt
   made_along event s e (then_made t d more p q) h may =
@@ -169,20 +169,20 @@ module _ {M C L P : Type 0} (world : World M C L P) (facts : Plans → Facts M C
       (plans_put world end item (offered world (entity ue bearer Dl) t)) (plans_checked world))
   made_along event s e (core_takes t number l outputs core found at is few) h may =
       let f : Facts M C L P = facts t.plans in
-      let a = kept.core_answers t.plans t.core core (letter_for l.from l.message) outputs h.core (
+      let a = kept.core_answers t.plans t.core core (control_message_for l.from l.message) outputs h.core (
         l.ue,
-        subst (λ (n : NodeId). f.letter (record { from = l.from; to = n; ue = l.ue; message = l.message })) at
-            (found_has nat_cmp f.letter t.bag.letters number l h.letters found),
+        subst (λ (n : NodeId). f.control_message (record { from = l.from; to = n; ue = l.ue; message = l.message })) at
+            (found_has nat_cmp f.control_message t.bag.control_messages number l h.control_messages found),
       ) is in
-      let ready : HoldWith f (count_letters world outputs) (record t { core = core }) =
-      core_ready world f t core (count_letters world outputs) h a.0 (λ c. few_after (length t.bag.letters) (count_letters world outputs) few) in
+      let ready : HoldWith f (count_control_messages world outputs) (record t { core = core }) =
+      core_ready world f t core (count_control_messages world outputs) h a.0 (λ c. few_after (length t.bag.control_messages) (count_control_messages world outputs) few) in
       in_step t.plans (Some Core) _
       (then_holds world f 0 0 (landed_as world number l (record t { core = core }) next put_out_all world Core None outputs) check_spans
-      (then_holds world f (count_letters world outputs) 0 (landed_as world number l (record t { core = core })) (put_out_all world Core None outputs)
+      (then_holds world f (count_control_messages world outputs) 0 (landed_as world number l (record t { core = core })) (put_out_all world Core None outputs)
       (record {
         units = ready.units;
         core = ready.core;
-        letters = ready.letters;
+        control_messages = ready.control_messages;
         tunnels = ready.tunnels;
         radios = ready.radios;
         few = ready.few;
@@ -192,28 +192,28 @@ module _ {M C L P : Type 0} (world : World M C L P) (facts : Plans → Facts M C
       (plans_checked world))
   made_along event s e (core_reads t from octets outputs core is) h may =
       let f : Facts M C L P = facts t.plans in
-      let n : ℕ = count_letters world outputs in
+      let n : ℕ = count_control_messages world outputs in
       let a = kept.core_answers t.plans t.core core (octets_from from octets) outputs h.core tt is in
       in_step t.plans (Some Core) (put_out_all world Core None outputs (record t { core = core }) next check_spans)
       (then_holds world f 0 0 (put_out_all world Core None outputs (record t { core = core })) check_spans
       (keep_put_all world f Core None outputs a.1 (record t { core = core })
       (core_ready world f t core n h a.0
-      (λ c. subst (λ (k : ℕ). length t.bag.letters + k ≤ most_letters) (sym (kept.silent t.plans c (sn_of t) t.core core from octets outputs is)) (h.few c))))
+      (λ c. subst (λ (k : ℕ). length t.bag.control_messages + k ≤ most_control_messages) (sym (kept.silent t.plans c (sn_of t) t.core core from octets outputs is)) (h.few c))))
       (λ x k. keep_checked world f 0 x k))
       (then_plans world t.plans (put_out_all world Core None outputs (record t { core = core })) check_spans
       (plans_put_all world Core None outputs (record t { core = core })) (plans_checked world))
   made_along event s e (lands t number l to found at) h may = record {
     units = h.units;
     core = h.core;
-    letters = h.letters;
+    control_messages = h.control_messages;
     tunnels = h.tunnels;
     radios = h.radios;
     few = h.few;
   }
-  made_along event s e (loses_letter t number) h may = record {
+  made_along event s e (loses_control_message t number) h may = record {
     units = h.units;
     core = h.core;
-    letters = h.letters;
+    control_messages = h.control_messages;
     tunnels = h.tunnels;
     radios = h.radios;
     few = h.few;

@@ -16,7 +16,7 @@ module _ {M C L P : Type 0} (world : World M C L P) where
     grows = λ before after stay. record {
       units = λ u p. p;
       core = λ r p. p;
-      letter = λ l p. p;
+      control_message = λ l p. p;
       on_tunnel = λ end item p. p;
       on_radio = λ key item p. p;
       counted = λ c. c;
@@ -46,7 +46,7 @@ module _ {M C L P : Type 0} (world : World M C L P) where
           record {
             units = λ u p. (f.units u p.0, g.units u p.1);
             core = λ r p. (f.core r p.0, g.core r p.1);
-            letter = λ l p. (f.letter l p.0, g.letter l p.1);
+            control_message = λ l p. (f.control_message l p.0, g.control_message l p.1);
             on_tunnel = λ end item p. (f.on_tunnel end item p.0, (g.on_tunnel end item p.1.0, tt));
             on_radio = λ key item p. (f.on_radio key item p.0, g.on_radio key item p.1);
             counted = λ c. c;

@@ -19,7 +19,7 @@ use Rattle.run_defs.specs.Units.{Units}
 use Rattle.run_defs.specs.States.{State, World, Stop, goes, stops, told_before, ◌next◌, goes_on, Ending, Within, as_step, entity, radio_of, with_radio}
 use Rattle.run_defs.specs.Steps.{first_outstanding, entities_of, checked_by, check_spans, noted, count_beside, item_of, on_tunnel, put_on_tunnel, put_on_connected, put_on_radio, put_control, opens, closes, radio_lost, lose_each, lose_radios_of, lose_radios, radios_of, same_epoch, epoch_now, connect_in, reconnect, reconnect_node, put_out, put_out_all, carried_out}
 use Rattle.run_defs.specs.Events.{leaves}
-use Rattle.proof_run_steps.specs.steps.Causes.{Cause, by_order, by_tick, by_octets, by_octets_on, by_attach, by_release, by_offer, by_item, by_air, by_ack, by_letter, node_of, count_of, first_of}
+use Rattle.proof_run_steps.specs.steps.Causes.{Cause, by_order, by_tick, by_octets, by_octets_on, by_attach, by_release, by_offer, by_item, by_air, by_ack, by_control_message, node_of, count_of, first_of}
 use Rattle.proof_run_steps.specs.plans.Plans.{Plans}
 
 module _ {M C L P : Type 0} (world : World M C L P) where
@@ -153,7 +153,7 @@ module _ {M C L P : Type 0} (world : World M C L P) where
   first_plans (by_item end item rest) s = refl
   first_plans (by_air key home item) s = refl
   first_plans (by_ack key home item rest) s = refl
-  first_plans (by_letter number l to) s = refl
+  first_plans (by_control_message number l to) s = refl
 
   pub act_plans : (cause : Cause M L P) (outputs : List (Put M L P)) (units : Units M C) (s : State M C L P)
       → HasPlans (plans_by cause s.plans) (carried_out world (node_of cause) (count_of cause) (first_of world cause) outputs units s)

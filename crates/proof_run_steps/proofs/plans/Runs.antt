@@ -18,20 +18,20 @@ use Rattle.tables.specs.Tables.{find, put}
 use Rattle.tables.proofs.TableLaws.{find-put}
 use Rattle.unit_defs.specs.Ways.{Message, Pdu, Load, Put, Input, gives, spent}
 use Rattle.unit_defs.specs.Ue.{UeNode, new_ue, placed, ue_acts}
-use Rattle.unit_defs.specs.CpRecords.{CuCpRecord}
+use Rattle.unit_defs.specs.CuCpRecords.{CuCpRecord}
 use Rattle.unit_defs.specs.CuCp.{cu_cp_acts}
 use Rattle.unit_defs.specs.CuUp.{cu_up_acts}
 use Rattle.unit_defs.specs.Du.{du_acts, Du}
-use Rattle.unit_defs.specs.UpRecords.{CuUp}
-use Rattle.run_defs.specs.Units.{Units, cp_of, with_cp, up_of, with_up, du_of, with_du, ue_of, with_ue}
+use Rattle.unit_defs.specs.CuUpRecords.{CuUp}
+use Rattle.run_defs.specs.Units.{Units, cu_cp_of, with_cu_cp, cu_up_of, with_cu_up, du_of, with_du, ue_of, with_ue}
 use Rattle.run_defs.specs.Written.{Written, PlainStepped, WrittenStepped, written_step}
 use Rattle.run_defs.specs.States.{State, new_state, World, Lengths, Given, stepped, step_spent, goes, stops, told_before, ◌next◌, Ending, Outcome, as_step, was_attached, sn_of}
 use Rattle.run_defs.specs.Steps.{put_out_all, check_spans}
 use Rattle.run_defs.specs.Events.{landed_as}
 use Rattle.run_defs.specs.Conditions.{units_placed, all_set_up}
 use Rattle.run_defs.specs.Runs.{Reading, PlainGiven, Plain, plain_way, input_of, stepped_with, ue_stepped, acts_on, plain_by, plain_world, happens}
-use Rattle.proof_run_steps.specs.steps.Causes.{Cause, by_order, by_tick, by_octets, by_octets_on, by_attach, by_release, by_offer, by_item, by_air, by_ack, by_letter, node_of, given_of, Stands}
-use Rattle.proof_run_steps.specs.steps.Made.{Made, stays, ends, then_made, sets_up, starts, acts, holds_item, holds_pdu, offers, core_takes, core_reads, lands, loses_letter, loses_item, remarks}
+use Rattle.proof_run_steps.specs.steps.Causes.{Cause, by_order, by_tick, by_octets, by_octets_on, by_attach, by_release, by_offer, by_item, by_air, by_ack, by_control_message, node_of, given_of, Stands}
+use Rattle.proof_run_steps.specs.steps.IsOutcome.{IsOutcome, stays, ends, then_made, sets_up, starts, acts, holds_item, holds_pdu, offers, core_takes, core_reads, lands, loses_control_message, loses_item, remarks}
 use Rattle.proof_run_steps.specs.steps.Reached.{reached_by, reached}
 use Rattle.proof_run_steps.proofs.steps.Frames.{HasUnits, units_by, act_units, then_units, keep_checked as units_checked, keep_put_on_tunnel as units_put, keep_put_all as units_put_all}
 use Rattle.proof_run_steps.proofs.steps.Runs.{made_of_steps}
@@ -63,7 +63,7 @@ together us ps ue n all u x e =
     by true h = let those : n ≡ x = cc in ap (λ (y : UeNode). Some y.plan) those
     by false h = all u x h
 
-cp_ues : {M C : Type 0} (u : Units M C) (gnb : Gnb) (r : CuCpRecord M C) → (with_cp u gnb r).ues ≡ u.ues
+cp_ues : {M C : Type 0} (u : Units M C) (gnb : Gnb) (r : CuCpRecord M C) → (with_cu_cp u gnb r).ues ≡ u.ues
 cp_ues u A r = refl
 cp_ues u B r = refl
 
@@ -104,9 +104,9 @@ module _ {M C L P : Type 0} (world : World M C L P) where
   cause_stays event s (by_item end item rest) at = same s.plans
   cause_stays event s (by_air key home item) at = same s.plans
   cause_stays event s (by_ack key home item rest) at = same s.plans
-  cause_stays event s (by_letter number l to) at = same s.plans
+  cause_stays event s (by_control_message number l to) at = same s.plans
 
-  pub made_stays : (event : Event) (s : State M C L P) (e : Outcome M C L P) → Made world event s e → StaysFrom s.plans e
+  pub made_stays : (event : Event) (s : State M C L P) (e : Outcome M C L P) → IsOutcome world event s e → StaysFrom s.plans e
   made_stays event s e (stays t) = same t.plans
   made_stays event s e (ends t why) = tt
   made_stays event s e (then_made t d more p q) = then_stays t.plans d more (made_stays event t d p) (λ x. made_stays event x (more x) (q x))
@@ -130,7 +130,7 @@ module _ {M C L P : Type 0} (world : World M C L P) where
       by_plans t.plans t.plans _ (same t.plans)
       (as_step_plans world t.plans (Some Core) _ (then_plans world t.plans _ check_spans (keep_put_all world Core None outputs _) (keep_checked world)))
   made_stays event s e (lands t number l to found at) = same t.plans
-  made_stays event s e (loses_letter t number) = same t.plans
+  made_stays event s e (loses_control_message t number) = same t.plans
   made_stays event s e (loses_item t end item rest found) = same t.plans
   made_stays event s e (remarks t lines plain) = same t.plans
 
@@ -189,7 +189,7 @@ module _ {M C L P : Type 0} (world : World M C L P) where
   cause_agrees (by_item end item rest) u ps all = all
   cause_agrees (by_air key home item) u ps all = all
   cause_agrees (by_ack key home item rest) u ps all = all
-  cause_agrees (by_letter number l to) u ps all = all
+  cause_agrees (by_control_message number l to) u ps all = all
 
   set_up_agrees : (u : Units M C) (ps : Plans) (plan : Plan) → AreOfTheirPlans u ps → AreOfTheirPlans (all_set_up (units_placed plan u)) (put ue_cmp ps plan.ue plan)
   unfolding new_ue placed
@@ -204,7 +204,7 @@ module _ {M C L P : Type 0} (world : World M C L P) where
         let old = stay ue x e in
         all ue old.0 old.1 ∙ ap (λ (p : Plan). Some p) old.2
 
-    made_agrees : (event : Event) (s : State M C L P) (e : Outcome M C L P) → Made world event s e → AreOfTheirPlans s.units s.plans → AgreesAfter e
+    made_agrees : (event : Event) (s : State M C L P) (e : Outcome M C L P) → IsOutcome world event s e → AreOfTheirPlans s.units s.plans → AgreesAfter e
     made_agrees event s e (stays t) all = all
     made_agrees event s e (ends t why) all = tt
     made_agrees event s e (then_made t d more p q) all = then_agrees d more (made_agrees event t d p all) (λ x h. made_agrees event x (more x) (q x) h)
@@ -234,7 +234,7 @@ module _ {M C L P : Type 0} (world : World M C L P) where
         by_both t.units t.plans _ all (stepped_units t.units (Some Core) _ (then_units world t.units _ check_spans (units_put_all world Core None outputs _) (units_checked world)))
         (as_step_plans world t.plans (Some Core) _ (then_plans world t.plans _ check_spans (keep_put_all world Core None outputs _) (keep_checked world)))
     made_agrees event s e (lands t number l to found at) all = all
-    made_agrees event s e (loses_letter t number) all = all
+    made_agrees event s e (loses_control_message t number) all = all
     made_agrees event s e (loses_item t end item rest found) all = all
     made_agrees event s e (remarks t lines plain) all = all
 
@@ -274,13 +274,13 @@ module _ (reading : Reading) where
   written lengths u (stepped outputs v) p = p
   written lengths u (step_spent counter) p = tt
 
-  by_cp : (u : Records) (gnb : Gnb) (a : Plain (CuCpRecord (Message Token) Token)) → StayBy u (stepped_with reading (with_cp u gnb) a)
+  by_cp : (u : Records) (gnb : Gnb) (a : Plain (CuCpRecord (Message Token) Token)) → StayBy u (stepped_with reading (with_cu_cp u gnb) a)
   by_cp u gnb (gives outputs r) =
       subst (λ (es : List (UeId × UeNode)). (ue : UeId) (x : UeNode) → find ue_cmp es ue ≡ Some x → (y : UeNode) × (ue_of u ue ≡ Some y) × (y.plan ≡ x.plan))
       (sym (cp_ues u gnb r)) (as_they_are u)
   by_cp u gnb (spent counter) = tt
 
-  by_up : (u : Records) (gnb : Gnb) (number : ℕ) (a : Plain (CuUp (Message Token) Token)) → StayBy u (stepped_with reading (with_up u gnb number) a)
+  by_up : (u : Records) (gnb : Gnb) (number : ℕ) (a : Plain (CuUp (Message Token) Token)) → StayBy u (stepped_with reading (with_cu_up u gnb number) a)
   by_up u gnb number (gives outputs r) = as_they_are u
   by_up u gnb number (spent counter) = tt
 
@@ -301,8 +301,8 @@ module _ (reading : Reading) where
   by_ue u ue x there (spent counter) keeps = tt
 
   acted : (u : Records) (node : NodeId) (input : Input Token Pdu) → StayBy u (acts_on reading u node input)
-  acted u (CuCp gnb) input = by_cp u gnb (cu_cp_acts plain_way (cp_of u gnb) input)
-  acted u (up_id gnb number) input = by_up u gnb number (cu_up_acts plain_way (up_of u gnb number) input)
+  acted u (CuCp gnb) input = by_cp u gnb (cu_cp_acts plain_way (cu_cp_of u gnb) input)
+  acted u (up_id gnb number) input = by_up u gnb number (cu_up_acts plain_way (cu_up_of u gnb number) input)
   acted u (du_id gnb number) input = by_du u gnb number (du_acts plain_way (du_of u gnb number) input)
   acted u (Ue ue) input = there (ue_of u (record { 0 = ue })) refl
     where

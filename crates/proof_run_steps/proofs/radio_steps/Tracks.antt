@@ -26,7 +26,7 @@ use Rattle.run_defs.specs.States.{State, World, Stop, goes, stops, told_before, 
 use Rattle.run_defs.specs.Steps.{first_outstanding, entities_of, checked_by, check_spans, noted, count_beside, item_of, on_tunnel, put_on_tunnel, put_on_connected, put_on_radio, put_control, opens, closes, radio_lost, lose_each, lose_radios_of, lose_radios, radios_of, same_epoch, epoch_now, connect_in, reconnect, reconnect_node, put_out, put_out_all, carried_out}
 use Rattle.run_defs.specs.Conditions.{epoch_of}
 use Rattle.run_defs.specs.Events.{leaves}
-use Rattle.proof_run_steps.specs.steps.Causes.{Cause, by_order, by_tick, by_octets, by_octets_on, by_attach, by_release, by_offer, by_item, by_air, by_ack, by_letter, node_of, count_of, first_of}
+use Rattle.proof_run_steps.specs.steps.Causes.{Cause, by_order, by_tick, by_octets, by_octets_on, by_attach, by_release, by_offer, by_item, by_air, by_ack, by_control_message, node_of, count_of, first_of}
 use Rattle.proof_run_steps.specs.radio_steps.Radios.{OnAir, on_air, lost_in, after_taking, with_item, after_put, after_puts, moved_to, followed, after_step}
 
 module _ {M C L P : Type 0} (world : World M C L P) (key : EntityKey) where
@@ -395,7 +395,7 @@ module _ {M C L P : Type 0} (world : World M C L P) (key : EntityKey) where
   first_then (by_ack from home item rest) s =
       let cause : Cause M L P = by_ack from home item rest in
       taken_then [] (node_of cause) s _ (after_taking key cause (on_air s key)) (radio_taken from s (λ r. record { items = rest; carried = r.carried - 1 })) refl
-  first_then (by_letter number l to) s = taken_then (got_message number l ∷ []) to s _ (on_air s key) refl refl
+  first_then (by_control_message number l to) s = taken_then (got_message number l ∷ []) to s _ (on_air s key) refl refl
 
   act_tracked : (cause : Cause M L P) (outputs : List (Put M L P)) (units : Units M C) (s : State M C L P)
       → Has (after_step world key cause outputs units s) (carried_out world (node_of cause) (count_of cause) (first_of world cause) outputs units s)

@@ -14,22 +14,22 @@ use Rattle.gnb_types.specs.Orders.{node_cmp, ue_cmp}
 use Rattle.gnb_types.proofs.OrderLemmas.{node_total, ue_total}
 use Rattle.tables.specs.Tables.{find, at}
 use Rattle.tables.proofs.TableLaws.{at-put, find-put}
-use Rattle.unit_defs.specs.CpRecords.{CuCpRecord}
-use Rattle.unit_defs.specs.UpRecords.{UpBearer, UpFlags, CuUp}
+use Rattle.unit_defs.specs.CuCpRecords.{CuCpRecord}
+use Rattle.unit_defs.specs.CuUpRecords.{CuUpBearer, CuUpFlags, CuUp}
 use Rattle.unit_defs.specs.CuUp.{new_cu_up, bearers_from, bearers_made}
 use Rattle.unit_defs.specs.Du.{Du}
-use Rattle.unit_defs.specs.Static.{with_downlinks, up_context, up_placed, du_placed, cp_placed, up_set_up}
+use Rattle.unit_defs.specs.Static.{with_downlinks, cu_up_context, cu_up_placed, du_placed, cu_cp_placed, cu_up_set_up}
 use Rattle.unit_defs.specs.Ue.{UeNode, new_ue, placed}
-use Rattle.run_defs.specs.Units.{Units, new_units, cp_of, with_cp, up_of, with_up, du_of, with_du, with_ue}
+use Rattle.run_defs.specs.Units.{Units, new_units, cu_cp_of, with_cu_cp, cu_up_of, with_cu_up, du_of, with_du, with_ue}
 use Rattle.run_defs.specs.Conditions.{units_placed, all_set_up}
 use Rattle.proof_run_steps.proofs.teids.Placed.{find_mapped}
-use Rattle.proof_unit_steps.specs.receivers.Ready.{BearersStore, UpReady, UeReady}
+use Rattle.proof_unit_steps.specs.receivers.Ready.{BearersStore, CuUpReady, UeReady}
 use Rattle.proof_run_steps.specs.receivers.AllReady.{AreReady}
 use Rattle.proof_unit_steps.proofs.receivers.CuUps.{contexts_put, made_store}
 use Rattle.proof_unit_steps.proofs.receivers.Terminals.{new_ready}
 
 -- downlinks change no receiver
-down_store : (flags : UpFlags) (gnb : Gnb) (du next : ℕ) (es : List (BearerId × UpBearer)) → BearersStore flags es → BearersStore flags (with_downlinks gnb du next es)
+down_store : (flags : CuUpFlags) (gnb : Gnb) (du next : ℕ) (es : List (BearerId × CuUpBearer)) → BearersStore flags es → BearersStore flags (with_downlinks gnb du next es)
 down_store flags gnb du next [] all = tt
 down_store flags gnb du next (e ∷ es) all = (all.0, down_store flags gnb du (next + 1) es all.1)
 
@@ -42,21 +42,21 @@ unfolding new_ue placed
 placed_is_ready plan = new_ready (placed (new_ue plan)) 1 plan.bearers refl
 
 module _ {M C : Type 0} where
-  up_ready_placed : (r : CuUp M C) (plan : Plan) (downlink : ℕ) → UpReady r → UpReady (up_placed r plan downlink)
-  unfolding up_placed
+  up_ready_placed : (r : CuUp M C) (plan : Plan) (downlink : ℕ) → CuUpReady r → CuUpReady (cu_up_placed r plan downlink)
+  unfolding cu_up_placed
   up_ready_placed r plan downlink p =
-      contexts_put r.contexts plan.ue (up_context r plan downlink) p
-      (down_store (up_context r plan downlink).flags r.gnb plan.du downlink (bearers_made false r.next_teid (bearers_from 1 plan.bearers))
-      (made_store (up_context r plan downlink).flags false r.next_teid (bearers_from 1 plan.bearers)))
+      contexts_put r.contexts plan.ue (cu_up_context r plan downlink) p
+      (down_store (cu_up_context r plan downlink).flags r.gnb plan.du downlink (bearers_made false r.next_teid (bearers_from 1 plan.bearers))
+      (made_store (cu_up_context r plan downlink).flags false r.next_teid (bearers_from 1 plan.bearers)))
 
-  pub with_up_ready : (u : Units M C) (gnb : Gnb) (number : ℕ) (r : CuUp M C) → AreReady u → UpReady r → AreReady (with_up u gnb number r)
+  pub with_up_ready : (u : Units M C) (gnb : Gnb) (number : ℕ) (r : CuUp M C) → AreReady u → CuUpReady r → AreReady (with_cu_up u gnb number r)
   with_up_ready u gnb number r p h = (
-    λ g n. subst (λ (x : CuUp M C). UpReady x) (sym (at-put node_total (new_cu_up g n) u.ups (up_id gnb number) r (up_id g n)))
+    λ g n. subst (λ (x : CuUp M C). CuUpReady x) (sym (at-put node_total (new_cu_up g n) u.ups (up_id gnb number) r (up_id g n)))
         (by g n (eq_by_cmp node_cmp (up_id g n) (up_id gnb number))),
     p.1,
   )
     where
-      by : (g : Gnb) (n : ℕ) (t : Bool) → UpReady (cond t r (up_of u g n))
+      by : (g : Gnb) (n : ℕ) (t : Bool) → CuUpReady (cond t r (cu_up_of u g n))
       by g n true = h
       by g n false = p.0 g n
 
@@ -67,7 +67,7 @@ module _ {M C : Type 0} where
       by v y true e = let same : x ≡ y = cc in subst UeReady same h
       by v y false e = p.1 v y e
 
-  pub with_cp_ready : (u : Units M C) (gnb : Gnb) (r : CuCpRecord M C) → AreReady u → AreReady (with_cp u gnb r)
+  pub with_cp_ready : (u : Units M C) (gnb : Gnb) (r : CuCpRecord M C) → AreReady u → AreReady (with_cu_cp u gnb r)
   with_cp_ready u A r p = p
   with_cp_ready u B r p = p
 
@@ -78,33 +78,33 @@ module _ {M C : Type 0} where
   unfolding at
   set_up_ready u p = (ups, p.1)
     where
-      up_by : (g : Gnb) (n : ℕ) (o : Option (CuUp M C)) → UpReady (unwrap_or o (new_cu_up g n)) → UpReady (unwrap_or (option_map up_set_up o) (new_cu_up g n))
+      up_by : (g : Gnb) (n : ℕ) (o : Option (CuUp M C)) → CuUpReady (unwrap_or o (new_cu_up g n)) → CuUpReady (unwrap_or (option_map cu_up_set_up o) (new_cu_up g n))
       up_by g n None h = h
       up_by g n (Some r) h = h
 
-      ups : (g : Gnb) (n : ℕ) → UpReady (up_of (all_set_up u) g n)
+      ups : (g : Gnb) (n : ℕ) → CuUpReady (cu_up_of (all_set_up u) g n)
       ups g n =
-          subst (λ (o : Option (CuUp M C)). UpReady (unwrap_or o (new_cu_up g n))) (sym (find_mapped node_cmp up_set_up u.ups (up_id g n)))
+          subst (λ (o : Option (CuUp M C)). CuUpReady (unwrap_or o (new_cu_up g n))) (sym (find_mapped node_cmp cu_up_set_up u.ups (up_id g n)))
           (up_by g n (find node_cmp u.ups (up_id g n)) (p.0 g n))
 
   pub placed_ready : (u : Units M C) (plan : Plan) → AreReady u → AreReady (all_set_up (units_placed plan u))
   placed_ready u plan p =
-      let up : CuUp M C = up_of u plan.gnb plan.up in
+      let up : CuUp M C = cu_up_of u plan.gnb plan.up in
       let du : Du M C = du_of u plan.gnb plan.du in
       let a : Units M C = with_ue u plan.ue (placed (new_ue plan)) in
-      let b : Units M C = with_up a plan.gnb plan.up (up_placed up plan du.next_teid) in
+      let b : Units M C = with_cu_up a plan.gnb plan.up (cu_up_placed up plan du.next_teid) in
       let c : Units M C = with_du b plan.gnb plan.du (du_placed du plan (up.next_teid + 1)) in
       set_up_ready (units_placed plan u)
-      (with_cp_ready c plan.gnb (cp_placed (cp_of u plan.gnb) plan)
+      (with_cp_ready c plan.gnb (cu_cp_placed (cu_cp_of u plan.gnb) plan)
       (with_du_ready b plan.gnb plan.du (du_placed du plan (up.next_teid + 1))
-      (with_up_ready a plan.gnb plan.up (up_placed up plan du.next_teid) (with_ue_ready u plan.ue (placed (new_ue plan)) p (placed_is_ready plan))
+      (with_up_ready a plan.gnb plan.up (cu_up_placed up plan du.next_teid) (with_ue_ready u plan.ue (placed (new_ue plan)) p (placed_is_ready plan))
       (up_ready_placed up plan du.next_teid (p.0 plan.gnb plan.up)))))
 
 pub first_ready : (M C : Type 0) → AreReady (new_units {M = M} {C = C})
 unfolding at find
 first_ready M C = (ups, λ ue u e. absurd cc)
   where
-    up_by : (g : Gnb) (k : ℕ) (a b c d : Bool) → UpReady (unwrap_or (cond a (Some (new_cu_up {M = M} {C = C} A 1)) (cond b (Some (new_cu_up A 2)) (cond c (Some (new_cu_up B 1))
+    up_by : (g : Gnb) (k : ℕ) (a b c d : Bool) → CuUpReady (unwrap_or (cond a (Some (new_cu_up {M = M} {C = C} A 1)) (cond b (Some (new_cu_up A 2)) (cond c (Some (new_cu_up B 1))
         (cond d (Some (new_cu_up B 2)) None)))) (new_cu_up g k))
     up_by g k true b c d = λ ue x e. absurd cc
     up_by g k false true c d = λ ue x e. absurd cc
@@ -112,7 +112,7 @@ first_ready M C = (ups, λ ue u e. absurd cc)
     up_by g k false false false true = λ ue x e. absurd cc
     up_by g k false false false false = λ ue x e. absurd cc
 
-    ups : (g : Gnb) (k : ℕ) → UpReady (up_of (new_units {M = M} {C = C}) g k)
+    ups : (g : Gnb) (k : ℕ) → CuUpReady (cu_up_of (new_units {M = M} {C = C}) g k)
     ups g k =
         up_by g k (is_at (node_cmp (up_id g k)) (up_id A 1)) (is_at (node_cmp (up_id g k)) (up_id A 2)) (is_at (node_cmp (up_id g k)) (up_id B 1))
         (is_at (node_cmp (up_id g k)) (up_id B 2))

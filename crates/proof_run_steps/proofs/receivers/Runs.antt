@@ -7,19 +7,19 @@ use Rattle.message_types.specs.declared.rrc.Token.{Token}
 use Rattle.scenario_text.specs.declared.event.Event.{Event}
 use Rattle.unit_defs.specs.Ways.{Message, Pdu, Load, Input, gives, spent}
 use Rattle.unit_defs.specs.Ue.{UeNode, new_ue, ue_acts}
-use Rattle.unit_defs.specs.UpRecords.{CuUp}
+use Rattle.unit_defs.specs.CuUpRecords.{CuUp}
 use Rattle.unit_defs.specs.CuUp.{cu_up_acts}
 use Rattle.unit_defs.specs.Du.{Du, du_acts}
-use Rattle.unit_defs.specs.CpRecords.{CuCpRecord}
+use Rattle.unit_defs.specs.CuCpRecords.{CuCpRecord}
 use Rattle.unit_defs.specs.CuCp.{cu_cp_acts}
-use Rattle.run_defs.specs.Units.{Units, cp_of, with_cp, up_of, with_up, du_of, with_du, ue_of, with_ue}
+use Rattle.run_defs.specs.Units.{Units, cu_cp_of, with_cu_cp, cu_up_of, with_cu_up, du_of, with_du, ue_of, with_ue}
 use Rattle.run_defs.specs.Written.{Written, PlainStepped, WrittenStepped, written_step}
 use Rattle.run_defs.specs.States.{State, Lengths, stepped, step_spent}
 use Rattle.run_defs.specs.Runs.{Reading, PlainGiven, Plain, plain_way, input_of, stepped_with, ue_stepped, acts_on, plain_by, plain_world}
 use Rattle.proof_run_steps.specs.steps.Reached.{reached}
 use Rattle.proof_run_steps.proofs.steps.Frames.{reached_relates}
 use Rattle.proof_unit_steps.specs.answers.After.{HoldsAfter}
-use Rattle.proof_unit_steps.specs.receivers.Ready.{UpReady, UeReady}
+use Rattle.proof_unit_steps.specs.receivers.Ready.{CuUpReady, UeReady}
 use Rattle.proof_run_steps.specs.receivers.AllReady.{AreReady}
 use Rattle.proof_unit_steps.proofs.receivers.CuUps.{cu_up_stores}
 use Rattle.proof_unit_steps.proofs.receivers.Terminals.{terminal_stores}
@@ -41,12 +41,12 @@ module _ (reading : Reading) where
   AnsweredWell u (stepped outputs v) = GoesOn u v
   AnsweredWell u (step_spent counter) = Unit {0}
 
-  by_cp : (u : PlainUnits) (gnb : Gnb) (a : Plain (CuCpRecord (Message Token) Token)) → Answered u (stepped_with reading (with_cp u gnb) a)
+  by_cp : (u : PlainUnits) (gnb : Gnb) (a : Plain (CuCpRecord (Message Token) Token)) → Answered u (stepped_with reading (with_cu_cp u gnb) a)
   by_cp u gnb (gives outputs r) = λ p. with_cp_ready u gnb r p
   by_cp u gnb (spent counter) = tt
 
-  by_up : (u : PlainUnits) (gnb : Gnb) (number : ℕ) (a : Plain (CuUp (Message Token) Token)) → (UpReady (up_of u gnb number) → HoldsAfter (λ (r : CuUp (Message Token) Token). UpReady r) a)
-      → Answered u (stepped_with reading (with_up u gnb number) a)
+  by_up : (u : PlainUnits) (gnb : Gnb) (number : ℕ) (a : Plain (CuUp (Message Token) Token)) → (CuUpReady (cu_up_of u gnb number) → HoldsAfter (λ (r : CuUp (Message Token) Token). CuUpReady r) a)
+      → Answered u (stepped_with reading (with_cu_up u gnb number) a)
   by_up u gnb number (gives outputs r) h = λ p. with_up_ready u gnb number r p (h (p.0 gnb number))
   by_up u gnb number (spent counter) h = tt
 
@@ -59,9 +59,9 @@ module _ (reading : Reading) where
   by_ue u ue (spent counter) h = tt
 
   acted : (u : PlainUnits) (node : NodeId) (input : Input Token Pdu) → Answered u (acts_on reading u node input)
-  acted u (CuCp gnb) input = by_cp u gnb (cu_cp_acts plain_way (cp_of u gnb) input)
+  acted u (CuCp gnb) input = by_cp u gnb (cu_cp_acts plain_way (cu_cp_of u gnb) input)
   acted u (up_id gnb number) input =
-      by_up u gnb number (cu_up_acts plain_way (up_of u gnb number) input) (cu_up_stores plain_way (up_of u gnb number) input)
+      by_up u gnb number (cu_up_acts plain_way (cu_up_of u gnb number) input) (cu_up_stores plain_way (cu_up_of u gnb number) input)
   acted u (du_id gnb number) input =
       by_du u gnb number (du_acts plain_way (du_of u gnb number) input)
   acted u (Ue ue) input = there (ue_of u (record { 0 = ue })) refl

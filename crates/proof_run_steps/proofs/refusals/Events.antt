@@ -21,13 +21,13 @@ use Rattle.unit_defs.specs.Core.{CorePath}
 use Rattle.unit_defs.specs.Ue.{may_return}
 use Rattle.unit_defs.specs.Accessors.{ue_home}
 use Rattle.transport_defs.specs.declared.Item.{Item}
-use Rattle.transport_defs.specs.declared.Letter.{Letter}
-use Rattle.transport_defs.specs.Links.{letter, landed, nth, is_in}
+use Rattle.transport_defs.specs.declared.ControlMessage.{ControlMessage}
+use Rattle.transport_defs.specs.Links.{control_message, landed, nth, is_in}
 use Rattle.run_defs.specs.Lines.{is_quiet, is_busy, lost_message}
 use Rattle.run_defs.specs.Units.{ue_of, is_source}
-use Rattle.run_defs.specs.States.{State, letter_for, item_for, carried_for, confirmed_for, offer_for, tick_for, order_for, octets_from, octets_on, prints, sn_of, World, stops, goes_on, Outcome, as_step, entity, CoreStepped, core_stepped, was_attached, is_attached, radio_of, spent_counter}
-use Rattle.run_defs.specs.Steps.{Done, is_done, is_held, is_refused, does, ordered_by, step, too_many_letters, letters_spent}
-use Rattle.run_defs.specs.Conditions.{ready_home, receiver_of, sender_of, takes_letters, ticking, serving_gnb, serving_place, goal_of, rests, has_started, state_at, is_same_place, is_other_up, is_busy_with, is_interface}
+use Rattle.run_defs.specs.States.{State, control_message_for, item_for, carried_for, confirmed_for, offer_for, tick_for, order_for, octets_from, octets_on, prints, sn_of, World, stops, goes_on, Outcome, as_step, entity, CoreStepped, core_stepped, was_attached, is_attached, radio_of, spent_counter}
+use Rattle.run_defs.specs.Steps.{Done, is_done, is_held, is_refused, does, ordered_by, step, too_many_control_messages, control_messages_spent}
+use Rattle.run_defs.specs.Conditions.{ready_home, receiver_of, sender_of, takes_control_messages, ticking, serving_gnb, serving_place, goal_of, rests, has_started, state_at, is_same_place, is_other_up, is_busy_with, is_interface}
 use Rattle.run_defs.specs.Events.{taken_off, carried_off, confirmed_off, pump_limit, order_each, with_terminal, attach, offered, offer_on_path, offer_by, offer, get_done, got_by, get_on, get, carry_done, carried_by, air_item, air_at, air, confirm_done, ack_items, ack_at, ack, landed_as, core_put, give_to, give_on, give, lose_message_on, lose_message, lose_items, lose_item_on, lose_item, pump_on, pump_times, pump, tick, poll_at, poll, fail, arrive, come_back, handover_to, handover, cancel, leaves, release, ask, core_injected, inject_to, inject_message, inject_item}
 use Rattle.proof_run_steps.proofs.refusals.Steps.{Stays, Keeps, then_more, a_step, just_goes_on, goes_refused, choose, DoneStays, DoneKeeps, goes_does, goes_ordered, goes_step}
 
@@ -123,35 +123,35 @@ module _ {M C L P : Type 0} (world : World M C L P) where
 
   -- ---- give, lose and pump
 
-  goes_core : (number : ℕ) (l : Letter M) (answer : CoreStepped M C L P) → Keeps world (λ s. core_put world number l s answer)
+  goes_core : (number : ℕ) (l : ControlMessage M) (answer : CoreStepped M C L P) → Keeps world (λ s. core_put world number l s answer)
   goes_core number l (core_stepped outputs core) s =
-      choose world s (too_many_letters world outputs s) (stops [] (spent_counter letters_spent)) _ (record { it = tt }) (a_step world s Core _)
+      choose world s (too_many_control_messages world outputs s) (stops [] (spent_counter control_messages_spent)) _ (record { it = tt }) (a_step world s Core _)
 
-  goes_to_unit : (number : ℕ) (l : Letter M) (node : NodeId) (s : State M C L P)
+  goes_to_unit : (number : ℕ) (l : ControlMessage M) (node : NodeId) (s : State M C L P)
       → Stays world s
-      (if takes_letters s node then ordered_by world s (does world node (letter_for l.from l.message) None (landed_as world number l) s)
+      (if takes_control_messages s node then ordered_by world s (does world node (control_message_for l.from l.message) None (landed_as world number l) s)
       else as_step (Some node) (landed_as world number l s))
   goes_to_unit number l node s =
       choose world s _ _ _
-      (goes_ordered world s _ (goes_does world node None (landed_as world number l) s (letter_for l.from l.message)))
+      (goes_ordered world s _ (goes_does world node None (landed_as world number l) s (control_message_for l.from l.message)))
       (a_step world s node (landed_as world number l s))
 
-  goes_to : (number : ℕ) (l : Letter M) (node : NodeId) → Keeps world (give_to world number l node)
-  goes_to number l Core s = goes_core number l (world.core_answer (sn_of s) s.core (letter_for l.from l.message)) s
+  goes_to : (number : ℕ) (l : ControlMessage M) (node : NodeId) → Keeps world (give_to world number l node)
+  goes_to number l Core s = goes_core number l (world.core_answer (sn_of s) s.core (control_message_for l.from l.message)) s
   goes_to number l (CuCp gnb) s = goes_to_unit number l (CuCp gnb) s
   goes_to number l (CuUp gnb n) s = goes_to_unit number l (CuUp gnb n) s
   goes_to number l (Du gnb n) s = goes_to_unit number l (Du gnb n) s
   goes_to number l (Ue ue) s = goes_to_unit number l (Ue ue) s
 
-  goes_give_on : (number : ℕ) (o : Option (Letter M)) → Keeps world (λ s. give_on world number s o)
+  goes_give_on : (number : ℕ) (o : Option (ControlMessage M)) → Keeps world (λ s. give_on world number s o)
   goes_give_on number None s = goes_refused world _ s
   goes_give_on number (Some l) s = goes_to number l l.to s
 
   pub goes_give : (number : ℕ) → Keeps world (give world number)
   unfolding give
-  goes_give number s = goes_give_on number (letter s.bag number) s
+  goes_give number s = goes_give_on number (control_message s.bag number) s
 
-  goes_lose_message_on : (number : ℕ) (o : Option (Letter M)) → Keeps world (λ s. lose_message_on world number s o)
+  goes_lose_message_on : (number : ℕ) (o : Option (ControlMessage M)) → Keeps world (λ s. lose_message_on world number s o)
   goes_lose_message_on number None s = goes_refused world _ s
   goes_lose_message_on number (Some l) s =
       choose world s (is_in number s.bag.flight) (prints (lost_message number ∷ []) (record s { bag = landed s.bag number })) _
@@ -159,7 +159,7 @@ module _ {M C L P : Type 0} (world : World M C L P) where
 
   pub goes_lose_message : (number : ℕ) → Keeps world (lose_message world number)
   unfolding lose_message
-  goes_lose_message number s = goes_lose_message_on number (letter s.bag number) s
+  goes_lose_message number s = goes_lose_message_on number (control_message s.bag number) s
 
   goes_lose_items : (end : TunnelEnd) (items : List (Item L)) → Keeps world (λ s. lose_items world end s items)
   goes_lose_items end [] s = goes_refused world _ s
@@ -242,8 +242,8 @@ module _ {M C L P : Type 0} (world : World M C L P) where
   unfolding cancel
   goes_cancel ue s =
       choose world s (not (is_attached s ue)) _ _ (goes_refused world NoUe s)
-      (choose world s (is_source s.units.cp_a ue) _ _ (goes_step world (CuCp A) (order_for (orders.Cancel ue)) s)
-      (choose world s (is_source s.units.cp_b ue) _ _ (goes_step world (CuCp B) (order_for (orders.Cancel ue)) s)
+      (choose world s (is_source s.units.cu_cp_a ue) _ _ (goes_step world (CuCp A) (order_for (orders.Cancel ue)) s)
+      (choose world s (is_source s.units.cu_cp_b ue) _ _ (goes_step world (CuCp B) (order_for (orders.Cancel ue)) s)
       (goes_refused world Empty s)))
 
   pub goes_release : (ue : UeId) → Keeps world (release world ue)

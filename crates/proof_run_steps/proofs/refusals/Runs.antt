@@ -7,10 +7,10 @@ use Rattle.gnb_types.specs.declared.inputs.Order.TheVariants as orders
 use Rattle.gnb_types.specs.declared.reasons.RefuseReason.{RefuseReason}
 use Rattle.gnb_types.specs.declared.reasons.RefuseReason.TheVariants.{Attached, Quota, Busy}
 use Rattle.unit_defs.specs.Ways.{teids_spent}
-use Rattle.unit_defs.specs.Static.{up_has_room, up_has_teids, du_has_teids}
+use Rattle.unit_defs.specs.Static.{cu_up_has_room, cu_up_has_teids, du_has_teids}
 use Rattle.scenario_text.specs.declared.event.Event.{Event}
 use Rattle.scenario_text.specs.declared.event.Event.TheVariants as events
-use Rattle.run_defs.specs.Units.{starting_nodes, up_of, du_of}
+use Rattle.run_defs.specs.Units.{starting_nodes, cu_up_of, du_of}
 use Rattle.run_defs.specs.States.{State, World, goes, stops, goes_on, Outcome, entity, was_attached, spent_counter, refused, order_for}
 use Rattle.run_defs.specs.Steps.{step}
 use Rattle.run_defs.specs.Conditions.{statically, is_held_by_units}
@@ -43,8 +43,8 @@ module _ {M C L P : Type 0} (world : World M C L P) where
   unfolding static
   static_back plan s =
       either s (was_attached s plan.ue || is_held_by_units plan s.units) (refused Attached s) _ (λ h. refused_back Attached s)
-      (λ h. either s (not (up_has_room (up_of s.units plan.gnb plan.up) plan)) (refused Quota s) _ (λ h. refused_back Quota s)
-      (λ h. either s (up_has_teids (up_of s.units plan.gnb plan.up) plan && du_has_teids (du_of s.units plan.gnb plan.du) plan)
+      (λ h. either s (not (cu_up_has_room (cu_up_of s.units plan.gnb plan.up) plan)) (refused Quota s) _ (λ h. refused_back Quota s)
+      (λ h. either s (cu_up_has_teids (cu_up_of s.units plan.gnb plan.up) plan && du_has_teids (du_of s.units plan.gnb plan.du) plan)
       (goes_on (statically plan s)) (stops [] (spent_counter teids_spent)) (λ h. record { it = λ w. absurd (cc w.1) }) (λ h. record { it = tt })))
 
   pub start_back : (s : State M C L P) → s.started ≡ true → Back s (start world s)

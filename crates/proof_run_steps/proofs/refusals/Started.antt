@@ -12,15 +12,15 @@ use Rattle.message_types.specs.declared.rrc.Token.{Token}
 use Rattle.transaction_defs.specs.Callers.{Begin, begun, running, spent as begins_no_more, begin, is_open}
 use Rattle.unit_defs.specs.Ways.{Message, e1, Pdu, Load, control, held, no, Output, Answer, gives, spent, ◌then◌, nothing}
 use Rattle.unit_defs.specs.Transactions.{no_instance, Transactions, Waiting, Asked, is_empty, waits_at, begun_as, begin_request, ask}
-use Rattle.unit_defs.specs.UpRecords.{CuUp}
+use Rattle.unit_defs.specs.CuUpRecords.{CuUp}
 use Rattle.unit_defs.specs.CuUp.{start as up_start, cu_up_acts, up_node, with_transactions}
 use Rattle.unit_defs.specs.Messages.{channel}
 use Rattle.gnb_types.specs.Names.{node_text}
 use Rattle.message_types.specs.declared.e1.E1Message.TheVariants.{E1SetupRequest}
-use Rattle.run_defs.specs.Units.{Units, up_of, with_up, starting_nodes, units_of_gnb}
+use Rattle.run_defs.specs.Units.{Units, cu_up_of, with_cu_up, starting_nodes, units_of_gnb}
 use Rattle.run_defs.specs.Written.{Written, written_put, written_step}
 use Rattle.run_defs.specs.States.{State, Lengths, Stepped, stepped, step_spent, World, order_for, sn_of, spent_counter, goes, stops, goes_on, told_before, ◌next◌, Within, Outcome, RunStep, as_step, refused}
-use Rattle.run_defs.specs.Steps.{letters_spent, too_many_letters, is_done, carried_out, done_with, does, ordered_by, step}
+use Rattle.run_defs.specs.Steps.{control_messages_spent, too_many_control_messages, is_done, carried_out, done_with, does, ordered_by, step}
 use Rattle.run_defs.specs.Events.{start, order_each}
 use Rattle.run_defs.specs.Runs.{Reading, plain_way, stepped_with, plain_world}
 use Rattle.proof_run_steps.specs.refusals.Refusals.{StaysWhereRefused}
@@ -62,7 +62,7 @@ module _ {M C L P : Type 0} (world : World M C L P) where
   IsTaken answer = Unit {0}
 
   few_or_not : (node : NodeId) (s : State M C L P) (t : Bool) (w : Within M C L P)
-      → IsActed (ordered_by world s (if t then is_done (stops [] (spent_counter letters_spent)) else is_done (as_step (Some node) w)))
+      → IsActed (ordered_by world s (if t then is_done (stops [] (spent_counter control_messages_spent)) else is_done (as_step (Some node) w)))
   few_or_not node s true w = tt
   few_or_not node s false w = of_unit node w
 
@@ -71,7 +71,7 @@ module _ {M C L P : Type 0} (world : World M C L P) where
   taken_acts node s (stepped (held reason ∷ []) units) p = absurd p
   taken_acts node s (stepped (no reason ∷ []) units) p = absurd p
   taken_acts node s (stepped outputs units) p =
-      few_or_not node s (too_many_letters world outputs s) (carried_out world node None goes_on outputs units s)
+      few_or_not node s (too_many_control_messages world outputs s) (carried_out world node None goes_on outputs units s)
   taken_acts node s (step_spent counter) p = tt
 
   pub taken_start : (s : State M C L P)
@@ -138,12 +138,12 @@ taken_if_controls reading sn (control to ue message ∷ output ∷ outputs) unit
 taken_if_controls reading sn (output ∷ outputs) units p = absurd p
 
 plain_taken : (reading : Reading) (sn : Lengths) (units : Units (Message Token) Token) (a : Answer (Message Token) Pdu (CuUp (Message Token) Token)) → Controls a
-    → IsTaken (plain_world reading) (written_step sn (stepped_with reading (with_up units A 1) a))
-plain_taken reading sn units (gives outputs after) p = taken_if_controls reading sn outputs (with_up units A 1 after) p
+    → IsTaken (plain_world reading) (written_step sn (stepped_with reading (with_cu_up units A 1) a))
+plain_taken reading sn units (gives outputs after) p = taken_if_controls reading sn outputs (with_cu_up units A 1 after) p
 plain_taken reading sn units (spent counter) p = tt
 
 pub start_in_run : (reading : Reading) (s : State (Message Token) Token (Written (Load Pdu)) (Written Pdu))
     → Back (plain_world reading) s (start (plain_world reading) s)
 unfolding cu_up_acts
 start_in_run reading s =
-    taken_start (plain_world reading) s (λ t. plain_taken reading (sn_of t) t.units (up_start plain_way (up_of t.units A 1)) (start_controls (up_of t.units A 1)))
+    taken_start (plain_world reading) s (λ t. plain_taken reading (sn_of t) t.units (up_start plain_way (cu_up_of t.units A 1)) (start_controls (cu_up_of t.units A 1)))

@@ -9,7 +9,7 @@ use Rattle.unit_defs.specs.Ways.{Put, held, no}
 use Rattle.run_defs.specs.Lines.{RunLine, was_refused}
 use Rattle.run_defs.specs.Units.{Units}
 use Rattle.run_defs.specs.States.{State, Given, Stepped, stepped, step_spent, World, sn_of, spent_counter, goes, stops, told_before, ◌next◌, goes_on, Within, Outcome, RunStep, as_step, refused}
-use Rattle.run_defs.specs.Steps.{letters_spent, too_many_letters, Done, is_done, is_held, is_refused, carried_out, done_with, does, ordered_by, step}
+use Rattle.run_defs.specs.Steps.{control_messages_spent, too_many_control_messages, Done, is_done, is_held, is_refused, carried_out, done_with, does, ordered_by, step}
 
 abbrev refuses : {M : Type 0} → Option NodeId → List (RunLine M) → Bool
 refuses (Some node) lines = false
@@ -83,14 +83,14 @@ module _ {M C L P : Type 0} (world : World M C L P) where
 
   module _ (node : NodeId) (taken : Option ℕ) (first : State M C L P → Within M C L P) (s : State M C L P) where
     goes_if_few : (outputs : List (Put M L P)) (units : Units M C) (t : Bool)
-        → DoneStays s (if t then is_done (stops [] (spent_counter letters_spent)) else is_done (as_step (Some node) (carried_out world node taken first outputs units s)))
+        → DoneStays s (if t then is_done (stops [] (spent_counter control_messages_spent)) else is_done (as_step (Some node) (carried_out world node taken first outputs units s)))
     goes_if_few outputs units true = record { it = tt }
     goes_if_few outputs units false = a_step s node (carried_out world node taken first outputs units s)
 
     goes_done : (answer : Stepped M C L P) → DoneStays s (done_with world node taken first s answer)
     goes_done (stepped (held reason ∷ []) units) = tt
     goes_done (stepped (no reason ∷ []) units) = tt
-    goes_done (stepped outputs units) = goes_if_few outputs units (too_many_letters world outputs s)
+    goes_done (stepped outputs units) = goes_if_few outputs units (too_many_control_messages world outputs s)
     goes_done (step_spent counter) = record { it = tt }
 
     pub goes_does : (given : Given M L P) → DoneKeeps s (does world node given taken first s)

@@ -23,18 +23,18 @@ use Rattle.unit_defs.specs.Ways.{teids_spent}
 use Rattle.unit_defs.specs.Core.{CorePath}
 use Rattle.unit_defs.specs.Ue.{is_connected, is_accessing, may_return}
 use Rattle.unit_defs.specs.Accessors.{ue_home}
-use Rattle.unit_defs.specs.Static.{up_has_room, up_has_teids, du_has_teids}
+use Rattle.unit_defs.specs.Static.{cu_up_has_room, cu_up_has_teids, du_has_teids}
 use Rattle.transport_defs.specs.declared.Item.{Item}
-use Rattle.transport_defs.specs.declared.Letter.{Letter}
-use Rattle.transport_defs.specs.Links.{letter, nth, is_in}
-use Rattle.run_defs.specs.Units.{starting_nodes, up_of, du_of, ue_of, is_source}
+use Rattle.transport_defs.specs.declared.ControlMessage.{ControlMessage}
+use Rattle.transport_defs.specs.Links.{control_message, nth, is_in}
+use Rattle.run_defs.specs.Units.{starting_nodes, cu_up_of, du_of, ue_of, is_source}
 use Rattle.run_defs.specs.Lines.{is_quiet, is_busy}
-use Rattle.run_defs.specs.States.{State, letter_for, offer_for, tick_for, order_for, octets_from, octets_on, prints, sn_of, World, goes_on, Outcome, as_step, entity, CoreStepped, core_stepped, was_attached, is_attached, has_bearer, radio_of, spent_counter}
-use Rattle.run_defs.specs.Steps.{Done, is_done, is_held, is_refused, does, ordered_by, step, too_many_letters, letters_spent}
-use Rattle.run_defs.specs.Conditions.{ready_home, takes_letters, ticking, serving_gnb, serving_place, goal_of, rests, has_started, state_at, is_same_place, is_other_up, is_busy_with, is_interface, is_held_by_units}
+use Rattle.run_defs.specs.States.{State, control_message_for, offer_for, tick_for, order_for, octets_from, octets_on, prints, sn_of, World, goes_on, Outcome, as_step, entity, CoreStepped, core_stepped, was_attached, is_attached, has_bearer, radio_of, spent_counter}
+use Rattle.run_defs.specs.Steps.{Done, is_done, is_held, is_refused, does, ordered_by, step, too_many_control_messages, control_messages_spent}
+use Rattle.run_defs.specs.Conditions.{ready_home, takes_control_messages, ticking, serving_gnb, serving_place, goal_of, rests, has_started, state_at, is_same_place, is_other_up, is_busy_with, is_interface, is_held_by_units}
 use Rattle.run_defs.specs.Events.{pump_limit, static, order_each, start, with_terminal, attach, offered, offer_on_path, offer_by, offer, get_done, got_by, get_on, get, carry_done, carried_by, air_item, air_at, air, confirm_done, ack_items, ack_at, ack, landed_as, core_put, give_to, give_on, give, lose_message_on, lose_message, lose_items, lose_item_on, lose_item, pump_on, pump_times, pump, tick, poll_at, poll, fail, arrive, come_back, handover_to, handover, cancel, leaves, release, ask, core_injected, inject_to, inject_message, inject_item}
-use Rattle.proof_run_steps.specs.steps.Causes.{by_tick, by_octets, by_octets_on, by_attach, by_release, by_offer, by_item, by_air, by_ack, by_letter}
-use Rattle.proof_run_steps.specs.steps.Made.{Made, stays, ends, then_made, sets_up, starts, holds_item, holds_pdu, offers, core_takes, core_reads, lands, loses_letter, loses_item, remarks}
+use Rattle.proof_run_steps.specs.steps.Causes.{by_tick, by_octets, by_octets_on, by_attach, by_release, by_offer, by_item, by_air, by_ack, by_control_message}
+use Rattle.proof_run_steps.specs.steps.IsOutcome.{IsOutcome, stays, ends, then_made, sets_up, starts, holds_item, holds_pdu, offers, core_takes, core_reads, lands, loses_control_message, loses_item, remarks}
 use Rattle.proof_run_steps.proofs.steps.Steps.{Keeps, goes_refused, choose, DoneMade, goes_does, goes_ordered, goes_order}
 
 holds_not : (b : Bool) → not b ≡ false → b ≡ true
@@ -48,8 +48,8 @@ module _ {M C L P : Type 0} (world : World M C L P) (event : Event) where
   unfolding static
   goes_static plan is s =
       choose world event s (was_attached s plan.ue || is_held_by_units plan s.units) _ _ (λ h. goes_refused world event Attached s)
-      (λ free. choose world event s (not (up_has_room (up_of s.units plan.gnb plan.up) plan)) _ _ (λ h. goes_refused world event reasons.Quota s)
-      (λ room. choose world event s (up_has_teids (up_of s.units plan.gnb plan.up) plan && du_has_teids (du_of s.units plan.gnb plan.du) plan) _ _
+      (λ free. choose world event s (not (cu_up_has_room (cu_up_of s.units plan.gnb plan.up) plan)) _ _ (λ h. goes_refused world event reasons.Quota s)
+      (λ room. choose world event s (cu_up_has_teids (cu_up_of s.units plan.gnb plan.up) plan && du_has_teids (du_of s.units plan.gnb plan.du) plan) _ _
       (λ teids. sets_up s plan is free (holds_not _ room) teids) (λ h. ends s (spent_counter teids_spent))))
 
   pub goes_each : (f : NodeId → State M C L P → Outcome M C L P) → ((node : NodeId) → Keeps world event (f node)) → (nodes : List NodeId)
@@ -75,13 +75,13 @@ module _ {M C L P : Type 0} (world : World M C L P) (event : Event) where
   -- ---- offer
 
   goes_on_path : (ue : UeId) (bearer : BearerId) (p : List ℕ) → event ≡ events.Offer ue bearer Dl p → (s : State M C L P) (o : Option CorePath)
-      → find ue_cmp s.core.paths ue ≡ o → Made world event s (offer_on_path world ue bearer p s o)
+      → find ue_cmp s.core.paths ue ≡ o → IsOutcome world event s (offer_on_path world ue bearer p s o)
   goes_on_path ue bearer p is s None found = goes_refused world event reasons.NoPath s
   goes_on_path ue bearer p is s (Some path) found =
       choose world event s _ _ _ (λ h. goes_refused world event reasons.Size s) (λ h. offers s ue bearer p path is found)
 
   goes_offer_by : (dir : Dir) (ue : UeId) (bearer : BearerId) (p : List ℕ) → event ≡ events.Offer ue bearer dir p → (s : State M C L P)
-      → has_bearer s ue bearer ≡ true → Made world event s (offer_by world dir ue bearer p s)
+      → has_bearer s ue bearer ≡ true → IsOutcome world event s (offer_by world dir ue bearer p s)
   goes_offer_by Dl ue bearer p is s has = goes_on_path ue bearer p is s (find ue_cmp s.core.paths ue) refl
   goes_offer_by Ul ue bearer p is s has =
       goes_ordered world event s (does world (Ue ue.0) (offer_for ue bearer p) None (λ t. goes_on (offered world (entity ue bearer Ul) t)) s)
@@ -95,13 +95,13 @@ module _ {M C L P : Type 0} (world : World M C L P) (event : Event) where
 
   -- ---- get
 
-  goes_got : (end : TunnelEnd) (s : State M C L P) (d : Done M C L P) → DoneMade world event s d → Made world event s (got_by world end s d)
+  goes_got : (end : TunnelEnd) (s : State M C L P) (d : Done M C L P) → DoneMade world event s d → IsOutcome world event s (got_by world end s d)
   goes_got end s (is_done outcome) p = p
   goes_got end s (is_held reason) p = holds_item s end reason
   goes_got end s (is_refused reason) p = goes_refused world event reason s
 
   goes_get_on : (end : TunnelEnd) (s : State M C L P) (o : Option (List (Item L))) → find tunnel_cmp s.tunnels end ≡ o
-      → Made world event s (get_on world end s o)
+      → IsOutcome world event s (get_on world end s o)
   goes_get_on end s None found = goes_refused world event NoSuch s
   goes_get_on end s (Some []) found = goes_refused world event Empty s
   goes_get_on end s (Some (item ∷ rest)) found =
@@ -114,18 +114,18 @@ module _ {M C L P : Type 0} (world : World M C L P) (event : Event) where
   -- ---- air and ack
 
   goes_carried_by : (key : EntityKey) (home : NodeId) (s : State M C L P) (d : Done M C L P) → DoneMade world event s d
-      → Made world event s (carried_by world key home s d)
+      → IsOutcome world event s (carried_by world key home s d)
   goes_carried_by key home s (is_done outcome) p = p
   goes_carried_by key home s (is_held reason) p = holds_pdu s key home reason
   goes_carried_by key home s (is_refused reason) p = goes_refused world event reason s
 
   goes_air_item : (key : EntityKey) (home : NodeId) (s : State M C L P) → ready_home s key.ue ≡ Some home → (o : Option (Item P))
-      → nth (radio_of s key).items (radio_of s key).carried ≡ o → Made world event s (air_item world key home s o)
+      → nth (radio_of s key).items (radio_of s key).carried ≡ o → IsOutcome world event s (air_item world key home s o)
   goes_air_item key home s ready None found = goes_refused world event Empty s
   goes_air_item key home s ready (Some item) found =
       goes_carried_by key home s (carry_done world key home item s) (goes_does world event (by_air key home item) s (ready, found))
 
-  goes_air_at : (key : EntityKey) (s : State M C L P) (o : Option NodeId) → ready_home s key.ue ≡ o → Made world event s (air_at world key s o)
+  goes_air_at : (key : EntityKey) (s : State M C L P) (o : Option NodeId) → ready_home s key.ue ≡ o → IsOutcome world event s (air_at world key s o)
   goes_air_at key s None ready = goes_refused world event reasons.NoRadio s
   goes_air_at key s (Some home) ready = goes_air_item key home s ready (nth (radio_of s key).items (radio_of s key).carried) refl
 
@@ -135,14 +135,14 @@ module _ {M C L P : Type 0} (world : World M C L P) (event : Event) where
       choose world event s _ _ _ (λ h. goes_air_at key s (ready_home s key.ue) refl) (λ h. goes_refused world event reasons.NoBearer s)
 
   goes_ack_items : (key : EntityKey) (home : NodeId) (s : State M C L P) → ready_home s key.ue ≡ Some home → (items : List (Item P))
-      → (radio_of s key).items ≡ items → Made world event s (ack_items world key home s items (radio_of s key).carried)
+      → (radio_of s key).items ≡ items → IsOutcome world event s (ack_items world key home s items (radio_of s key).carried)
   goes_ack_items key home s ready [] are = goes_refused world event Empty s
   goes_ack_items key home s ready (item ∷ rest) are =
       choose world event s ((radio_of s key).carried == 0) _ _ (λ h. goes_refused world event Empty s)
       (λ some. goes_ordered world event s (confirm_done world key home item rest s)
       (goes_does world event (by_ack key home item rest) s (ready, are, some)))
 
-  goes_ack_at : (key : EntityKey) (s : State M C L P) (o : Option NodeId) → ready_home s key.ue ≡ o → Made world event s (ack_at world key s o)
+  goes_ack_at : (key : EntityKey) (s : State M C L P) (o : Option NodeId) → ready_home s key.ue ≡ o → IsOutcome world event s (ack_at world key s o)
   goes_ack_at key s None ready = goes_refused world event reasons.NoRadio s
   goes_ack_at key s (Some home) ready = goes_ack_items key home s ready (radio_of s key).items refl
 
@@ -153,54 +153,54 @@ module _ {M C L P : Type 0} (world : World M C L P) (event : Event) where
 
   -- ---- give, lose and pump
 
-  goes_core : (number : ℕ) (l : Letter M) (s : State M C L P) → letter s.bag number ≡ Some l → l.to ≡ Core → (answer : CoreStepped M C L P)
-      → world.core_answer (sn_of s) s.core (letter_for l.from l.message) ≡ answer → Made world event s (core_put world number l s answer)
+  goes_core : (number : ℕ) (l : ControlMessage M) (s : State M C L P) → control_message s.bag number ≡ Some l → l.to ≡ Core → (answer : CoreStepped M C L P)
+      → world.core_answer (sn_of s) s.core (control_message_for l.from l.message) ≡ answer → IsOutcome world event s (core_put world number l s answer)
   goes_core number l s found at (core_stepped outputs core) is =
-      choose world event s (too_many_letters world outputs s) _ _ (λ h. ends s (spent_counter letters_spent))
+      choose world event s (too_many_control_messages world outputs s) _ _ (λ h. ends s (spent_counter control_messages_spent))
       (λ few. core_takes s number l outputs core found at is few)
 
-  goes_to_unit : (number : ℕ) (l : Letter M) (node : NodeId) (s : State M C L P) → letter s.bag number ≡ Some l → l.to ≡ node
-      → Made world event s
-      (if takes_letters s node then ordered_by world s (does world node (letter_for l.from l.message) None (landed_as world number l) s)
+  goes_to_unit : (number : ℕ) (l : ControlMessage M) (node : NodeId) (s : State M C L P) → control_message s.bag number ≡ Some l → l.to ≡ node
+      → IsOutcome world event s
+      (if takes_control_messages s node then ordered_by world s (does world node (control_message_for l.from l.message) None (landed_as world number l) s)
       else as_step (Some node) (landed_as world number l s))
   goes_to_unit number l node s found at =
-      choose world event s (takes_letters s node) _ _
-      (λ takes. goes_ordered world event s (does world node (letter_for l.from l.message) None (landed_as world number l) s)
-      (goes_does world event (by_letter number l node) s (found, at, takes)))
+      choose world event s (takes_control_messages s node) _ _
+      (λ takes. goes_ordered world event s (does world node (control_message_for l.from l.message) None (landed_as world number l) s)
+      (goes_does world event (by_control_message number l node) s (found, at, takes)))
       (λ h. lands s number l node found at)
 
-  goes_to : (number : ℕ) (l : Letter M) (node : NodeId) (s : State M C L P) → letter s.bag number ≡ Some l → l.to ≡ node
-      → Made world event s (give_to world number l node s)
-  goes_to number l Core s found at = goes_core number l s found at (world.core_answer (sn_of s) s.core (letter_for l.from l.message)) refl
+  goes_to : (number : ℕ) (l : ControlMessage M) (node : NodeId) (s : State M C L P) → control_message s.bag number ≡ Some l → l.to ≡ node
+      → IsOutcome world event s (give_to world number l node s)
+  goes_to number l Core s found at = goes_core number l s found at (world.core_answer (sn_of s) s.core (control_message_for l.from l.message)) refl
   goes_to number l (CuCp gnb) s found at = goes_to_unit number l (CuCp gnb) s found at
   goes_to number l (CuUp gnb n) s found at = goes_to_unit number l (CuUp gnb n) s found at
   goes_to number l (Du gnb n) s found at = goes_to_unit number l (Du gnb n) s found at
   goes_to number l (Ue ue) s found at = goes_to_unit number l (Ue ue) s found at
 
-  goes_give_on : (number : ℕ) (s : State M C L P) (o : Option (Letter M)) → letter s.bag number ≡ o → Made world event s (give_on world number s o)
+  goes_give_on : (number : ℕ) (s : State M C L P) (o : Option (ControlMessage M)) → control_message s.bag number ≡ o → IsOutcome world event s (give_on world number s o)
   goes_give_on number s None found = goes_refused world event NoSuch s
   goes_give_on number s (Some l) found = goes_to number l l.to s found refl
 
   pub goes_give : (number : ℕ) → Keeps world event (give world number)
   unfolding give
-  goes_give number s = goes_give_on number s (letter s.bag number) refl
+  goes_give number s = goes_give_on number s (control_message s.bag number) refl
 
-  goes_lose_message_on : (number : ℕ) (o : Option (Letter M)) → Keeps world event (λ s. lose_message_on world number s o)
+  goes_lose_message_on : (number : ℕ) (o : Option (ControlMessage M)) → Keeps world event (λ s. lose_message_on world number s o)
   goes_lose_message_on number None s = goes_refused world event NoSuch s
   goes_lose_message_on number (Some l) s =
-      choose world event s (is_in number s.bag.flight) _ _ (λ h. loses_letter s number) (λ h. goes_refused world event Empty s)
+      choose world event s (is_in number s.bag.flight) _ _ (λ h. loses_control_message s number) (λ h. goes_refused world event Empty s)
 
   pub goes_lose_message : (number : ℕ) → Keeps world event (lose_message world number)
   unfolding lose_message
-  goes_lose_message number s = goes_lose_message_on number (letter s.bag number) s
+  goes_lose_message number s = goes_lose_message_on number (control_message s.bag number) s
 
   goes_lose_items : (end : TunnelEnd) (s : State M C L P) (items : List (Item L)) → find tunnel_cmp s.tunnels end ≡ Some items
-      → Made world event s (lose_items world end s items)
+      → IsOutcome world event s (lose_items world end s items)
   goes_lose_items end s [] found = goes_refused world event Empty s
   goes_lose_items end s (item ∷ rest) found = loses_item s end item rest found
 
   goes_lose_item_on : (end : TunnelEnd) (s : State M C L P) (o : Option (List (Item L))) → find tunnel_cmp s.tunnels end ≡ o
-      → Made world event s (lose_item_on world end s o)
+      → IsOutcome world event s (lose_item_on world end s o)
   goes_lose_item_on end s None found = goes_refused world event NoSuch s
   goes_lose_item_on end s (Some items) found =
       choose world event s _ _ _ (λ h. goes_lose_items end s items found) (λ h. goes_refused world event NotAllowed s)
@@ -286,8 +286,8 @@ module _ {M C L P : Type 0} (world : World M C L P) (event : Event) where
   unfolding cancel
   goes_cancel ue s =
       choose world event s (not (is_attached s ue)) _ _ (λ h. goes_refused world event NoUe s)
-      (λ h. choose world event s (is_source s.units.cp_a ue) _ _ (λ h. goes_order world event (CuCp A) (orders.Cancel ue) tt s)
-      (λ h. choose world event s (is_source s.units.cp_b ue) _ _ (λ h. goes_order world event (CuCp B) (orders.Cancel ue) tt s)
+      (λ h. choose world event s (is_source s.units.cu_cp_a ue) _ _ (λ h. goes_order world event (CuCp A) (orders.Cancel ue) tt s)
+      (λ h. choose world event s (is_source s.units.cu_cp_b ue) _ _ (λ h. goes_order world event (CuCp B) (orders.Cancel ue) tt s)
       (λ h. goes_refused world event Empty s)))
 
   pub goes_release : (ue : UeId) → event ≡ events.Release ue → Keeps world event (release world ue)
@@ -312,7 +312,7 @@ module _ {M C L P : Type 0} (world : World M C L P) (event : Event) where
       (λ h. goes_refused world event reasons.NoBearer s)
 
   goes_core_injected : (from : NodeId) (octets : List ℕ) (s : State M C L P) (answer : CoreStepped M C L P)
-      → world.core_answer (sn_of s) s.core (octets_from from octets) ≡ answer → Made world event s (core_injected world s answer)
+      → world.core_answer (sn_of s) s.core (octets_from from octets) ≡ answer → IsOutcome world event s (core_injected world s answer)
   goes_core_injected from octets s (core_stepped outputs core) is = core_reads s from octets outputs core is
 
   goes_octets : (from to : NodeId) (octets : List ℕ) → Keeps world event (step world to (octets_from from octets))

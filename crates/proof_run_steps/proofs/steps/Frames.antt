@@ -16,19 +16,19 @@ use Rattle.gnb_types.specs.Orders.{ue_cmp, tunnel_cmp}
 use Rattle.tables.specs.Tables.{find, at}
 use Rattle.scenario_text.specs.declared.event.Event.{Event}
 use Rattle.unit_defs.specs.Ways.{Put, control, packet, radio, deliver, dropped, held, opened, closed, failed, no}
-use Rattle.unit_defs.specs.Static.{up_has_room, up_has_teids, du_has_teids}
+use Rattle.unit_defs.specs.Static.{cu_up_has_room, cu_up_has_teids, du_has_teids}
 use Rattle.unit_defs.specs.Ue.{new_ue}
 use Rattle.transport_defs.specs.declared.Item.{Item}
 use Rattle.transport_defs.specs.Links.{is_epoch, emptied}
 use Rattle.run_defs.specs.Lines.{RunLine, put_item, lost_items, tunnel_link, radio_link, shown}
-use Rattle.run_defs.specs.Units.{Units, up_of, du_of, with_ue}
+use Rattle.run_defs.specs.Units.{Units, cu_up_of, du_of, with_ue}
 use Rattle.run_defs.specs.States.{State, Given, stepped, World, Lengths, Stop, sn_of, goes, stops, told_before, ◌next◌, goes_on, Ending, Within, Outcome, as_step, entity, was_attached, radio_of, with_radio}
 use Rattle.run_defs.specs.Steps.{first_outstanding, entities_of, checked_by, check_spans, noted, count_beside, item_of, on_tunnel, put_on_tunnel, put_on_connected, put_on_radio, put_control, opens, closes, radio_lost, lose_each, lose_radios_of, lose_radios, radios_of, same_epoch, epoch_now, connect_in, reconnect, reconnect_node, put_out, put_out_all, carried_out}
 use Rattle.run_defs.specs.Conditions.{is_held_by_units, units_placed, all_set_up}
 use Rattle.run_defs.specs.Events.{landed_as, leaves}
 use Rattle.run_defs.specs.Runs.{happens}
-use Rattle.proof_run_steps.specs.steps.Causes.{Cause, by_order, by_tick, by_octets, by_octets_on, by_attach, by_release, by_offer, by_item, by_air, by_ack, by_letter, node_of, given_of, count_of, first_of}
-use Rattle.proof_run_steps.specs.steps.Made.{Made, stays, ends, then_made, sets_up, starts, acts, holds_item, holds_pdu, offers, core_takes, core_reads, lands, loses_letter, loses_item, remarks}
+use Rattle.proof_run_steps.specs.steps.Causes.{Cause, by_order, by_tick, by_octets, by_octets_on, by_attach, by_release, by_offer, by_item, by_air, by_ack, by_control_message, node_of, given_of, count_of, first_of}
+use Rattle.proof_run_steps.specs.steps.IsOutcome.{IsOutcome, stays, ends, then_made, sets_up, starts, acts, holds_item, holds_pdu, offers, core_takes, core_reads, lands, loses_control_message, loses_item, remarks}
 use Rattle.proof_run_steps.specs.steps.Reached.{reached_by, reached}
 use Rattle.proof_run_steps.proofs.steps.Runs.{made_of_steps}
 
@@ -163,7 +163,7 @@ module _ {M C L P : Type 0} (world : World M C L P) where
   first_units (by_item end item rest) s = refl
   first_units (by_air key home item) s = refl
   first_units (by_ack key home item rest) s = refl
-  first_units (by_letter number l to) s = refl
+  first_units (by_control_message number l to) s = refl
 
   pub act_units : (cause : Cause M L P) (outputs : List (Put M L P)) (units : Units M C) (s : State M C L P)
       → HasUnits (units_by cause units) (carried_out world (node_of cause) (count_of cause) (first_of world cause) outputs units s)
@@ -187,8 +187,8 @@ module _ {M C L P : Type 0} (world : World M C L P) where
       (answered : (lengths : Lengths) (u v : Units M C) (node : NodeId) (given : Given M L P) (outputs : List (Put M L P))
       → world.answer lengths u node given ≡ stepped outputs v → R u v)
       (came : (u : Units M C) (plan : Plan) → R u (with_ue u plan.ue (new_ue plan)))
-      (placed : (u : Units M C) (plan : Plan) → is_held_by_units plan u ≡ false → up_has_room (up_of u plan.gnb plan.up) plan ≡ true
-      → up_has_teids (up_of u plan.gnb plan.up) plan && du_has_teids (du_of u plan.gnb plan.du) plan ≡ true → R u (all_set_up (units_placed plan u))) where
+      (placed : (u : Units M C) (plan : Plan) → is_held_by_units plan u ≡ false → cu_up_has_room (cu_up_of u plan.gnb plan.up) plan ≡ true
+      → cu_up_has_teids (cu_up_of u plan.gnb plan.up) plan && du_has_teids (du_of u plan.gnb plan.du) plan ≡ true → R u (all_set_up (units_placed plan u))) where
     abbrev pub Relates : {X : Type 0} → Units M C → Ending X (State M C L P) → Type 0
     Relates u (goes told t) = R u t.units
     Relates u (stops told why) = Unit {0}
@@ -208,7 +208,7 @@ module _ {M C L P : Type 0} (world : World M C L P) where
     with_terminals (by_item end item rest) u = same u
     with_terminals (by_air key home item) u = same u
     with_terminals (by_ack key home item rest) u = same u
-    with_terminals (by_letter number l to) u = same u
+    with_terminals (by_control_message number l to) u = same u
 
     then_relates : (u : Units M C) (e : Outcome M C L P) (more : State M C L P → Outcome M C L P) → Relates u e
         → ((t : State M C L P) → Relates t.units (more t)) → Relates u (e next more)
@@ -219,7 +219,7 @@ module _ {M C L P : Type 0} (world : World M C L P) where
         by (stops further why) h = tt
     then_relates u (stops told why) more p q = tt
 
-    pub made_relates : (event : Event) (s : State M C L P) (e : Outcome M C L P) → Made world event s e → Relates s.units e
+    pub made_relates : (event : Event) (s : State M C L P) (e : Outcome M C L P) → IsOutcome world event s e → Relates s.units e
     made_relates event s e (stays t) = same t.units
     made_relates event s e (ends t why) = tt
     made_relates event s e (then_made t d more p q) =
@@ -245,7 +245,7 @@ module _ {M C L P : Type 0} (world : World M C L P) where
         by_units t.units t.units _ (same t.units)
         (as_step_units t.units (Some Core) _ (then_units t.units _ check_spans (keep_put_all Core None outputs _) keep_checked))
     made_relates event s e (lands t number l to found at) = same t.units
-    made_relates event s e (loses_letter t number) = same t.units
+    made_relates event s e (loses_control_message t number) = same t.units
     made_relates event s e (loses_item t end item rest found) = same t.units
     made_relates event s e (remarks t lines plain) = same t.units
 

@@ -4,12 +4,12 @@ use Rattle.scenario_text.specs.declared.event.Event.{Event}
 use Rattle.scenario_text.specs.declared.event.Event.TheVariants as events
 use Rattle.run_defs.specs.States.{State, World, entity}
 use Rattle.run_defs.specs.Runs.{happens, tunnel_end}
-use Rattle.proof_run_steps.specs.steps.Made.{Made}
+use Rattle.proof_run_steps.specs.steps.IsOutcome.{IsOutcome}
 use Rattle.proof_run_steps.proofs.steps.Events.{goes_static, goes_start, goes_attach, goes_offer, goes_get, goes_air, goes_ack, goes_give, goes_lose_message, goes_lose_item, goes_poll, goes_pump, goes_tick, goes_fail, goes_arrive, goes_come_back, goes_handover, goes_cancel, goes_release, goes_ask, goes_inject_message, goes_inject_item}
 use Rattle.proof_run_steps.proofs.steps.Settling.{goes_settle}
 
 module _ {M C L P : Type 0} (world : World M C L P) where
-  pub made_of_steps : (event : Event) (s : State M C L P) → Made world event s (happens world event s)
+  pub made_of_steps : (event : Event) (s : State M C L P) → IsOutcome world event s (happens world event s)
   unfolding happens
   made_of_steps (events.Static plan) s = goes_static world (events.Static plan) plan refl s
   made_of_steps events.Start s = goes_start world events.Start s

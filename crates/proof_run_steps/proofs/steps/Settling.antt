@@ -18,7 +18,7 @@ use Rattle.unit_defs.specs.declared.UeState.{UeState}
 use Rattle.unit_defs.specs.declared.UeState.TheVariants as ue_states
 use Rattle.unit_defs.specs.Accessors.{is_unconfirmed}
 use Rattle.run_defs.specs.Lines.{RunLine, held_at, is_quiet, is_busy, has_settled, has_not_settled, radio_link}
-use Rattle.run_defs.specs.Units.{up_of}
+use Rattle.run_defs.specs.Units.{cu_up_of}
 use Rattle.transport_defs.specs.declared.Item.{Item}
 use Rattle.transport_defs.specs.Links.{nth}
 use Rattle.run_defs.specs.States.{State, order_for, World, goes, goes_on, Outcome, as_step, prints, radio_of}
@@ -27,14 +27,14 @@ use Rattle.run_defs.specs.Conditions.{serving_gnb, serving_place, state_at, has_
 use Rattle.run_defs.specs.Events.{get_done, carry_done, confirm_done, pump, tick}
 use Rattle.run_defs.specs.Settling.{attached_plans, attached_entities, attached_bearers, Turn, to_acks, to_airs, after_air, after_ack, quietly_by, quiet_order, move_by, move_each, got_in_turn, get_items, get_times, tunnel_turn, tunnels_from, most_tunnels, all_tunnels, aired_by, air_next, acked_by, turn_over, ack_next, turn_at, turn_step, turn_times, radio_turn, all_radios, poll_at, poll_each, round, ask_lines, all_quiet, rounds_from, round_limit, settle}
 use Rattle.proof_run_steps.specs.steps.Causes.{IsNoAttach, by_order, by_item, by_air, by_ack}
-use Rattle.proof_run_steps.specs.steps.Made.{IsRemark, Made, stays, then_made, holds_item, holds_pdu, remarks}
+use Rattle.proof_run_steps.specs.steps.IsOutcome.{IsRemark, IsOutcome, stays, then_made, holds_item, holds_pdu, remarks}
 use Rattle.proof_run_steps.proofs.steps.Steps.{Keeps, choose, DoneMade, goes_does}
 use Rattle.proof_run_steps.proofs.steps.Events.{goes_pump, goes_tick}
 
 module _ {M C L P : Type 0} (world : World M C L P) (event : Event) where
   -- ---- 1. terminals arrive or return
 
-  quietly : (s : State M C L P) → (d : Done M C L P) → DoneMade world event s d → Made world event s (quietly_by world s d)
+  quietly : (s : State M C L P) → (d : Done M C L P) → DoneMade world event s d → IsOutcome world event s (quietly_by world s d)
   quietly s (is_done outcome) p = p
   quietly s (is_held reason) p = stays s
   quietly s (is_refused reason) p = stays s
@@ -58,7 +58,7 @@ module _ {M C L P : Type 0} (world : World M C L P) (event : Event) where
   -- ---- 3. tunnels
 
   goes_got_in_turn : (end : TunnelEnd) (more : State M C L P → Outcome M C L P) → Keeps world event more → (s : State M C L P) (d : Done M C L P)
-      → DoneMade world event s d → Made world event s (got_in_turn world end more s d)
+      → DoneMade world event s d → IsOutcome world event s (got_in_turn world end more s d)
   goes_got_in_turn end more km s (is_done outcome) p = then_made s outcome more p km
   goes_got_in_turn end more km s (is_held reason) p = holds_item s end reason
   goes_got_in_turn end more km s (is_refused reason) p = stays s
@@ -74,7 +74,7 @@ module _ {M C L P : Type 0} (world : World M C L P) (event : Event) where
       by (Some items) e = λ i. Some (e i)
 
   goes_get_items : (end : TunnelEnd) (more : State M C L P → Outcome M C L P) → Keeps world event more → (s : State M C L P) (items : List (Item L))
-      → at tunnel_cmp [] s.tunnels end ≡ items → Made world event s (get_items world end more s items)
+      → at tunnel_cmp [] s.tunnels end ≡ items → IsOutcome world event s (get_items world end more s items)
   goes_get_items end more km s [] are = stays s
   goes_get_items end more km s (item ∷ rest) are =
       goes_got_in_turn end more km s (get_done world end item rest s)
@@ -102,7 +102,7 @@ module _ {M C L P : Type 0} (world : World M C L P) (event : Event) where
 
   module _ (again : Turn → State M C L P → Outcome M C L P) (ka : (turn : Turn) → Keeps world event (again turn)) where
     goes_aired_by : (turn : Turn) (home : NodeId) (s : State M C L P) (d : Done M C L P) → DoneMade world event s d
-        → Made world event s (aired_by world again turn home s d)
+        → IsOutcome world event s (aired_by world again turn home s d)
     goes_aired_by turn home s (is_done outcome) p = then_made s outcome (again (after_air turn)) p (ka (after_air turn))
     goes_aired_by turn home s (is_held reason) p =
         then_made s
@@ -111,13 +111,13 @@ module _ {M C L P : Type 0} (world : World M C L P) (event : Event) where
     goes_aired_by turn home s (is_refused reason) p = ka (to_acks (after_air turn)) s
 
     goes_air_next : (turn : Turn) (home : NodeId) (s : State M C L P) → ready_home s turn.key.ue ≡ Some home → (o : Option (Item P))
-        → nth (radio_of s turn.key).items (radio_of s turn.key).carried ≡ o → Made world event s (air_next world again turn home s o)
+        → nth (radio_of s turn.key).items (radio_of s turn.key).carried ≡ o → IsOutcome world event s (air_next world again turn home s o)
     goes_air_next turn home s ready None found = ka (to_acks turn) s
     goes_air_next turn home s ready (Some item) found =
         choose world event s (turn.airs == 0) _ _ (λ h. ka (to_acks turn) s)
         (λ h. goes_aired_by turn home s (carry_done world turn.key home item s) (goes_does world event (by_air turn.key home item) s (ready, found)))
 
-    goes_acked_by : (turn : Turn) (s : State M C L P) (d : Done M C L P) → DoneMade world event s d → Made world event s (acked_by world again turn s d)
+    goes_acked_by : (turn : Turn) (s : State M C L P) (d : Done M C L P) → DoneMade world event s d → IsOutcome world event s (acked_by world again turn s d)
     goes_acked_by turn s (is_done outcome) p = then_made s outcome (again (after_ack turn)) p (ka (after_ack turn))
     goes_acked_by turn s (is_held reason) p = ka (after_ack turn) s
     goes_acked_by turn s (is_refused reason) p = ka (after_ack turn) s
@@ -130,14 +130,14 @@ module _ {M C L P : Type 0} (world : World M C L P) (event : Event) where
     neither_of false b e = refl
 
     goes_ack_next : (turn : Turn) (home : NodeId) (s : State M C L P) → ready_home s turn.key.ue ≡ Some home → (items : List (Item P))
-        → (radio_of s turn.key).items ≡ items → Made world event s (ack_next world again turn home s items (radio_of s turn.key).carried)
+        → (radio_of s turn.key).items ≡ items → IsOutcome world event s (ack_next world again turn home s items (radio_of s turn.key).carried)
     goes_ack_next turn home s ready [] are = stays s
     goes_ack_next turn home s ready (item ∷ rest) are =
         choose world event s ((radio_of s turn.key).carried == 0 || turn.acks == 0) (turn_over world again turn s) _ (λ h. goes_turn_over turn s)
         (λ some. goes_acked_by turn s (confirm_done world turn.key home item rest s)
         (goes_does world event (by_ack turn.key home item rest) s (ready, are, neither_of _ (turn.acks == 0) some)))
 
-    goes_turn_at : (turn : Turn) (s : State M C L P) (o : Option NodeId) → ready_home s turn.key.ue ≡ o → Made world event s (turn_at world again turn s o)
+    goes_turn_at : (turn : Turn) (s : State M C L P) (o : Option NodeId) → ready_home s turn.key.ue ≡ o → IsOutcome world event s (turn_at world again turn s o)
     goes_turn_at turn s None ready = stays s
     goes_turn_at turn s (Some home) ready =
         choose world event s turn.airing _ _
@@ -163,7 +163,7 @@ module _ {M C L P : Type 0} (world : World M C L P) (event : Event) where
   goes_poll_at : (e : UeId × BearerId) (o : Option (ℕ × ℕ)) → Keeps world event (λ s. poll_at world e s o)
   goes_poll_at e None s = stays s
   goes_poll_at e (Some place) s =
-      choose world event s (is_unconfirmed (up_of s.units (serving_gnb s e.0) place.0) e.0 e.1) _ _
+      choose world event s (is_unconfirmed (cu_up_of s.units (serving_gnb s e.0) place.0) e.0 e.1) _ _
       (λ h. goes_quiet_order (CuUp (serving_gnb s e.0) place.0) (orders.Poll e.0 e.1) tt s) (λ h. stays s)
 
   goes_poll_each : (es : List (UeId × BearerId)) → Keeps world event (poll_each world es)

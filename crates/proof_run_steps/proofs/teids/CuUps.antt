@@ -28,10 +28,10 @@ use Rattle.unit_defs.specs.Ways.{Message, e1, Taken, closed, no, Input, control_
 use Rattle.unit_defs.specs.Messages.{cause_busy, cause_quota, mode_uplinks, mode_switch, mode_freeze, mode_status, mode_resume, channel, are_bearers, bearers_of, statuses_of, teid_of}
 use Rattle.unit_defs.specs.Teids.{teids_are_left, teid_after}
 use Rattle.unit_defs.specs.Transactions.{Kind, request, reply, transfer, kind_of, no_instance, ask, advance, replied}
-use Rattle.unit_defs.specs.UpRecords.{UpBearer, UpContext, CuUp, TunnelKind, UpTunnel, up_at}
-use Rattle.unit_defs.specs.UpBearers.{made, teids_of_bearer, with_uplink, switched, frozen_to, with_status, resumed, is_over, open_teids, has_downlink, framed}
-use Rattle.unit_defs.specs.UpItems.{held_reason, took}
-use Rattle.unit_defs.specs.CuUp.{bearers_from, bearers_made, entries_of, with_entries, with_context, context_of, with_transactions, up_node, UpStep, steps, stops, step_with, each_bearer, answer_with, ended, ended_if_over, end_where_over, replies, opened_of, new_context, with_new, makes, fits, set_up_for, setup_response, setup_on, setup, modified, uplinks_from, teids_from, uplink_entries, uplinks_given, add_uplinks, as_switched, switch, as_frozen, peer_node, statuses, freeze, as_known, status_each, take_status, as_resumed, resume, names, uplinks_if, switch_if, freeze_if, status_if, resume_if, modify_on, as_released, released_on, release, asked, start, set_up, control_by, ue_in, is_own_cp, control_came, with_bearer, taken_by, taken_in, taken_of, taken_on, take, poll_bearer, poll_on, poll, due_output, tick, cu_up_acts, closed_in}
+use Rattle.unit_defs.specs.CuUpRecords.{CuUpBearer, CuUpContext, CuUp, TunnelKind, CuUpTunnel, cu_up_scope}
+use Rattle.unit_defs.specs.CuUpBearers.{made, teids_of_bearer, with_uplink, switched, frozen_to, with_status, resumed, is_over, open_teids, has_downlink, framed}
+use Rattle.unit_defs.specs.CuUpItems.{held_reason, took}
+use Rattle.unit_defs.specs.CuUp.{bearers_from, bearers_made, entries_of, with_entries, with_context, context_of, with_transactions, up_node, UpStep, steps, stops, step_with, each_bearer, answer_with, ended, ended_if_over, end_where_over, replies, opened_of, new_context, with_new, makes, fits, set_up_for, setup_response, setup_on, setup, modified, uplinks_from, teids_from, uplink_entries, uplinks_given, add_uplinks, as_switched, switch, as_frozen, peer_node, statuses, freeze, as_known, status_each, take_status, as_resumed, resume, names, uplinks_if, switch_if, freeze_if, status_if, resume_if, modify_on, as_released, released_on, release, asked, start, set_up, control_by, ue_in, is_own_cu_cp, control_received, with_bearer, taken_by, taken_in, taken_of, taken_on, take, poll_bearer, poll_on, poll, due_output, tick, cu_up_acts, closed_in}
 use Rattle.proof_run_steps.specs.teids.Given.{opened_in, opened_by, count_from, below, GrowsTo}
 use Rattle.proof_run_steps.proofs.teids.Grows.{gives_counted, below_left, below_after, put_or, fewer_each, AllWithin}
 use Rattle.proof_run_steps.proofs.teids.Bearers.{both, Stays, Took, ends, poll_stays, switched_stays, frozen_stays, status_stays, resumed_stays, item_took}
@@ -40,9 +40,9 @@ use Rattle.proof_run_steps.proofs.teids.Still.{OpensNone, none_ask, none_advance
 -- ---- entries that are put
 
 abbrev pub Entry : Type 0
-Entry = ℕ × UpTunnel
+Entry = ℕ × CuUpTunnel
 
-pub entries_put : (low high : ℕ) (es : List Entry) (table : List Entry) → AllWithin low high es → (teid : ℕ) (owner : UpTunnel)
+pub entries_put : (low high : ℕ) (es : List Entry) (table : List Entry) → AllWithin low high es → (teid : ℕ) (owner : CuUpTunnel)
     → find nat_cmp (with_entries table es) teid ≡ Some owner → (find nat_cmp table teid ≡ Some owner) ⊎ ((low ≤ teid) × (teid + 1 ≤ high))
 entries_put low high [] table all teid owner e = inl e
 entries_put low high (x ∷ xs) table all teid owner e =
@@ -179,24 +179,24 @@ module _ {M C P : Type 0} (way : Way M C P) where
   StillStep (steps os bearers) = opened_by os ≡ []
   StillStep (stops k) = Unit {0}
 
-  step_still : (bearer : BearerId) (b : UpBearer) (a : Answer M P UpBearer) (s : UpStep way) → Stays way (ends b) a → StillStep s
+  step_still : (bearer : BearerId) (b : CuUpBearer) (a : Answer M P CuUpBearer) (s : UpStep way) → Stays way (ends b) a → StillStep s
       → StillStep (step_with way bearer a s)
   step_still bearer b (gives os c) (steps more bs) p q = both opened_in os more p.0 q
   step_still bearer b (gives os c) (stops k) p q = tt
   step_still bearer b (spent k) s p q = tt
 
-  each_still : (order : BearerId → UpBearer → Answer M P UpBearer) → ((bearer : BearerId) (b : UpBearer) → Stays way (ends b) (order bearer b))
-      → (es : List (BearerId × UpBearer)) → StillStep (each_bearer way order es)
+  each_still : (order : BearerId → CuUpBearer → Answer M P CuUpBearer) → ((bearer : BearerId) (b : CuUpBearer) → Stays way (ends b) (order bearer b))
+      → (es : List (BearerId × CuUpBearer)) → StillStep (each_bearer way order es)
   each_still order each [] = refl
   each_still order each (e ∷ es) = step_still e.0 e.1 (order e.0 e.1) (each_bearer way order es) (each e.0 e.1) (each_still order each es)
 
-  statuses_still : (ue : UeId) (c : UpContext) (ss : List SnStatus) (es : List (BearerId × UpBearer)) → StillStep (status_each way ue c ss es)
+  statuses_still : (ue : UeId) (c : CuUpContext) (ss : List SnStatus) (es : List (BearerId × CuUpBearer)) → StillStep (status_each way ue c ss es)
   statuses_still ue c [] es = refl
   statuses_still ue c (s ∷ ss) [] = refl
   statuses_still ue c (s ∷ ss) (e ∷ es) =
-      step_still e.0 e.1 (with_status way (up_at ue c e.0) s e.1) (status_each way ue c ss es) (status_stays way (up_at ue c e.0) s e.1) (statuses_still ue c ss es)
+      step_still e.0 e.1 (with_status way (cu_up_scope ue c e.0) s e.1) (status_each way ue c ss es) (status_stays way (cu_up_scope ue c e.0) s e.1) (statuses_still ue c ss es)
 
-  answer_rests : (r : CuUp M C) (ue : UeId) (c : UpContext) (s : UpStep way) → StillStep s → Rests r (answer_with way r ue c s)
+  answer_rests : (r : CuUp M C) (ue : UeId) (c : CuUpContext) (s : UpStep way) → StillStep s → Rests r (answer_with way r ue c s)
   answer_rests r ue c (steps os bearers) still = (still, refl, λ teid owner e. e)
   answer_rests r ue c (stops k) still = tt
 
@@ -205,7 +205,7 @@ module _ {M C P : Type 0} (way : Way M C P) where
       none_then way next_of tunnels_of r.next_teid r.tunnels (replied way r.transactions ch (e1 m)) (with_transactions r)
       (none_replied way r.transactions ch (e1 m)) (λ s. (refl, λ teid owner e. e))
 
-  steps_rests : (r : CuUp M C) (ch : Channel) (ue : UeId) (c : UpContext) (s : UpStep way) (m : E1Message) → StillStep s
+  steps_rests : (r : CuUp M C) (ch : Channel) (ue : UeId) (c : CuUpContext) (s : UpStep way) (m : E1Message) → StillStep s
       → Rests r (answer_with way r ue c s then replies way ch m)
   steps_rests r ch ue c s m still =
       still_then way next_of tunnels_of r.next_teid r.tunnels (answer_with way r ue c s) (replies way ch m) (answer_rests r ue c s still) (replies_rests ch m)
@@ -216,13 +216,13 @@ module _ {M C P : Type 0} (way : Way M C P) where
   none_closed [] = refl
   none_closed (t ∷ ts) = none_closed ts
 
-  none_closings : (es : List (BearerId × UpBearer)) → opened_by {M = M} {P = P} (flat_map (λ e. map (λ teid. closed teid) (open_teids e.1)) es) ≡ []
+  none_closings : (es : List (BearerId × CuUpBearer)) → opened_by {M = M} {P = P} (flat_map (λ e. map (λ teid. closed teid) (open_teids e.1)) es) ≡ []
   none_closings [] = refl
   none_closings (e ∷ es) =
       both opened_in (map (λ teid. closed teid) (open_teids e.1)) (flat_map (λ e. map (λ teid. closed teid) (open_teids e.1)) es)
       (none_closed (open_teids e.1)) (none_closings es)
 
-  ended_rests : (r : CuUp M C) (ue : UeId) (c : UpContext) → Rests r (ended way r ue c)
+  ended_rests : (r : CuUp M C) (ue : UeId) (c : CuUpContext) → Rests r (ended way r ue c)
   unfolding ended
   ended_rests r ue c = (none_closings c.bearers, refl, fewer_each (flat_map (λ e. open_teids e.1) c.bearers) r.tunnels)
 
@@ -230,13 +230,13 @@ module _ {M C P : Type 0} (way : Way M C P) where
   unfolding end_where_over
   over_rests ue r = by (context_of r ue)
     where
-      by : (c : Option UpContext) → Rests r (ended_if_over way ue r c)
+      by : (c : Option CuUpContext) → Rests r (ended_if_over way ue r c)
       by None = (refl, refl, λ teid owner e. e)
       by (Some c) =
           rests_if r (c.flags.released && list_all (λ e. is_over c.flags e.1) c.bearers) (ended way r ue c) (nothing r)
           (ended_rests r ue c) (refl, refl, λ teid owner e. e)
 
-  released_rests : (ue : UeId) (is_final : Bool) (r : CuUp M C) (c : Option UpContext) → Rests r (released_on way ue is_final r c)
+  released_rests : (ue : UeId) (is_final : Bool) (r : CuUp M C) (c : Option CuUpContext) → Rests r (released_on way ue is_final r c)
   released_rests ue is_final r None = (refl, refl, λ teid owner e. e)
   released_rests ue true r (Some c) = ended_rests r ue c
   released_rests ue false r (Some c) = over_rests ue (with_context ue r (as_released way c))
@@ -269,11 +269,11 @@ module _ {M C P : Type 0} (way : Way M C P) where
       )
       by false left = tt
 
-  set_up_rests : (ch : Channel) (ue : UeId) (instance : ℕ) (forward : Bool) (r : CuUp M C) (c : Option UpContext) → Rests r (set_up_for way ch ue instance forward r c)
+  set_up_rests : (ch : Channel) (ue : UeId) (instance : ℕ) (forward : Bool) (r : CuUp M C) (c : Option CuUpContext) → Rests r (set_up_for way ch ue instance forward r c)
   set_up_rests ch ue instance forward r None = (refl, refl, λ teid owner e. e)
   set_up_rests ch ue instance forward r (Some c) = replies_rests ch (setup_response way ue instance forward c.bearers) r
 
-  setup_gives : (ch : Channel) (ue : UeId) (instance count : ℕ) (sn : SnBits) (quota : ℕ) (forward : Bool) (r : CuUp M C) (c : Option UpContext)
+  setup_gives : (ch : Channel) (ue : UeId) (instance count : ℕ) (sn : SnBits) (quota : ℕ) (forward : Bool) (r : CuUp M C) (c : Option CuUpContext)
       → Gives r (setup_on way ch ue instance count sn quota forward r c)
   setup_gives ch ue instance count sn quota forward r (Some c) =
       rests_gives r _ (replies_rests ch (e1s.BearerContextSetupFailure ue instance cause_busy) r)
@@ -289,7 +289,7 @@ module _ {M C P : Type 0} (way : Way M C P) where
   OpensStep next n (steps os bearers) = opened_by os ≡ count_from next n
   OpensStep next n (stops k) = Unit {0}
 
-  uplinks_open : (next : ℕ) (es : List (BearerId × UpBearer)) → OpensStep next (length es) (uplinks_from way next es)
+  uplinks_open : (next : ℕ) (es : List (BearerId × CuUpBearer)) → OpensStep next (length es) (uplinks_from way next es)
   unfolding with_uplink
   uplinks_open next [] = refl
   uplinks_open next (e ∷ es) = by (uplinks_from way (next + 1) es) (uplinks_open (next + 1) es)
@@ -298,11 +298,11 @@ module _ {M C P : Type 0} (way : Way M C P) where
       by (steps os bs) p = ap (λ (l : List ℕ). next ∷ l) p
       by (stops k) p = tt
 
-  so_many : (next : ℕ) (es : List (BearerId × UpBearer)) → length (teids_from way next es) ≡ length es
+  so_many : (next : ℕ) (es : List (BearerId × CuUpBearer)) → length (teids_from way next es) ≡ length es
   so_many next [] = refl
   so_many next (e ∷ es) = ap (λ (n : ℕ). suc n) (so_many (next + 1) es)
 
-  uplinks_within : (ue : UeId) (context next : ℕ) (es : List (BearerId × UpBearer))
+  uplinks_within : (ue : UeId) (context next : ℕ) (es : List (BearerId × CuUpBearer))
       → AllWithin next (next + length es) (uplink_entries way ue context (teids_from way next es))
   uplinks_within ue context next [] = tt
   uplinks_within ue context next (e ∷ es) = (
@@ -310,7 +310,7 @@ module _ {M C P : Type 0} (way : Way M C P) where
     wider next (next + 1) (next + 1 + length es) (next + suc (length es)) _ (omega arith) (omega arith) (uplinks_within ue context (next + 1) es),
   )
 
-  uplinks_give : (ch : Channel) (ue : UeId) (instance : ℕ) (c : UpContext) (r : CuUp M C) → Gives r (add_uplinks way ch ue instance c r)
+  uplinks_give : (ch : Channel) (ue : UeId) (instance : ℕ) (c : CuUpContext) (r : CuUp M C) → Gives r (add_uplinks way ch ue instance c r)
   unfolding add_uplinks
   uplinks_give ch ue instance c r = by (teids_are_left r.next_teid (length c.bearers)) refl
     where
@@ -350,33 +350,33 @@ module _ {M C P : Type 0} (way : Way M C P) where
     drop : Rests r (drops Unexpected r)
     drop = dropped_rests Unexpected r
 
-    switch_rests : (d : Option ℕ) (list : Option (List Tunnel)) (c : UpContext) → Rests r (switch_if way ch ue instance d list c r)
+    switch_rests : (d : Option ℕ) (list : Option (List Tunnel)) (c : CuUpContext) → Rests r (switch_if way ch ue instance d list c r)
     unfolding switch
     switch_rests (Some d) (Some list) c =
         choose (c.flags.released || not (are_bearers (names way c) (bearers_of list))) (drops Unexpected r) _ drop
         (steps_rests r ch ue (as_switched way c)
-        (each_bearer way (λ b. switched way (up_at ue (as_switched way c) b) (du_id r.gnb d) (teid_of list b)) c.bearers) (modified way ue instance None None)
-        (each_still (λ b. switched way (up_at ue (as_switched way c) b) (du_id r.gnb d) (teid_of list b))
-        (λ b x. switched_stays way (up_at ue (as_switched way c) b) (du_id r.gnb d) (teid_of list b) x) c.bearers))
+        (each_bearer way (λ b. switched way (cu_up_scope ue (as_switched way c) b) (du_id r.gnb d) (teid_of list b)) c.bearers) (modified way ue instance None None)
+        (each_still (λ b. switched way (cu_up_scope ue (as_switched way c) b) (du_id r.gnb d) (teid_of list b))
+        (λ b x. switched_stays way (cu_up_scope ue (as_switched way c) b) (du_id r.gnb d) (teid_of list b) x) c.bearers))
     switch_rests (Some d) None c = drop
     switch_rests None list c = drop
 
-    freeze_rests : (p : Option Peer) (a b : Option (List Tunnel)) (c : UpContext) → Rests r (freeze_if way ch ue instance p a b c r)
+    freeze_rests : (p : Option Peer) (a b : Option (List Tunnel)) (c : CuUpContext) → Rests r (freeze_if way ch ue instance p a b c r)
     unfolding freeze
     freeze_rests (Some p) (Some a) (Some b) c =
         choose (c.flags.frozen || c.flags.released || not c.flags.arrived || not (are_bearers (names way c) (bearers_of a)) || not (are_bearers (names way c) (bearers_of b)))
         (drops Unexpected r) _ drop
         (choose (not c.flags.may_serve) _ _ (replies_rests ch (e1s.BearerContextModificationFailure ue instance cause_busy) r)
         (steps_rests r ch ue (as_frozen way c)
-        (each_bearer way (λ x. frozen_to way (up_at ue (as_frozen way c) x) (peer_node way p) (teid_of a x) (teid_of b x)) c.bearers)
+        (each_bearer way (λ x. frozen_to way (cu_up_scope ue (as_frozen way c) x) (peer_node way p) (teid_of a x) (teid_of b x)) c.bearers)
         (modified way ue instance None (Some (statuses way c)))
-        (each_still (λ x. frozen_to way (up_at ue (as_frozen way c) x) (peer_node way p) (teid_of a x) (teid_of b x))
-        (λ x y. frozen_stays way (up_at ue (as_frozen way c) x) (peer_node way p) (teid_of a x) (teid_of b x) y) c.bearers)))
+        (each_still (λ x. frozen_to way (cu_up_scope ue (as_frozen way c) x) (peer_node way p) (teid_of a x) (teid_of b x))
+        (λ x y. frozen_stays way (cu_up_scope ue (as_frozen way c) x) (peer_node way p) (teid_of a x) (teid_of b x) y) c.bearers)))
     freeze_rests (Some p) (Some a) None c = drop
     freeze_rests (Some p) None b c = drop
     freeze_rests None a b c = drop
 
-    status_rests : (list : Option (List SnStatus)) (c : UpContext) → Rests r (status_if way ch ue instance list c r)
+    status_rests : (list : Option (List SnStatus)) (c : CuUpContext) → Rests r (status_if way ch ue instance list c r)
     unfolding take_status
     status_rests (Some list) c =
         choose (c.flags.may_serve || not (are_bearers (names way c) (statuses_of list))) (drops Unexpected r) _ drop
@@ -384,20 +384,20 @@ module _ {M C P : Type 0} (way : Way M C P) where
         (statuses_still ue (as_known way c) list c.bearers))
     status_rests None c = drop
 
-    resume_rests : (c : UpContext) → Rests r (resume_if way ch ue instance c r)
+    resume_rests : (c : CuUpContext) → Rests r (resume_if way ch ue instance c r)
     unfolding resume
     resume_rests c =
         choose (c.flags.frozen && not c.flags.released) _ (drops Unexpected r)
         (steps_rests r ch ue (as_resumed way c)
-        (each_bearer way (λ b. resumed way (up_at ue (as_resumed way c) b)) c.bearers) (modified way ue instance None None)
-        (each_still (λ b. resumed way (up_at ue (as_resumed way c) b)) (λ b x. resumed_stays way (up_at ue (as_resumed way c) b) x) c.bearers))
+        (each_bearer way (λ b. resumed way (cu_up_scope ue (as_resumed way c) b)) c.bearers) (modified way ue instance None None)
+        (each_still (λ b. resumed way (cu_up_scope ue (as_resumed way c) b)) (λ b x. resumed_stays way (cu_up_scope ue (as_resumed way c) b) x) c.bearers))
         drop
 
-    uplinks_if_give : (c : UpContext) → Gives r (uplinks_if way ch ue instance c r)
+    uplinks_if_give : (c : CuUpContext) → Gives r (uplinks_if way ch ue instance c r)
     uplinks_if_give c = gives_if r c.flags.released (drops Unexpected r) _ (drops_gives Unexpected r) (uplinks_give ch ue instance c r)
 
     modify_gives : (downlinks : Option (List Tunnel)) (mode : ℕ) (peer : Option Peer) (down up : Option (List Tunnel)) (ss : Option (List SnStatus)) (du : Option ℕ)
-        (c : Option UpContext) → Gives r (modify_on way ch (e1s.BearerContextModificationRequest ue instance downlinks mode peer down up ss du) r c)
+        (c : Option CuUpContext) → Gives r (modify_on way ch (e1s.BearerContextModificationRequest ue instance downlinks mode peer down up ss du) r c)
     modify_gives downlinks mode peer down up ss du None = drops_gives NoContext r
     modify_gives downlinks mode peer down up ss du (Some c) =
         gives_if r (mode == mode_uplinks) _ _ (uplinks_if_give c)
@@ -439,50 +439,50 @@ module _ {M C P : Type 0} (way : Way M C P) where
       rests_gives r _ (still_reply way next_of tunnels_of r r.transactions ch i (set_up way ch r) (set_up_still ch r))
   control_by_gives ch m r (transfer ue) = drops_gives Unexpected r
 
-  control_gives : (from : NodeId) (m : Message C) (r : CuUp M C) → Gives r (control_came way from m r)
-  unfolding control_came
+  control_gives : (from : NodeId) (m : Message C) (r : CuUp M C) → Gives r (control_received way from m r)
+  unfolding control_received
   control_gives from m r =
-      gives_if r (is_own_cp way r.gnb from) _ (drops Unexpected r)
+      gives_if r (is_own_cu_cp way r.gnb from) _ (drops Unexpected r)
       (control_by_gives (channel (ue_in way (kind_of m)) from) m r (kind_of m)) (drops_gives Unexpected r)
 
   -- ---- items, polls, ticks
 
-  bearer_rests : (r : CuUp M C) (ue : UeId) (c : UpContext) (bearer : BearerId) (a : Answer M P UpBearer) → OpensNone a
+  bearer_rests : (r : CuUp M C) (ue : UeId) (c : CuUpContext) (bearer : BearerId) (a : Answer M P CuUpBearer) → OpensNone a
       → Rests r (with_bearer way r ue c bearer a)
   bearer_rests r ue c bearer (gives os b) none = (none, refl, fewer_each (flat_map closed_in os) r.tunnels)
   bearer_rests r ue c bearer (spent k) none = tt
 
-  took_none : (kind : TunnelKind) (teid : ℕ) (b : UpBearer) (a : Answer M P UpBearer) → Took way kind teid b a → OpensNone a
+  took_none : (kind : TunnelKind) (teid : ℕ) (b : CuUpBearer) (a : Answer M P CuUpBearer) → Took way kind teid b a → OpensNone a
   took_none kind teid b (gives os c) p = p.0
   took_none kind teid b (spent k) p = tt
 
-  stays_none : (b : UpBearer) (a : Answer M P UpBearer) → Stays way (ends b) a → OpensNone a
+  stays_none : (b : CuUpBearer) (a : Answer M P CuUpBearer) → Stays way (ends b) a → OpensNone a
   stays_none b (gives os c) p = p.0
   stays_none b (spent k) p = tt
 
-  taken_rests : (r : CuUp M C) (t : UpTunnel) (teid : ℕ) (item : Taken P) (c : UpContext) (b : UpBearer) (reason : Option HeldReason)
+  taken_rests : (r : CuUp M C) (t : CuUpTunnel) (teid : ℕ) (item : Taken P) (c : CuUpContext) (b : CuUpBearer) (reason : Option HeldReason)
       → Rests r (taken_by way r t teid item c b reason)
   taken_rests r t teid item c b (Some reason) = (refl, refl, λ i owner e. e)
   taken_rests r t teid item c b None =
       still_then way next_of tunnels_of r.next_teid r.tunnels
-      (with_bearer way r t.ue c t.bearer (took way (up_at t.ue c t.bearer) t.kind teid item b)) (end_where_over way t.ue)
-      (bearer_rests r t.ue c t.bearer (took way (up_at t.ue c t.bearer) t.kind teid item b)
-      (took_none t.kind teid b _ (item_took way (up_at t.ue c t.bearer) t.kind teid item b)))
+      (with_bearer way r t.ue c t.bearer (took way (cu_up_scope t.ue c t.bearer) t.kind teid item b)) (end_where_over way t.ue)
+      (bearer_rests r t.ue c t.bearer (took way (cu_up_scope t.ue c t.bearer) t.kind teid item b)
+      (took_none t.kind teid b _ (item_took way (cu_up_scope t.ue c t.bearer) t.kind teid item b)))
       (over_rests t.ue)
 
   take_rests : (teid : ℕ) (item : Taken P) (r : CuUp M C) → Rests r (take way teid item r)
   unfolding take
   take_rests teid item r = by (find nat_cmp r.tunnels teid)
     where
-      in_bearer : (t : UpTunnel) (c : UpContext) (b : Option UpBearer) → Rests r (taken_in way r t teid item c b)
+      in_bearer : (t : CuUpTunnel) (c : CuUpContext) (b : Option CuUpBearer) → Rests r (taken_in way r t teid item c b)
       in_bearer t c None = dropped_rests NoContext r
-      in_bearer t c (Some b) = taken_rests r t teid item c b (held_reason (up_at t.ue c t.bearer) b t.kind item)
+      in_bearer t c (Some b) = taken_rests r t teid item c b (held_reason (cu_up_scope t.ue c t.bearer) b t.kind item)
 
-      in_context : (t : UpTunnel) (c : Option UpContext) → Rests r (taken_of way r t teid item c)
+      in_context : (t : CuUpTunnel) (c : Option CuUpContext) → Rests r (taken_of way r t teid item c)
       in_context t None = dropped_rests NoContext r
       in_context t (Some c) = in_bearer t c (find bearer_cmp c.bearers t.bearer)
 
-      by : (t : Option UpTunnel) → Rests r (taken_on way r teid item t)
+      by : (t : Option CuUpTunnel) → Rests r (taken_on way r teid item t)
       by None = dropped_rests NoTunnel r
       by (Some t) = in_context t (context_of r t.ue)
 
@@ -490,15 +490,15 @@ module _ {M C P : Type 0} (way : Way M C P) where
   unfolding poll
   poll_rests ue bearer r = by (context_of r ue)
     where
-      in_bearer : (c : UpContext) (b : Option UpBearer) → Rests r (poll_bearer way r ue c bearer b)
+      in_bearer : (c : CuUpContext) (b : Option CuUpBearer) → Rests r (poll_bearer way r ue c bearer b)
       in_bearer c None = (refl, refl, λ teid owner e. e)
       in_bearer c (Some b) =
           rests_if r (length b.sender.unconfirmed == 0) (puts (no Empty) r) _ (refl, refl, λ teid owner e. e)
           (rests_if r (c.flags.frozen || not (has_downlink b.downlink)) (puts (no NoRadio) r) _ (refl, refl, λ teid owner e. e)
-          (bearer_rests r ue c bearer (framed way (up_at ue c bearer) true false None Absent b)
-          (stays_none b _ (poll_stays way (up_at ue c bearer) b))))
+          (bearer_rests r ue c bearer (framed way (cu_up_scope ue c bearer) true false None Absent b)
+          (stays_none b _ (poll_stays way (cu_up_scope ue c bearer) b))))
 
-      by : (c : Option UpContext) → Rests r (poll_on way r ue bearer c)
+      by : (c : Option CuUpContext) → Rests r (poll_on way r ue bearer c)
       by None = (refl, refl, λ teid owner e. e)
       by (Some c) = in_bearer c (find bearer_cmp c.bearers bearer)
 

@@ -27,7 +27,7 @@ use Rattle.unit_defs.specs.Ways.{Message, f1, rrc, uplink, status, end_marker, T
 use Rattle.unit_defs.specs.Messages.{channel, is_same_gnb, bearers_of, are_first_bearers}
 use Rattle.unit_defs.specs.Teids.{teids_are_left, teid_after, without_each}
 use Rattle.unit_defs.specs.Transactions.{Kind, request, reply, transfer, kind_of, no_instance, ask, advance, replied}
-use Rattle.unit_defs.specs.Du.{DuBearer, DuContext, DuTunnel, Du, du_node, context_of, with_transactions, downlinks_of, downlink_list, with_entries, bearers_made, bearers_anew, replies, closings, openings, old_downlinks, replaced, replaces, context_with, setup, context_anew, modify_on, modify, end_markers, released_on, release, relayed_down, relay_down, relayed_up, relay_up, token_ue, start, set_up, asked, transferred, of_cp, of_terminal, control_came, missing, is_missing, told, gap_after, carried, with_bearer, frame_came, taken_in, taken_of, taken_on, take, of_bearer, of_context, pass_up, confirmed, confirm, due_output, tick, du_acts}
+use Rattle.unit_defs.specs.Du.{DuBearer, DuContext, DuTunnel, Du, du_node, context_of, with_transactions, downlinks_of, downlink_list, with_entries, bearers_made, bearers_anew, replies, closings, openings, old_downlinks, replaced, replaces, context_with, setup, context_anew, modify_on, modify, end_markers, released_on, release, relayed_down, relay_down, relayed_up, relay_up, token_ue, start, set_up, asked, transferred, of_cu_cp, of_terminal, control_received, missing, is_missing, told, gap_after, carried, with_bearer, frame_received, taken_in, taken_of, taken_on, take, of_bearer, of_context, pass_up, confirmed, confirm, due_output, tick, du_acts}
 use Rattle.proof_run_steps.specs.teids.Given.{opened_in, opened_by, count_from, below, GrowsTo}
 use Rattle.proof_run_steps.proofs.teids.Grows.{gives_counted, below_after, put_or, fewer_each, grows_less, grows_then, below_left}
 use Rattle.proof_run_steps.proofs.teids.Bearers.{both, first_none}
@@ -233,7 +233,7 @@ module _ {M C P : Type 0} (way : Way M C P) where
       (λ a. record r { is_set_up = true; transactions = a.transactions })
       (none_advance way (record r.transactions { caller = close r.transactions.caller ch }) ch) (λ s. (refl, λ teid owner e. e))
 
-  of_cp_gives : (from : NodeId) (m : Message C) (r : Du M C) (k : Kind) → Gives r (of_cp way from m r k)
+  of_cp_gives : (from : NodeId) (m : Message C) (r : Du M C) (k : Kind) → Gives r (of_cu_cp way from m r k)
   of_cp_gives from m r (request ue i) =
       from_request way next_of tunnels_of r r.transactions (channel ue from) i (λ t. asked way (channel ue from) m (with_transactions r t))
       (λ t. asked_gives (channel ue from) m (with_transactions r t))
@@ -241,8 +241,8 @@ module _ {M C P : Type 0} (way : Way M C P) where
       rests_gives r _ (still_reply way next_of tunnels_of r r.transactions (channel ue from) i (set_up way (channel ue from) r) (set_up_still (channel ue from) r))
   of_cp_gives from m r (transfer ue) = rests_gives r (transferred way m r) (transferred_rests m r)
 
-  control_gives : (from : NodeId) (m : Message C) (r : Du M C) → Gives r (control_came way from m r)
-  unfolding control_came
+  control_gives : (from : NodeId) (m : Message C) (r : Du M C) → Gives r (control_received way from m r)
+  unfolding control_received
   control_gives (CuCp gnb) m r =
       gives_if r (is_same_gnb gnb r.gnb) _ (drops Unexpected r) (of_cp_gives (CuCp gnb) m r (kind_of m)) (drops_gives Unexpected r)
   control_gives (Ue ue) m r = rests_gives r (of_terminal way ue m r) (terminal_rests ue m r)
@@ -265,7 +265,7 @@ module _ {M C P : Type 0} (way : Way M C P) where
   carried_rests ue bearer c true (Some pdu) r = (refl, refl, λ teid owner e. e)
   carried_rests ue bearer c false (Some pdu) r = (refl, refl, λ teid owner e. e)
 
-  frame_rests : (ue : UeId) (bearer : BearerId) (c : DuContext) (b : DuBearer) (item : Taken P) (r : Du M C) → Rests r (frame_came way ue bearer c b item r)
+  frame_rests : (ue : UeId) (bearer : BearerId) (c : DuContext) (b : DuBearer) (item : Taken P) (r : Du M C) → Rests r (frame_received way ue bearer c b item r)
   frame_rests ue bearer c b (frame_item poll restart number pdu) r =
       still_then way next_of tunnels_of r.next_teid r.tunnels
       (gives (told way ue bearer b poll number) (with_bearer way ue bearer c (record b { awaited = number + 1; gap = gap_after way b number restart pdu }) r))

@@ -14,10 +14,10 @@ use Rattle.gnb_types.specs.declared.plans.Plan.{Plan}
 use Rattle.gnb_types.specs.declared.plans.Tunnel.{Tunnel}
 use Rattle.tables.specs.Tables.{find}
 use Rattle.unit_defs.specs.Teids.{teids_are_left, teid_after}
-use Rattle.unit_defs.specs.UpRecords.{UpBearer, CuUp}
+use Rattle.unit_defs.specs.CuUpRecords.{CuUpBearer, CuUp}
 use Rattle.unit_defs.specs.CuUp.{bearers_from, bearers_made, entries_of}
 use Rattle.unit_defs.specs.Du.{Du, DuBearer, bearers_made as du_bearers}
-use Rattle.unit_defs.specs.Static.{with_downlinks, up_context, up_placed, up_has_teids, uplinks_from, du_context, du_placed, du_has_teids}
+use Rattle.unit_defs.specs.Static.{with_downlinks, cu_up_context, cu_up_placed, cu_up_has_teids, uplinks_from, du_context, du_placed, du_has_teids}
 use Rattle.proof_run_steps.specs.teids.Given.{below, GrowsTo}
 use Rattle.proof_run_steps.proofs.teids.Grows.{AllWithin, below_left}
 use Rattle.proof_run_steps.proofs.teids.CuUps.{Entry, made_within, how_many, grows_entries}
@@ -25,17 +25,17 @@ use Rattle.proof_run_steps.proofs.teids.Dus.{made_counted, grows_downlinks}
 
 -- ---- CU-UP: downlinks change no end
 
-pub same_ends : (ue : UeId) (context : ℕ) (gnb : Gnb) (du next : ℕ) (es : List (BearerId × UpBearer))
+pub same_ends : (ue : UeId) (context : ℕ) (gnb : Gnb) (du next : ℕ) (es : List (BearerId × CuUpBearer))
     → flat_map (entries_of ue context) (with_downlinks gnb du next es) ≡ flat_map (entries_of ue context) es
 same_ends ue context gnb du next [] = refl
 same_ends ue context gnb du next (e ∷ es) = ap (λ (l : List Entry). entries_of ue context e ++ l) (same_ends ue context gnb du (next + 1) es)
 
-pub up_grows : {M C : Type 0} (r : CuUp M C) (plan : Plan) (downlink : ℕ) → up_has_teids r plan ≡ true
-    → GrowsTo r.next_teid r.tunnels (up_placed r plan downlink).next_teid (up_placed r plan downlink).tunnels
-unfolding up_placed
+pub up_grows : {M C : Type 0} (r : CuUp M C) (plan : Plan) (downlink : ℕ) → cu_up_has_teids r plan ≡ true
+    → GrowsTo r.next_teid r.tunnels (cu_up_placed r plan downlink).next_teid (cu_up_placed r plan downlink).tunnels
+unfolding cu_up_placed
 up_grows r plan downlink left =
     let made : List Entry = flat_map (entries_of plan.ue r.next_teid) (bearers_made false r.next_teid (bearers_from 1 plan.bearers)) in
-    let placed : List Entry = flat_map (entries_of plan.ue r.next_teid) (up_context r plan downlink).bearers in
+    let placed : List Entry = flat_map (entries_of plan.ue r.next_teid) (cu_up_context r plan downlink).bearers in
     let many : length (bearers_from 1 plan.bearers) * 2 ≡ 2 * plan.bearers = ap (λ (n : ℕ). n * 2) (how_many 1 plan.bearers) ∙ (omega arith) in
     grows_entries r.next_teid (2 * plan.bearers) placed r.tunnels left
     (subst (λ (es : List Entry). AllWithin (below r.next_teid) (below r.next_teid + 2 * plan.bearers) es)

@@ -16,14 +16,14 @@ use Rattle.tables.proofs.TableLaws.{at-put}
 use Rattle.message_types.specs.declared.rrc.Token.{Token}
 use Rattle.scenario_text.specs.declared.event.Event.{Event}
 use Rattle.unit_defs.specs.Ways.{Message, Pdu, Load, Put, Input, gives, spent}
-use Rattle.unit_defs.specs.Static.{up_placed, du_placed, cp_placed, up_set_up, du_set_up, up_has_teids, du_has_teids}
+use Rattle.unit_defs.specs.Static.{cu_up_placed, du_placed, cu_cp_placed, cu_up_set_up, du_set_up, cu_up_has_teids, du_has_teids}
 use Rattle.unit_defs.specs.Ue.{UeNode, ue_acts}
-use Rattle.unit_defs.specs.UpRecords.{CuUp}
+use Rattle.unit_defs.specs.CuUpRecords.{CuUp}
 use Rattle.unit_defs.specs.CuUp.{new_cu_up, cu_up_acts}
 use Rattle.unit_defs.specs.Du.{Du, new_du, du_acts}
-use Rattle.unit_defs.specs.CpRecords.{CuCpRecord}
+use Rattle.unit_defs.specs.CuCpRecords.{CuCpRecord}
 use Rattle.unit_defs.specs.CuCp.{cu_cp_acts}
-use Rattle.run_defs.specs.Units.{Units, cp_of, with_cp, up_of, with_up, du_of, with_du, ue_of, with_ue}
+use Rattle.run_defs.specs.Units.{Units, cu_cp_of, with_cu_cp, cu_up_of, with_cu_up, du_of, with_du, ue_of, with_ue}
 use Rattle.run_defs.specs.Written.{Written, PlainStepped, WrittenStepped, written_step}
 use Rattle.run_defs.specs.States.{State, Lengths, stepped, step_spent}
 use Rattle.run_defs.specs.Conditions.{units_placed, all_set_up}
@@ -58,12 +58,12 @@ module _ {M C : Type 0} where
   du_same r = grows_less r.next_teid r.tunnels r.tunnels (λ teid owner e. e)
 
   pub give_same : (u : Units M C) → GiveOnce u u
-  give_same u = (λ gnb number. up_same (up_of u gnb number), λ gnb number. du_same (du_of u gnb number))
+  give_same u = (λ gnb number. up_same (cu_up_of u gnb number), λ gnb number. du_same (du_of u gnb number))
 
   pub give_then : (u v w : Units M C) → GiveOnce u v → GiveOnce v w → GiveOnce u w
   give_then u v w p q = (
-    λ gnb number. grows_then (up_of u gnb number).next_teid (up_of u gnb number).tunnels (up_of v gnb number).next_teid (up_of v gnb number).tunnels
-        (up_of w gnb number).next_teid (up_of w gnb number).tunnels (p.0 gnb number) (q.0 gnb number),
+    λ gnb number. grows_then (cu_up_of u gnb number).next_teid (cu_up_of u gnb number).tunnels (cu_up_of v gnb number).next_teid (cu_up_of v gnb number).tunnels
+        (cu_up_of w gnb number).next_teid (cu_up_of w gnb number).tunnels (p.0 gnb number) (q.0 gnb number),
     λ gnb number. grows_then (du_of u gnb number).next_teid (du_of u gnb number).tunnels (du_of v gnb number).next_teid (du_of v gnb number).tunnels
         (du_of w gnb number).next_teid (du_of w gnb number).tunnels (p.1 gnb number) (q.1 gnb number),
   )
@@ -72,7 +72,7 @@ module _ {M C : Type 0} where
 
   -- a CU-UP of another name stays, one of this name is the new one
   up_becomes : (u : Units M C) (gnb : Gnb) (number : ℕ) (r : CuUp M C) (g : Gnb) (n : ℕ)
-      → up_of (with_up u gnb number r) g n ≡ cond (eq_by_cmp node_cmp (up_id g n) (up_id gnb number)) r (up_of u g n)
+      → cu_up_of (with_cu_up u gnb number r) g n ≡ cond (eq_by_cmp node_cmp (up_id g n) (up_id gnb number)) r (cu_up_of u g n)
   up_becomes u gnb number r g n = at-put node_total (new_cu_up g n) u.ups (up_id gnb number) r (up_id g n)
 
   du_becomes : (u : Units M C) (gnb : Gnb) (number : ℕ) (r : Du M C) (g : Gnb) (n : ℕ)
@@ -80,14 +80,14 @@ module _ {M C : Type 0} where
   du_becomes u gnb number r g n = at-put node_total (new_du g n) u.dus (du_id gnb number) r (du_id g n)
 
   up_grown : (u : Units M C) (gnb : Gnb) (number : ℕ) (r : CuUp M C)
-      → ((g : Gnb) (n : ℕ) → eq_by_cmp node_cmp (up_id g n) (up_id gnb number) ≡ true → UpGrows (up_of u g n) r)
-      → (g : Gnb) (n : ℕ) → UpGrows (up_of u g n) (up_of (with_up u gnb number r) g n)
+      → ((g : Gnb) (n : ℕ) → eq_by_cmp node_cmp (up_id g n) (up_id gnb number) ≡ true → UpGrows (cu_up_of u g n) r)
+      → (g : Gnb) (n : ℕ) → UpGrows (cu_up_of u g n) (cu_up_of (with_cu_up u gnb number r) g n)
   up_grown u gnb number r grows g n =
-      subst (λ (s : CuUp M C). UpGrows (up_of u g n) s) (sym (up_becomes u gnb number r g n)) (by (eq_by_cmp node_cmp (up_id g n) (up_id gnb number)) refl)
+      subst (λ (s : CuUp M C). UpGrows (cu_up_of u g n) s) (sym (up_becomes u gnb number r g n)) (by (eq_by_cmp node_cmp (up_id g n) (up_id gnb number)) refl)
     where
-      by : (t : Bool) → eq_by_cmp node_cmp (up_id g n) (up_id gnb number) ≡ t → UpGrows (up_of u g n) (cond t r (up_of u g n))
+      by : (t : Bool) → eq_by_cmp node_cmp (up_id g n) (up_id gnb number) ≡ t → UpGrows (cu_up_of u g n) (cond t r (cu_up_of u g n))
       by true at = grows g n at
-      by false at = up_same (up_of u g n)
+      by false at = up_same (cu_up_of u g n)
 
   du_grown : (u : Units M C) (gnb : Gnb) (number : ℕ) (r : Du M C)
       → ((g : Gnb) (n : ℕ) → eq_by_cmp node_cmp (du_id g n) (du_id gnb number) ≡ true → DuGrows (du_of u g n) r)
@@ -99,13 +99,13 @@ module _ {M C : Type 0} where
       by true at = grows g n at
       by false at = du_same (du_of u g n)
 
-  up_at_name : (u : Units M C) (gnb : Gnb) (number : ℕ) (r : CuUp M C) → UpGrows (up_of u gnb number) r → (g : Gnb) (n : ℕ)
-      → eq_by_cmp node_cmp (up_id g n) (up_id gnb number) ≡ true → UpGrows (up_of u g n) r
+  up_at_name : (u : Units M C) (gnb : Gnb) (number : ℕ) (r : CuUp M C) → UpGrows (cu_up_of u gnb number) r → (g : Gnb) (n : ℕ)
+      → eq_by_cmp node_cmp (up_id g n) (up_id gnb number) ≡ true → UpGrows (cu_up_of u g n) r
   up_at_name u gnb number r grows g n tie =
       let same : up_id g n ≡ up_id gnb number = node_exact (up_id g n) (up_id gnb number) ((Equal-is (node_cmp (up_id g n) (up_id gnb number))).0 tie) in
       let gnbs : gnb ≡ g = cc in
       let numbers : number ≡ n = cc in
-      subst (λ (p : Gnb × ℕ). UpGrows (up_of u p.0 p.1) r) (λ i. (gnbs i, numbers i)) grows
+      subst (λ (p : Gnb × ℕ). UpGrows (cu_up_of u p.0 p.1) r) (λ i. (gnbs i, numbers i)) grows
 
   du_at_name : (u : Units M C) (gnb : Gnb) (number : ℕ) (r : Du M C) → DuGrows (du_of u gnb number) r → (g : Gnb) (n : ℕ)
       → eq_by_cmp node_cmp (du_id g n) (du_id gnb number) ≡ true → DuGrows (du_of u g n) r
@@ -115,15 +115,15 @@ module _ {M C : Type 0} where
       let numbers : number ≡ n = cc in
       subst (λ (p : Gnb × ℕ). DuGrows (du_of u p.0 p.1) r) (λ i. (gnbs i, numbers i)) grows
 
-  pub with_up_gives : (u : Units M C) (gnb : Gnb) (number : ℕ) (r : CuUp M C) → UpGrows (up_of u gnb number) r → GiveOnce u (with_up u gnb number r)
+  pub with_up_gives : (u : Units M C) (gnb : Gnb) (number : ℕ) (r : CuUp M C) → UpGrows (cu_up_of u gnb number) r → GiveOnce u (with_cu_up u gnb number r)
   with_up_gives u gnb number r grows =
       (up_grown u gnb number r (up_at_name u gnb number r grows), λ g n. du_same (du_of u g n))
 
   pub with_du_gives : (u : Units M C) (gnb : Gnb) (number : ℕ) (r : Du M C) → DuGrows (du_of u gnb number) r → GiveOnce u (with_du u gnb number r)
   with_du_gives u gnb number r grows =
-      (λ g n. up_same (up_of u g n), du_grown u gnb number r (du_at_name u gnb number r grows))
+      (λ g n. up_same (cu_up_of u g n), du_grown u gnb number r (du_at_name u gnb number r grows))
 
-  pub with_cp_gives : (u : Units M C) (gnb : Gnb) (r : CuCpRecord M C) → GiveOnce u (with_cp u gnb r)
+  pub with_cp_gives : (u : Units M C) (gnb : Gnb) (r : CuCpRecord M C) → GiveOnce u (with_cu_cp u gnb r)
   with_cp_gives u A r = give_same u
   with_cp_gives u B r = give_same u
 
@@ -133,13 +133,13 @@ module _ {M C : Type 0} where
   unfolding at
   set_up_gives u = (ups, dus)
     where
-      up_by : (g : Gnb) (n : ℕ) (o : Option (CuUp M C)) → UpGrows (unwrap_or o (new_cu_up g n)) (unwrap_or (option_map up_set_up o) (new_cu_up g n))
+      up_by : (g : Gnb) (n : ℕ) (o : Option (CuUp M C)) → UpGrows (unwrap_or o (new_cu_up g n)) (unwrap_or (option_map cu_up_set_up o) (new_cu_up g n))
       up_by g n None = up_same (new_cu_up g n)
       up_by g n (Some r) = up_same r
 
-      ups : (g : Gnb) (n : ℕ) → UpGrows (up_of u g n) (up_of (all_set_up u) g n)
+      ups : (g : Gnb) (n : ℕ) → UpGrows (cu_up_of u g n) (cu_up_of (all_set_up u) g n)
       ups g n =
-          subst (λ (o : Option (CuUp M C)). UpGrows (up_of u g n) (unwrap_or o (new_cu_up g n))) (sym (find_mapped node_cmp up_set_up u.ups (up_id g n)))
+          subst (λ (o : Option (CuUp M C)). UpGrows (cu_up_of u g n) (unwrap_or o (new_cu_up g n))) (sym (find_mapped node_cmp cu_up_set_up u.ups (up_id g n)))
           (up_by g n (find node_cmp u.ups (up_id g n)))
 
       du_by : (g : Gnb) (n : ℕ) (o : Option (Du M C)) → DuGrows (unwrap_or o (new_du g n)) (unwrap_or (option_map du_set_up o) (new_du g n))
@@ -152,20 +152,20 @@ module _ {M C : Type 0} where
           (du_by g n (find node_cmp u.dus (du_id g n)))
 
   pub placed_gives : (u : Units M C) (plan : Plan)
-      → up_has_teids (up_of u plan.gnb plan.up) plan && du_has_teids (du_of u plan.gnb plan.du) plan ≡ true → GiveOnce u (all_set_up (units_placed plan u))
+      → cu_up_has_teids (cu_up_of u plan.gnb plan.up) plan && du_has_teids (du_of u plan.gnb plan.du) plan ≡ true → GiveOnce u (all_set_up (units_placed plan u))
   placed_gives u plan left =
-      let up : CuUp M C = up_of u plan.gnb plan.up in
+      let up : CuUp M C = cu_up_of u plan.gnb plan.up in
       let du : Du M C = du_of u plan.gnb plan.du in
       let a : Units M C = with_ue u plan.ue _ in
-      let b : Units M C = with_up a plan.gnb plan.up (up_placed up plan du.next_teid) in
+      let b : Units M C = with_cu_up a plan.gnb plan.up (cu_up_placed up plan du.next_teid) in
       let c : Units M C = with_du b plan.gnb plan.du (du_placed du plan (up.next_teid + 1)) in
       let d : Units M C = units_placed plan u in
       give_then u d (all_set_up d)
       (give_then u c d
       (give_then u b c
-      (with_up_gives a plan.gnb plan.up (up_placed up plan du.next_teid) (up_grows up plan du.next_teid (first_of_two _ _ left)))
+      (with_up_gives a plan.gnb plan.up (cu_up_placed up plan du.next_teid) (up_grows up plan du.next_teid (first_of_two _ _ left)))
       (with_du_gives b plan.gnb plan.du (du_placed du plan (up.next_teid + 1)) (du_grows du plan (up.next_teid + 1) (second_of_two _ _ left))))
-      (with_cp_gives c plan.gnb (cp_placed (cp_of u plan.gnb) plan)))
+      (with_cp_gives c plan.gnb (cu_cp_placed (cu_cp_of u plan.gnb) plan)))
       (set_up_gives d)
 
 -- ---- the run
@@ -182,12 +182,12 @@ module _ (reading : Reading) where
   AnsweredWell u (stepped outputs v) = GiveOnce u v
   AnsweredWell u (step_spent counter) = Unit {0}
 
-  by_cp : (u : PlainUnits) (gnb : Gnb) (a : Plain (CuCpRecord (Message Token) Token)) → Answered u (stepped_with reading (with_cp u gnb) a)
+  by_cp : (u : PlainUnits) (gnb : Gnb) (a : Plain (CuCpRecord (Message Token) Token)) → Answered u (stepped_with reading (with_cu_cp u gnb) a)
   by_cp u gnb (gives outputs r) = with_cp_gives u gnb r
   by_cp u gnb (spent counter) = tt
 
-  by_up : (u : PlainUnits) (gnb : Gnb) (number : ℕ) (a : Plain (CuUp (Message Token) Token)) → UpGives plain_way (up_of u gnb number) a
-      → Answered u (stepped_with reading (with_up u gnb number) a)
+  by_up : (u : PlainUnits) (gnb : Gnb) (number : ℕ) (a : Plain (CuUp (Message Token) Token)) → UpGives plain_way (cu_up_of u gnb number) a
+      → Answered u (stepped_with reading (with_cu_up u gnb number) a)
   by_up u gnb number (gives outputs r) p = with_up_gives u gnb number r p.1
   by_up u gnb number (spent counter) p = tt
 
@@ -201,9 +201,9 @@ module _ (reading : Reading) where
   by_ue u ue (spent counter) = tt
 
   acted : (u : PlainUnits) (node : NodeId) (input : Input Token Pdu) → Answered u (acts_on reading u node input)
-  acted u (CuCp gnb) input = by_cp u gnb (cu_cp_acts plain_way (cp_of u gnb) input)
+  acted u (CuCp gnb) input = by_cp u gnb (cu_cp_acts plain_way (cu_cp_of u gnb) input)
   acted u (up_id gnb number) input =
-      by_up u gnb number (cu_up_acts plain_way (up_of u gnb number) input) (cu_up_gives plain_way (up_of u gnb number) input)
+      by_up u gnb number (cu_up_acts plain_way (cu_up_of u gnb number) input) (cu_up_gives plain_way (cu_up_of u gnb number) input)
   acted u (du_id gnb number) input =
       by_du u gnb number (du_acts plain_way (du_of u gnb number) input) (du_gives plain_way (du_of u gnb number) input)
   acted u (Ue ue) input = there (ue_of u (record { 0 = ue }))

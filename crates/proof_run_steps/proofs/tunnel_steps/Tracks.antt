@@ -24,7 +24,7 @@ use Rattle.run_defs.specs.Units.{Units}
 use Rattle.run_defs.specs.States.{State, World, Stop, goes, stops, told_before, ◌next◌, goes_on, Ending, Within, entity, radio_of, with_radio}
 use Rattle.run_defs.specs.Steps.{first_outstanding, entities_of, checked_by, check_spans, noted, count_beside, item_of, on_tunnel, put_on_tunnel, put_on_connected, put_on_radio, put_control, opens, closes, radio_lost, lose_each, lose_radios_of, lose_radios, radios_of, same_epoch, epoch_now, connect_in, reconnect, reconnect_node, put_out, put_out_all, carried_out}
 use Rattle.run_defs.specs.Events.{leaves}
-use Rattle.proof_run_steps.specs.steps.Causes.{Cause, by_order, by_tick, by_octets, by_octets_on, by_attach, by_release, by_offer, by_item, by_air, by_ack, by_letter, node_of, count_of, first_of}
+use Rattle.proof_run_steps.specs.steps.Causes.{Cause, by_order, by_tick, by_octets, by_octets_on, by_attach, by_release, by_offer, by_item, by_air, by_ack, by_control_message, node_of, count_of, first_of}
 use Rattle.proof_run_steps.specs.tunnel_steps.Standing.{standing, is_end, with_item, after_put, after_puts, after_taking, put_by, put_on, Leaves}
 
 module _ {M C L P : Type 0} (world : World M C L P) (end : TunnelEnd) where
@@ -214,7 +214,7 @@ module _ {M C L P : Type 0} (world : World M C L P) (end : TunnelEnd) where
       by false = refl
   first_takes (by_air key home item) s units = refl
   first_takes (by_ack key home item rest) s units = refl
-  first_takes (by_letter number l to) s units = refl
+  first_takes (by_control_message number l to) s units = refl
 
   act_tracked : (cause : Cause M L P) (outputs : List (Put M L P)) (units : Units M C) (s : State M C L P)
       → Has (after_puts end (node_of cause) (count_of cause) outputs (after_taking end cause (standing s end)))

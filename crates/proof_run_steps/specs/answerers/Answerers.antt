@@ -6,7 +6,7 @@ use Rattle.gnb_types.specs.declared.names.NodeId.TheVariants.{CuUp, Du}
 use Rattle.message_types.specs.declared.f1.F1.TheVariants as f1s
 use Rattle.message_types.specs.declared.e1.E1Message.TheVariants as e1s
 use Rattle.unit_defs.specs.Ways.{Message, f1, e1}
-use Rattle.transport_defs.specs.declared.Letter.{Letter}
+use Rattle.transport_defs.specs.declared.ControlMessage.{ControlMessage}
 
 abbrev pub IsDu : NodeId → Type 0
 IsDu (Du gnb number) = Unit {0}
@@ -23,5 +23,5 @@ AnswersOwn from (f1 (f1s.UeContextModificationResponse ue instance downlinks)) =
 AnswersOwn from (e1 (e1s.BearerContextSetupResponse ue instance uplinks n3 down up)) = IsCuUp from
 AnswersOwn from message = Unit {0}
 
-abbrev pub AllAnswerOwn : {C : Type 0} → List (ℕ × Letter (Message C)) → Type 0
-AllAnswerOwn letters = AllByRecursion (λ (e : ℕ × Letter (Message _)). AnswersOwn e.1.from e.1.message) letters
+abbrev pub AllAnswerOwn : {C : Type 0} → List (ℕ × ControlMessage (Message C)) → Type 0
+AllAnswerOwn control_messages = AllByRecursion (λ (e : ℕ × ControlMessage (Message _)). AnswersOwn e.1.from e.1.message) control_messages

@@ -16,20 +16,20 @@ use Rattle.tables.specs.Tables.{find, put}
 use Rattle.unit_defs.specs.Ways.{Put, control, packet, radio}
 use Rattle.unit_defs.specs.Messages.{teid_of}
 use Rattle.unit_defs.specs.Core.{CorePath, CoreRecord}
-use Rattle.unit_defs.specs.Static.{up_has_room, up_has_teids, du_has_teids}
+use Rattle.unit_defs.specs.Static.{cu_up_has_room, cu_up_has_teids, du_has_teids}
 use Rattle.unit_defs.specs.Ue.{new_ue}
 use Rattle.transport_defs.specs.declared.Item.{Item}
-use Rattle.transport_defs.specs.declared.Letter.{Letter}
-use Rattle.transport_defs.specs.Links.{most_letters}
-use Rattle.run_defs.specs.Units.{Units, up_of, du_of, with_ue}
-use Rattle.run_defs.specs.States.{State, Given, letter_for, item_for, carried_for, confirmed_for, octets_from, Lengths, stepped, core_stepped, World, entity, radio_of}
-use Rattle.run_defs.specs.Steps.{count_beside, count_letters}
+use Rattle.transport_defs.specs.declared.ControlMessage.{ControlMessage}
+use Rattle.transport_defs.specs.Links.{most_control_messages}
+use Rattle.run_defs.specs.Units.{Units, cu_up_of, du_of, with_ue}
+use Rattle.run_defs.specs.States.{State, Given, control_message_for, item_for, carried_for, confirmed_for, octets_from, Lengths, stepped, core_stepped, World, entity, radio_of}
+use Rattle.run_defs.specs.Steps.{count_beside, count_control_messages}
 use Rattle.run_defs.specs.Conditions.{is_held_by_units, units_placed, all_set_up}
 
 pub record Facts (M C L P : Type 0) : Type 1 where
   pub units : Units M C → Type 0
   pub core : CoreRecord M C → Type 0
-  pub letter : Letter M → Type 0
+  pub control_message : ControlMessage M → Type 0
   -- of an item that a node puts, and of one that stands there
   pub puts_on : NodeId → TunnelEnd → Item L → Type 0
   pub puts_on_air : NodeId → EntityKey → Item P → Type 0
@@ -45,11 +45,11 @@ module _ {M C L P : Type 0} (facts : Facts M C L P) where
   pub record HoldWith (more : ℕ) (s : State M C L P) : Type 0 where
     pub units : facts.units s.units
     pub core : facts.core s.core
-    pub letters : AllByRecursion (λ (e : ℕ × Letter M). facts.letter e.1) s.bag.letters
+    pub control_messages : AllByRecursion (λ (e : ℕ × ControlMessage M). facts.control_message e.1) s.bag.control_messages
     pub tunnels : (end : TunnelEnd) (items : List (Item L)) → find tunnel_cmp s.tunnels end ≡ Some items
         → AllByRecursion (facts.on_tunnel end) items
     pub radios : (key : EntityKey) → AllByRecursion (facts.on_radio key) (radio_of s key).items
-    pub few : facts.counted → length s.bag.letters + more ≤ most_letters
+    pub few : facts.counted → length s.bag.control_messages + more ≤ most_control_messages
 
   abbrev pub Hold : State M C L P → Type 0
   Hold s = HoldWith 0 s
@@ -57,7 +57,7 @@ module _ {M C L P : Type 0} (facts : Facts M C L P) where
   -- ---- what a node puts has its fact, where this COUNT stands beside the item that it took
 
   abbrev pub PutFits : NodeId → Option ℕ → Put M L P → Type 0
-  PutFits node taken (control to ue message) = facts.letter (record { from = node; to = to; ue = ue; message = message })
+  PutFits node taken (control to ue message) = facts.control_message (record { from = node; to = to; ue = ue; message = message })
   PutFits node taken (packet to teid ue bearer dir tag load) =
       facts.puts_on node (record { node = to; teid = teid }) (record { key = entity ue bearer dir; count = count_beside tag taken; content = load })
   PutFits node taken (radio ue bearer dir epoch tag pdu) =
@@ -69,7 +69,7 @@ module _ {M C L P : Type 0} (facts : Facts M C L P) where
 
   -- what a node is given has its fact
   abbrev pub GivenFits : NodeId → Option ℕ → Given M L P → Type 0
-  GivenFits node taken (letter_for from message) = (ue : ℕ) × facts.letter (record { from = from; to = node; ue = ue; message = message })
+  GivenFits node taken (control_message_for from message) = (ue : ℕ) × facts.control_message (record { from = from; to = node; ue = ue; message = message })
   GivenFits node taken (item_for teid item) = (taken ≡ item.count) × facts.on_tunnel (record { node = node; teid = teid }) item
   GivenFits node taken (carried_for item) = (taken ≡ item.count) × ((key : EntityKey) × facts.on_radio key item)
   GivenFits node taken (confirmed_for item) = (taken ≡ item.count) × ((key : EntityKey) × facts.on_radio key item)
@@ -82,8 +82,8 @@ pub record AreKept {M C L P : Type 0} (world : World M C L P) (facts : Facts M C
       → facts.units u → GivenFits facts node taken given → world.answer lengths u node given ≡ stepped outputs v
       → facts.units v × PutsFit facts node taken outputs
   pub comes : (u : Units M C) (plan : Plan) → facts.units u → facts.units (with_ue u plan.ue (new_ue plan))
-  pub placed : (u : Units M C) (plan : Plan) → is_held_by_units plan u ≡ false → up_has_room (up_of u plan.gnb plan.up) plan ≡ true
-      → up_has_teids (up_of u plan.gnb plan.up) plan && du_has_teids (du_of u plan.gnb plan.du) plan ≡ true
+  pub placed : (u : Units M C) (plan : Plan) → is_held_by_units plan u ≡ false → cu_up_has_room (cu_up_of u plan.gnb plan.up) plan ≡ true
+      → cu_up_has_teids (cu_up_of u plan.gnb plan.up) plan && du_has_teids (du_of u plan.gnb plan.du) plan ≡ true
       → facts.units u → facts.units (all_set_up (units_placed plan u))
   pub core_answers : (lengths : Lengths) (r q : CoreRecord M C) (given : Given M L P) (outputs : List (Put M L P)) → facts.core r
       → GivenFits facts Core None given → world.core_answer lengths r given ≡ core_stepped outputs q
@@ -95,4 +95,4 @@ pub record AreKept {M C L P : Type 0} (world : World M C L P) (facts : Facts M C
       → facts.puts_on Core (record { node = path.up; teid = teid_of path.n3 bearer })
       (record { key = entity ue bearer Dl; count = None; content = world.lay_n3 (teid_of path.n3 bearer) p })
   pub silent : facts.counted → (lengths : Lengths) (r q : CoreRecord M C) (from : NodeId) (octets : List ℕ) (outputs : List (Put M L P))
-      → world.core_answer lengths r (octets_from from octets) ≡ core_stepped outputs q → count_letters world outputs ≡ 0
+      → world.core_answer lengths r (octets_from from octets) ≡ core_stepped outputs q → count_control_messages world outputs ≡ 0

@@ -12,11 +12,11 @@ use Rattle.tables.specs.Tables.{find, put}
 use Rattle.unit_defs.specs.Ways.{Put}
 use Rattle.unit_defs.specs.Messages.{teid_of}
 use Rattle.unit_defs.specs.Core.{CorePath, CoreRecord}
-use Rattle.unit_defs.specs.Static.{up_has_room, up_has_teids, du_has_teids}
+use Rattle.unit_defs.specs.Static.{cu_up_has_room, cu_up_has_teids, du_has_teids}
 use Rattle.unit_defs.specs.Ue.{new_ue}
-use Rattle.run_defs.specs.Units.{Units, up_of, du_of, with_ue}
+use Rattle.run_defs.specs.Units.{Units, cu_up_of, du_of, with_ue}
 use Rattle.run_defs.specs.States.{Given, octets_from, Lengths, stepped, core_stepped, World, entity}
-use Rattle.run_defs.specs.Steps.{count_letters}
+use Rattle.run_defs.specs.Steps.{count_control_messages}
 use Rattle.run_defs.specs.Conditions.{is_held_by_units, units_placed, all_set_up, n3_from}
 use Rattle.proof_run_steps.specs.facts.Facts.{Facts, PutsFit, GivenFits}
 
@@ -24,8 +24,8 @@ module _ {M C L P : Type 0} (world : World M C L P) (facts : Facts M C L P) (lat
   -- a terminal may be set up without messages
   abbrev pub MayPlace : Units M C → Plan → Type 0
   MayPlace u plan =
-      (is_held_by_units plan u ≡ false) × (up_has_room (up_of u plan.gnb plan.up) plan ≡ true)
-      × (up_has_teids (up_of u plan.gnb plan.up) plan && du_has_teids (du_of u plan.gnb plan.du) plan ≡ true)
+      (is_held_by_units plan u ≡ false) × (cu_up_has_room (cu_up_of u plan.gnb plan.up) plan ≡ true)
+      × (cu_up_has_teids (cu_up_of u plan.gnb plan.up) plan && du_has_teids (du_of u plan.gnb plan.du) plan ≡ true)
 
   pub record AreKeptTo : Type 0 where
     -- what leads on was led to
@@ -41,7 +41,7 @@ module _ {M C L P : Type 0} (world : World M C L P) (facts : Facts M C L P) (lat
     pub placed : (u : Units M C) (plan : Plan) → MayPlace u plan → later (all_set_up (units_placed plan u)) → facts.units u
         → facts.units (all_set_up (units_placed plan u))
     pub core_placed : (u : Units M C) (r : CoreRecord M C) (plan : Plan) → MayPlace u plan → later (all_set_up (units_placed plan u)) → facts.units u → facts.core r
-        → facts.core (record r { paths = put ue_cmp r.paths plan.ue (record { up = CuUp plan.gnb plan.up; n3 = n3_from 1 (up_of u plan.gnb plan.up).next_teid plan.bearers }) })
+        → facts.core (record r { paths = put ue_cmp r.paths plan.ue (record { up = CuUp plan.gnb plan.up; n3 = n3_from 1 (cu_up_of u plan.gnb plan.up).next_teid plan.bearers }) })
     pub core_answers : (lengths : Lengths) (r q : CoreRecord M C) (given : Given M L P) (outputs : List (Put M L P)) → facts.core r
         → GivenFits facts Core None given → world.core_answer lengths r given ≡ core_stepped outputs q → facts.core q × PutsFit facts Core None outputs
     pub lays : (r : CoreRecord M C) (ue : UeId) (bearer : BearerId) (p : List ℕ) (path : CorePath) → facts.core r
@@ -49,4 +49,4 @@ module _ {M C L P : Type 0} (world : World M C L P) (facts : Facts M C L P) (lat
         → facts.puts_on Core (record { node = path.up; teid = teid_of path.n3 bearer })
         (record { key = entity ue bearer Dl; count = None; content = world.lay_n3 (teid_of path.n3 bearer) p })
     pub silent : facts.counted → (lengths : Lengths) (r q : CoreRecord M C) (from : NodeId) (octets : List ℕ) (outputs : List (Put M L P))
-        → world.core_answer lengths r (octets_from from octets) ≡ core_stepped outputs q → count_letters world outputs ≡ 0
+        → world.core_answer lengths r (octets_from from octets) ≡ core_stepped outputs q → count_control_messages world outputs ≡ 0

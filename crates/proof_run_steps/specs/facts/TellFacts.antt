@@ -28,7 +28,7 @@ module _ {M C L P : Type 0} (world : World M C L P) (facts : Facts M C L P) wher
 
   abbrev pub Tells : NodeId → RunLine M → Type 0
   Tells actor (put_item link item) = TellsTunnel actor link item ⊎ TellsRadio actor link item
-  Tells actor (put_message number l) = (l.from ≡ actor) × facts.letter l
+  Tells actor (put_message number l) = (l.from ≡ actor) × facts.control_message l
   Tells actor line = Unit {0}
 
   -- a step without an acting unit puts nothing

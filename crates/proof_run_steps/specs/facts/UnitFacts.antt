@@ -16,18 +16,18 @@ use Rattle.message_types.specs.declared.rrc.Token.{Token}
 use Rattle.tables.specs.Tables.{find, put}
 use Rattle.unit_defs.specs.Ways.{Message, Pdu, Load, fresh, Input, control_input, packet_input, radio_input, confirm_input, Answer, gives, spent}
 use Rattle.unit_defs.specs.Messages.{teid_of}
-use Rattle.unit_defs.specs.UpRecords.{CuUp}
+use Rattle.unit_defs.specs.CuUpRecords.{CuUp}
 use Rattle.unit_defs.specs.CuUp.{new_cu_up, cu_up_acts}
 use Rattle.unit_defs.specs.Du.{Du, new_du, du_acts}
 use Rattle.unit_defs.specs.Ue.{UeNode, new_ue, placed, ue_acts}
-use Rattle.unit_defs.specs.CpRecords.{CuCpRecord, new_cu_cp}
+use Rattle.unit_defs.specs.CuCpRecords.{CuCpRecord, new_cu_cp}
 use Rattle.unit_defs.specs.CuCp.{cu_cp_acts}
 use Rattle.unit_defs.specs.Core.{CorePath, CoreRecord, new_core, core_acts}
-use Rattle.unit_defs.specs.Static.{up_has_room, up_has_teids, du_has_teids, up_placed, du_placed, cp_placed, up_set_up, du_set_up, cp_set_up}
+use Rattle.unit_defs.specs.Static.{cu_up_has_room, cu_up_has_teids, du_has_teids, cu_up_placed, du_placed, cu_cp_placed, cu_up_set_up, du_set_up, cu_cp_set_up}
 use Rattle.unit_defs.specs.octet_defs.Writing.{pdu_octets, load_octets, written_load}
 use Rattle.transport_defs.specs.declared.Item.{Item}
-use Rattle.transport_defs.specs.declared.Letter.{Letter}
-use Rattle.run_defs.specs.Units.{Units, cp_of, up_of, du_of, ue_of}
+use Rattle.transport_defs.specs.declared.ControlMessage.{ControlMessage}
+use Rattle.run_defs.specs.Units.{Units, cu_cp_of, cu_up_of, du_of, ue_of}
 use Rattle.run_defs.specs.States.{entity}
 use Rattle.run_defs.specs.Written.{Written}
 use Rattle.run_defs.specs.Runs.{plain_way, taken_of, content_of}
@@ -40,7 +40,7 @@ pub record UnitFacts : Type 1 where
   pub cp : Gnb → CuCpRecord (Message Token) Token → Type 0
   pub ue : UeId → UeNode → Type 0
   pub core : CoreRecord (Message Token) Token → Type 0
-  pub letter : Letter (Message Token) → Type 0
+  pub control_message : ControlMessage (Message Token) → Type 0
   pub puts_on : NodeId → TunnelEnd → Item (Load Pdu) → Type 0
   pub puts_on_air : NodeId → EntityKey → Item Pdu → Type 0
   pub on_tunnel : TunnelEnd → Item (Load Pdu) → Type 0
@@ -61,16 +61,16 @@ HasPduOctets item = (sn : SnBits) × (item.content.octets ≡ pdu_octets sn item
 module _ (facts : UnitFacts) where
   abbrev pub OfUnits : Units (Message Token) Token → Type 0
   OfUnits units =
-      ((gnb : Gnb) (number : ℕ) → facts.up gnb number (up_of units gnb number))
+      ((gnb : Gnb) (number : ℕ) → facts.up gnb number (cu_up_of units gnb number))
       × ((gnb : Gnb) (number : ℕ) → facts.du gnb number (du_of units gnb number))
-      × ((gnb : Gnb) → facts.cp gnb (cp_of units gnb))
+      × ((gnb : Gnb) → facts.cp gnb (cu_cp_of units gnb))
       × ((ue : UeId) (x : UeNode) → ue_of units ue ≡ Some x → facts.ue ue x)
 
   abbrev pub as_facts : Facts (Message Token) Token (Load Pdu) Pdu
   as_facts = record {
     units = OfUnits;
     core = facts.core;
-    letter = facts.letter;
+    control_message = facts.control_message;
     puts_on = facts.puts_on;
     puts_on_air = facts.puts_on_air;
     on_tunnel = facts.on_tunnel;
@@ -84,7 +84,7 @@ module _ (facts : UnitFacts) where
   written_facts = record {
     units = OfUnits;
     core = facts.core;
-    letter = facts.letter;
+    control_message = facts.control_message;
     puts_on = λ node end item. facts.puts_on node end (said_item item) × HasOctets end.teid item;
     puts_on_air = λ node key item. facts.puts_on_air node key (said_item item) × HasPduOctets item;
     on_tunnel = λ end item. facts.on_tunnel end (said_item item) × HasOctets end.teid item;
@@ -96,7 +96,7 @@ module _ (facts : UnitFacts) where
 
   -- what a unit is given has its fact, where this COUNT stands beside the item
   abbrev pub InputFits : NodeId → Option ℕ → Input Token Pdu → Type 0
-  InputFits node taken (control_input from message) = (ue : ℕ) × facts.letter (record { from = from; to = node; ue = ue; message = message })
+  InputFits node taken (control_input from message) = (ue : ℕ) × facts.control_message (record { from = from; to = node; ue = ue; message = message })
   InputFits node taken (packet_input teid item) =
       (load : Load Pdu) × (item ≡ taken_of load)
       × ((key : EntityKey) × facts.on_tunnel (record { node = node; teid = teid }) (record { key = key; count = taken; content = load }))
@@ -134,16 +134,16 @@ module _ (facts : UnitFacts) where
         (record { key = entity ue bearer Dl; count = None; content = fresh p })
     pub comes : (plan : Plan) → facts.ue plan.ue (new_ue plan)
     pub places_ue : (plan : Plan) → facts.ue plan.ue (placed (new_ue plan))
-    pub places_up : (r : CuUp (Message Token) Token) (plan : Plan) (downlink : ℕ) → up_has_room r plan ≡ true → up_has_teids r plan ≡ true
-        → facts.up plan.gnb plan.up r → facts.up plan.gnb plan.up (up_placed r plan downlink)
+    pub places_up : (r : CuUp (Message Token) Token) (plan : Plan) (downlink : ℕ) → cu_up_has_room r plan ≡ true → cu_up_has_teids r plan ≡ true
+        → facts.up plan.gnb plan.up r → facts.up plan.gnb plan.up (cu_up_placed r plan downlink)
     pub places_du : (r : Du (Message Token) Token) (plan : Plan) (uplink : ℕ) → du_has_teids r plan ≡ true
         → facts.du plan.gnb plan.du r → facts.du plan.gnb plan.du (du_placed r plan uplink)
-    pub places_cp : (r : CuCpRecord (Message Token) Token) (plan : Plan) → facts.cp plan.gnb r → facts.cp plan.gnb (cp_placed r plan)
+    pub places_cp : (r : CuCpRecord (Message Token) Token) (plan : Plan) → facts.cp plan.gnb r → facts.cp plan.gnb (cu_cp_placed r plan)
     pub places_path : (r : CoreRecord (Message Token) Token) (plan : Plan) (n3 : List Tunnel) → facts.core r
         → facts.core (record r { paths = put ue_cmp r.paths plan.ue (record { up = up_id plan.gnb plan.up; n3 = n3 }) })
-    pub sets_up : (gnb : Gnb) (number : ℕ) (r : CuUp (Message Token) Token) → facts.up gnb number r → facts.up gnb number (up_set_up r)
+    pub sets_up : (gnb : Gnb) (number : ℕ) (r : CuUp (Message Token) Token) → facts.up gnb number r → facts.up gnb number (cu_up_set_up r)
     pub sets_du : (gnb : Gnb) (number : ℕ) (r : Du (Message Token) Token) → facts.du gnb number r → facts.du gnb number (du_set_up r)
-    pub sets_cp : (gnb : Gnb) (r : CuCpRecord (Message Token) Token) → facts.cp gnb r → facts.cp gnb (cp_set_up r)
+    pub sets_cp : (gnb : Gnb) (r : CuCpRecord (Message Token) Token) → facts.cp gnb r → facts.cp gnb (cu_cp_set_up r)
     pub first_up : (gnb : Gnb) (number : ℕ) → facts.up gnb number (new_cu_up gnb number)
     pub first_du : (gnb : Gnb) (number : ℕ) → facts.du gnb number (new_du gnb number)
     pub first_cp : (gnb : Gnb) → facts.cp gnb (new_cu_cp gnb)

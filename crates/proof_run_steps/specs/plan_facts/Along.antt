@@ -18,13 +18,13 @@ use Rattle.scenario_text.specs.declared.event.Event.TheVariants as events
 use Rattle.unit_defs.specs.Ways.{Put}
 use Rattle.unit_defs.specs.Messages.{teid_of}
 use Rattle.unit_defs.specs.Core.{CorePath, CoreRecord}
-use Rattle.unit_defs.specs.Static.{up_has_room, up_has_teids, du_has_teids}
+use Rattle.unit_defs.specs.Static.{cu_up_has_room, cu_up_has_teids, du_has_teids}
 use Rattle.unit_defs.specs.Ue.{new_ue}
 use Rattle.transport_defs.specs.declared.Item.{Item}
-use Rattle.transport_defs.specs.declared.Letter.{Letter}
-use Rattle.run_defs.specs.Units.{Units, up_of, du_of, with_ue}
+use Rattle.transport_defs.specs.declared.ControlMessage.{ControlMessage}
+use Rattle.run_defs.specs.Units.{Units, cu_up_of, du_of, with_ue}
 use Rattle.run_defs.specs.States.{State, Given, offer_for, order_for, octets_from, Lengths, sn_in, stepped, core_stepped, World, goes, stops, Ending, entity}
-use Rattle.run_defs.specs.Steps.{count_letters}
+use Rattle.run_defs.specs.Steps.{count_control_messages}
 use Rattle.run_defs.specs.Conditions.{is_held_by_units, units_placed, all_set_up, n3_from}
 use Rattle.proof_run_steps.specs.steps.Causes.{IsNoAttach}
 use Rattle.proof_run_steps.specs.plans.Plans.{Plans, PlansStay}
@@ -64,7 +64,7 @@ Brings allowed given = Unit {0}
 pub record Grows {M C L P : Type 0} (f g : Facts M C L P) : Type 0 where
   pub units : (u : Units M C) → f.units u → g.units u
   pub core : (r : CoreRecord M C) → f.core r → g.core r
-  pub letter : (l : Letter M) → f.letter l → g.letter l
+  pub control_message : (l : ControlMessage M) → f.control_message l → g.control_message l
   pub on_tunnel : (end : TunnelEnd) (item : Item L) → f.on_tunnel end item → g.on_tunnel end item
   pub on_radio : (key : EntityKey) (item : Item P) → f.on_radio key item → g.on_radio key item
   pub counted : g.counted → f.counted
@@ -73,8 +73,8 @@ module _ {M C L P : Type 0} (world : World M C L P) (facts : Plans → Facts M C
   -- a terminal may be set up without messages
   abbrev pub HasRoom : Units M C → Plan → Type 0
   HasRoom u plan =
-      (is_held_by_units plan u ≡ false) × (up_has_room (up_of u plan.gnb plan.up) plan ≡ true)
-      × (up_has_teids (up_of u plan.gnb plan.up) plan && du_has_teids (du_of u plan.gnb plan.du) plan ≡ true)
+      (is_held_by_units plan u ≡ false) × (cu_up_has_room (cu_up_of u plan.gnb plan.up) plan ≡ true)
+      × (cu_up_has_teids (cu_up_of u plan.gnb plan.up) plan && du_has_teids (du_of u plan.gnb plan.du) plan ≡ true)
 
   pub record AreKeptAlong (allowed : Allowed) : Type 0 where
     pub grows : (before after : Plans) → PlansStay before after → Grows (facts before) (facts after)
@@ -90,7 +90,7 @@ module _ {M C L P : Type 0} (world : World M C L P) (facts : Plans → Facts M C
     pub placed : (plans : Plans) (plan : Plan) (u : Units M C) → allowed.comes plan → HasRoom u plan → (facts (with_plan plans plan)).units u
         → (facts (with_plan plans plan)).units (all_set_up (units_placed plan u))
     pub core_placed : (plans : Plans) (plan : Plan) (u : Units M C) (r : CoreRecord M C) → allowed.comes plan → HasRoom u plan → (facts (with_plan plans plan)).core r
-        → (facts (with_plan plans plan)).core (record r { paths = put ue_cmp r.paths plan.ue (record { up = CuUp plan.gnb plan.up; n3 = n3_from 1 (up_of u plan.gnb plan.up).next_teid plan.bearers }) })
+        → (facts (with_plan plans plan)).core (record r { paths = put ue_cmp r.paths plan.ue (record { up = CuUp plan.gnb plan.up; n3 = n3_from 1 (cu_up_of u plan.gnb plan.up).next_teid plan.bearers }) })
     pub core_answers : (plans : Plans) (r q : CoreRecord M C) (given : Given M L P) (outputs : List (Put M L P)) → (facts plans).core r
         → GivenFits (facts plans) Core None given → world.core_answer (lengths_by plans) r given ≡ core_stepped outputs q
         → (facts plans).core q × PutsFit (facts plans) Core None outputs
@@ -99,7 +99,7 @@ module _ {M C L P : Type 0} (world : World M C L P) (facts : Plans → Facts M C
         → (facts plans).puts_on Core (record { node = path.up; teid = teid_of path.n3 bearer })
         (record { key = entity ue bearer Dl; count = None; content = world.lay_n3 (teid_of path.n3 bearer) p })
     pub silent : (plans : Plans) → (facts plans).counted → (lengths : Lengths) (r q : CoreRecord M C) (from : NodeId) (octets : List ℕ) (outputs : List (Put M L P))
-        → world.core_answer lengths r (octets_from from octets) ≡ core_stepped outputs q → count_letters world outputs ≡ 0
+        → world.core_answer lengths r (octets_from from octets) ≡ core_stepped outputs q → count_control_messages world outputs ≡ 0
 
   -- where it goes on, they hold of the plans of that state
   abbrev pub HoldsNow : {X : Type 0} → Ending X (State M C L P) → Type 0

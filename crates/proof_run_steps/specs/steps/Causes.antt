@@ -16,10 +16,10 @@ use Rattle.tables.specs.Tables.{find}
 use Rattle.scenario_text.specs.declared.event.Event.{Event}
 use Rattle.scenario_text.specs.declared.event.Event.TheVariants as events
 use Rattle.transport_defs.specs.declared.Item.{Item}
-use Rattle.transport_defs.specs.declared.Letter.{Letter}
-use Rattle.transport_defs.specs.Links.{letter, nth}
-use Rattle.run_defs.specs.States.{State, Given, letter_for, item_for, carried_for, confirmed_for, offer_for, tick_for, order_for, octets_from, octets_on, World, goes_on, Within, entity, was_attached, has_bearer, radio_of}
-use Rattle.run_defs.specs.Conditions.{serving_gnb, ready_home, receiver_of, sender_of, takes_letters}
+use Rattle.transport_defs.specs.declared.ControlMessage.{ControlMessage}
+use Rattle.transport_defs.specs.Links.{control_message, nth}
+use Rattle.run_defs.specs.States.{State, Given, control_message_for, item_for, carried_for, confirmed_for, offer_for, tick_for, order_for, octets_from, octets_on, World, goes_on, Within, entity, was_attached, has_bearer, radio_of}
+use Rattle.run_defs.specs.Conditions.{serving_gnb, ready_home, receiver_of, sender_of, takes_control_messages}
 use Rattle.run_defs.specs.Events.{with_terminal, offered, taken_off, carried_off, confirmed_off, landed_as, leaves}
 
 pub data Cause (M L P : Type 0) : Type 0 where
@@ -37,7 +37,7 @@ pub data Cause (M L P : Type 0) : Type 0 where
   by_item : (end : TunnelEnd) (item : Item L) (rest : List (Item L)) → Cause M L P
   by_air : (key : EntityKey) (home : NodeId) (item : Item P) → Cause M L P
   by_ack : (key : EntityKey) (home : NodeId) (item : Item P) (rest : List (Item P)) → Cause M L P
-  by_letter : (number : ℕ) (letter : Letter M) (to : NodeId) → Cause M L P
+  by_control_message : (number : ℕ) (control_message : ControlMessage M) (to : NodeId) → Cause M L P
 
 -- who makes the step
 abbrev pub node_of : {M L P : Type 0} → Cause M L P → NodeId
@@ -51,7 +51,7 @@ node_of (by_offer ue bearer packet) = Ue ue.0
 node_of (by_item end item rest) = end.node
 node_of (by_air key home item) = receiver_of key home
 node_of (by_ack key home item rest) = sender_of key home
-node_of (by_letter number l to) = to
+node_of (by_control_message number l to) = to
 
 abbrev pub given_of : {M L P : Type 0} → Cause M L P → Given M L P
 given_of (by_order node order) = order_for order
@@ -64,7 +64,7 @@ given_of (by_offer ue bearer packet) = offer_for ue bearer packet
 given_of (by_item end item rest) = item_for end.teid item
 given_of (by_air key home item) = carried_for item
 given_of (by_ack key home item rest) = confirmed_for item
-given_of (by_letter number l to) = letter_for l.from l.message
+given_of (by_control_message number l to) = control_message_for l.from l.message
 
 -- the COUNT beside the item that is taken
 abbrev pub count_of : {M L P : Type 0} → Cause M L P → Option ℕ
@@ -81,7 +81,7 @@ first_of world (by_offer ue bearer packet) s = goes_on (offered world (entity ue
 first_of world (by_item end item rest) s = taken_off world end item rest s
 first_of world (by_air key home item) s = carried_off world key item s
 first_of world (by_ack key home item rest) s = confirmed_off world key rest s
-first_of world (by_letter number l to) s = landed_as world number l s
+first_of world (by_control_message number l to) s = landed_as world number l s
 first_of world cause s = goes_on s
 
 -- a terminal comes by its own cause alone
@@ -100,5 +100,5 @@ Stands event s (by_air key home item) =
     (ready_home s key.ue ≡ Some home) × (nth (radio_of s key).items (radio_of s key).carried ≡ Some item)
 Stands event s (by_ack key home item rest) =
     (ready_home s key.ue ≡ Some home) × ((radio_of s key).items ≡ item ∷ rest) × ((radio_of s key).carried == 0 ≡ false)
-Stands event s (by_letter number l to) = (letter s.bag number ≡ Some l) × (l.to ≡ to) × (takes_letters s to ≡ true)
+Stands event s (by_control_message number l to) = (control_message s.bag number ≡ Some l) × (l.to ≡ to) × (takes_control_messages s to ≡ true)
 Stands event s cause = Unit {0}

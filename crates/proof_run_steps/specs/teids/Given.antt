@@ -6,7 +6,7 @@ use Rattle.gnb_types.specs.declared.names.Gnb.{Gnb}
 use Rattle.tables.specs.Tables.{find}
 use Rattle.unit_defs.specs.Ways.{Output, opened, Answer, gives, spent}
 use Rattle.unit_defs.specs.Teids.{last_teid, teids_are_left, teid_after}
-use Rattle.run_defs.specs.Units.{Units, up_of, du_of}
+use Rattle.run_defs.specs.Units.{Units, cu_up_of, du_of}
 
 -- ---- a step: the TEIDs that it opens are the next ones, ascending, if so many are left; then those after them come next
 
@@ -53,7 +53,7 @@ GivesTeids next tunnels r answer = GivesFrom next tunnels (next r) (tunnels r) a
 
 abbrev pub GiveOnce : {M C : Type 0} → Units M C → Units M C → Type 0
 GiveOnce units later =
-    ((gnb : Gnb) (number : ℕ) → GrowsTo (up_of units gnb number).next_teid (up_of units gnb number).tunnels
-    (up_of later gnb number).next_teid (up_of later gnb number).tunnels)
+    ((gnb : Gnb) (number : ℕ) → GrowsTo (cu_up_of units gnb number).next_teid (cu_up_of units gnb number).tunnels
+    (cu_up_of later gnb number).next_teid (cu_up_of later gnb number).tunnels)
     × ((gnb : Gnb) (number : ℕ) → GrowsTo (du_of units gnb number).next_teid (du_of units gnb number).tunnels
     (du_of later gnb number).next_teid (du_of later gnb number).tunnels)

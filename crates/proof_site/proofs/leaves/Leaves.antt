@@ -18,13 +18,13 @@ use Rattle.gnb_types.specs.declared.outputs.Output.TheVariants as outs
 use Rattle.gnb_types.specs.Orders.{ue_cmp, node_cmp}
 use Rattle.gnb_types.proofs.OrderLemmas.{ue_total, node_total, node_exact}
 use Rattle.tables.specs.Tables.{find, put, at}
-use Rattle.unit_defs.specs.CpRecords.{CuCpRecord, has_unit, same_node}
-use Rattle.unit_defs.specs.UpRecords.{CuUp}
+use Rattle.unit_defs.specs.CuCpRecords.{CuCpRecord, has_unit, same_node}
+use Rattle.unit_defs.specs.CuUpRecords.{CuUp}
 use Rattle.unit_defs.specs.CuUp.{new_cu_up}
 use Rattle.unit_defs.specs.Ue.{UeNode}
 use Rattle.unit_defs.specs.octet_defs.Codec.{Codec}
 use Rattle.unit_defs.specs.octet_defs.Units.{cu_cp_steps, cu_up_steps, du_steps, ue_steps}
-use Rattle.run_defs.specs.Units.{cp_of, with_cp, up_of, with_up, du_of, with_du, ue_of, with_ue}
+use Rattle.run_defs.specs.Units.{cu_cp_of, with_cu_cp, cu_up_of, with_cu_up, du_of, with_du, ue_of, with_ue}
 use Rattle.run_defs.specs.UnitRuns.{Records, unit_gives, ue_answers, tables}
 use Rattle.run_units.specs.Steps.{IsAsked, has_units, LeavesAll}
 use Rattle.proof_site.specs.lone_units.Lone.{Makes, StaysWhereLone}
@@ -52,7 +52,7 @@ first_of false b h = absurd cc
 abbrev Cp : Type 0
 Cp = CuCpRecord (List ℕ) (List ℕ)
 
-asked_there : (own : Gnb) (c : Cp) (input : Input) (r : Records) → IsCpOf own c → IsAsked r (CuCp own) input → cp_of r own ≡ c → IsAskedThere c input
+asked_there : (own : Gnb) (c : Cp) (input : Input) (r : Records) → IsCpOf own c → IsAsked r (CuCp own) input → cu_cp_of r own ≡ c → IsAskedThere c input
 asked_there own c (ins.Order (orders.Attach plan)) r p is same =
     let there : has_units plan c = subst (λ (x : Cp). has_units plan x) same is in
     let own_is : plan.gnb ≡ own =
@@ -76,11 +76,11 @@ module _ (codec : Codec) (r : Records) (settled : AreSettled r) where
   cp_lone : (gnb : Gnb) → Lone (CuCp gnb)
   unfolding tables
   cp_lone A input o after is asked e =
-      alone_after codec (with_cp r A) r.cp_a (cu_cp_steps codec r.cp_a input)
-      (cp_steps_stay codec A r.cp_a input settled.cp_a (asked_there A r.cp_a input r settled.cp_a asked refl)) o after is e
+      alone_after codec (with_cu_cp r A) r.cu_cp_a (cu_cp_steps codec r.cu_cp_a input)
+      (cp_steps_stay codec A r.cu_cp_a input settled.cu_cp_a (asked_there A r.cu_cp_a input r settled.cu_cp_a asked refl)) o after is e
   cp_lone B input o after is asked e =
-      alone_after codec (with_cp r B) r.cp_b (cu_cp_steps codec r.cp_b input)
-      (cp_steps_stay codec B r.cp_b input settled.cp_b (asked_there B r.cp_b input r settled.cp_b asked refl)) o after is e
+      alone_after codec (with_cu_cp r B) r.cu_cp_b (cu_cp_steps codec r.cu_cp_b input)
+      (cp_steps_stay codec B r.cu_cp_b input settled.cu_cp_b (asked_there B r.cu_cp_b input r settled.cu_cp_b asked refl)) o after is e
 
   up_lone : (gnb : Gnb) (number : ℕ) → Lone (up_id gnb number)
   unfolding tables at
@@ -88,16 +88,16 @@ module _ (codec : Codec) (r : Records) (settled : AreSettled r) where
     where
       by : (u : Option (CuUp (List ℕ) (List ℕ))) → find node_cmp r.ups (up_id gnb number) ≡ u → after ≡ r
       by None there =
-          let new : up_of r gnb number ≡ new_cu_up gnb number = ap (λ (u : Option (CuUp (List ℕ) (List ℕ))). unwrap_or u (new_cu_up gnb number)) there in
-          absurd (made_apart codec (with_up r gnb number) (cu_up_steps codec (up_of r gnb number) input)
+          let new : cu_up_of r gnb number ≡ new_cu_up gnb number = ap (λ (u : Option (CuUp (List ℕ) (List ℕ))). unwrap_or u (new_cu_up gnb number)) there in
+          absurd (made_apart codec (with_cu_up r gnb number) (cu_up_steps codec (cu_up_of r gnb number) input)
           (subst (λ (u : CuUp (List ℕ) (List ℕ)). Makes (cu_up_steps codec u input)) (sym new) (new_up_makes codec gnb number input (no_poll r gnb number input there asked)))
           o after is e)
       by (Some u) there =
-          let same : up_of r gnb number ≡ u = ap (λ (u : Option (CuUp (List ℕ) (List ℕ))). unwrap_or u (new_cu_up gnb number)) there in
-          alone_after codec (with_up r gnb number) (up_of r gnb number) (cu_up_steps codec (up_of r gnb number) input)
-          (up_steps_stay codec (up_of r gnb number) input) o after is e
+          let same : cu_up_of r gnb number ≡ u = ap (λ (u : Option (CuUp (List ℕ) (List ℕ))). unwrap_or u (new_cu_up gnb number)) there in
+          alone_after codec (with_cu_up r gnb number) (cu_up_of r gnb number) (cu_up_steps codec (cu_up_of r gnb number) input)
+          (up_steps_stay codec (cu_up_of r gnb number) input) o after is e
           ∙ ap (λ (ups : List (NodeId × CuUp (List ℕ) (List ℕ))). record r { ups = ups })
-          (put_back node_total r.ups (up_id gnb number) (up_of r gnb number) settled.ups (there ∙ ap (λ (x : CuUp (List ℕ) (List ℕ)). Some x) (sym same)))
+          (put_back node_total r.ups (up_id gnb number) (cu_up_of r gnb number) settled.ups (there ∙ ap (λ (x : CuUp (List ℕ) (List ℕ)). Some x) (sym same)))
 
   du_lone : (gnb : Gnb) (number : ℕ) → Lone (du_id gnb number)
   unfolding tables

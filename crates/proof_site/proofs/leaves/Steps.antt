@@ -13,9 +13,9 @@ use Rattle.gnb_types.specs.declared.reasons.DropReason.TheVariants.{Unexpected}
 use Rattle.tables.specs.Tables.{find}
 use Rattle.unit_defs.specs.Ways.{Message, Input, control_input, tick_input, order_input}
 use Rattle.unit_defs.specs.Messages.{shares_interface}
-use Rattle.unit_defs.specs.CpRecords.{CuCpRecord}
+use Rattle.unit_defs.specs.CuCpRecords.{CuCpRecord}
 use Rattle.unit_defs.specs.CuCp.{cu_cp_acts}
-use Rattle.unit_defs.specs.UpRecords.{CuUp}
+use Rattle.unit_defs.specs.CuUpRecords.{CuUp}
 use Rattle.unit_defs.specs.CuUp.{new_cu_up, up_node, cu_up_acts}
 use Rattle.unit_defs.specs.Du.{Du, du_acts}
 use Rattle.unit_defs.specs.Ue.{UeNode, ue_acts}

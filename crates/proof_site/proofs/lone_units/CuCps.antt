@@ -33,9 +33,9 @@ use Rattle.unit_defs.specs.declared.AttemptKind.TheVariants as kinds
 use Rattle.unit_defs.specs.Ways.{Message, f1, e1, xn, core, Input, control_input, tick_input, order_input, Way, Answer, gives, spent, ◌then◌, nothing, drops}
 use Rattle.unit_defs.specs.Messages.{cause_name, channel, is_same_gnb, shares_interface, are_bearers, statuses_of}
 use Rattle.unit_defs.specs.Transactions.{Kind, request, reply, transfer, kind_of, Transactions, Asked, ask, ask_at_once, advance, replied, replied_late}
-use Rattle.unit_defs.specs.CpRecords.{Attempt, CpContext, CpTerminal, CuCpRecord, terminal_in, terminal_of, with_terminal, with_transactions, with_attempt, awaiting, begun, same_node, has_unit, bearers_in, awaits_answer, answered, waiting_of, after_begun, after_asked, noted, Say, asks, cancels, replies, replies_late, sends, fails, ignores, refuses, forgets, say_one, say_all, Row, row, row_spent, carry_out}
-use Rattle.unit_defs.specs.CpRows.{CpAt, own_up, own_du, name_bearers, is_between_dus, is_between_gnbs, attach_begins, attach_on, attach, move_begins, handover_begins, epoch_of, is_serving, handover_on, handover, cancel_attempt, cancel_of, cancel_on, cancel, release_on, release, say_accepted}
-use Rattle.unit_defs.specs.CuCp.{at_of, listed, caused, only_closes, in_attaching, in_moving, in_preparing, in_prepared, in_offered, in_switching, in_releasing, in_state, Answered, answers_none, answers_with, answer_of, answer_on, answer, after_failed_setup, put_next, closed_at, answered_by, reply_came, with_unit, set_up, asked, is_complete, is_reestablish, is_epoch, is_own_command, may_return, is_too_early, is_ready, token_in_ready, token_of_return, token_of_attempt, token_while_serving, token_by_attempt, token_on, token_row, token_ue, container_row, no_context_first, token_came, transferred, control_by, control_came, expired_on, due_one, due_each, command_by, command_on, command_each, ues_of, tick, ordered, cu_cp_acts}
+use Rattle.unit_defs.specs.CuCpRecords.{Attempt, CuCpContext, CuCpTerminal, CuCpRecord, terminal_in, terminal_of, with_terminal, with_transactions, with_attempt, awaiting, begun, same_node, has_unit, bearers_in, awaits_answer, answered, waiting_of, after_begun, after_asked, noted, Action, asks, cancels, replies, replies_late, sends, fails, ignores, refuses, forgets, act_one, act_all, Row, row, row_spent, carry_out}
+use Rattle.unit_defs.specs.CuCpRows.{CuCpScope, own_up, own_du, name_bearers, is_between_dus, is_between_gnbs, attach_begins, attach_on, attach, move_begins, handover_begins, epoch_of, is_serving, handover_on, handover, cancel_attempt, cancel_of, cancel_on, cancel, release_on, release, accepted_action}
+use Rattle.unit_defs.specs.CuCp.{at_of, listed, caused, only_closes, in_attaching, in_moving, in_preparing, in_prepared, in_offered, in_switching, in_releasing, in_state, Answered, answers_none, answers_with, answer_of, answer_on, answer, after_failed_setup, put_next, closed_at, answered_by, reply_received, with_unit, set_up, asked, is_complete, is_reestablish, is_epoch, is_own_command, may_return, is_too_early, is_ready, token_in_ready, token_of_return, token_of_attempt, token_while_serving, token_by_attempt, token_on, token_row, token_ue, container_row, no_context_first, token_received, transferred, control_by, control_received, expired_on, due_one, due_each, command_by, command_on, command_each, ues_of, tick, ordered, cu_cp_acts}
 use Rattle.proof_site.specs.lone_units.Lone.{IsMade, Makes, MakesTo, EndsIn, StaysWhereLone}
 use Rattle.proof_site.specs.lone_units.Orders.{IsOf, IsCpOf, IsAskedOf}
 use Rattle.proof_site.proofs.lone_units.Steps.{all_append, either_to, after_to, made_to, made_stays, ask_made, at_once_made, advance_made, replied_made, late_made, on_request_to, on_reply_to}
@@ -58,11 +58,11 @@ own_of gnb Core h = tt
 own_of gnb (Ue ue) h = tt
 
 -- a terminal with a context is one that is known
-known_by_context : (o : Option CpTerminal) (c : CpContext) → (terminal_in o).context ≡ Some c → o ≡ Some (terminal_in o)
+known_by_context : (o : Option CuCpTerminal) (c : CuCpContext) → (terminal_in o).context ≡ Some c → o ≡ Some (terminal_in o)
 known_by_context None c is = absurd cc
 known_by_context (Some t) c is = refl
 
-known_by_find : (o : Option CpTerminal) → is_some o ≡ true → o ≡ Some (terminal_in o)
+known_by_find : (o : Option CuCpTerminal) → is_some o ≡ true → o ≡ Some (terminal_in o)
 known_by_find None is = absurd cc
 known_by_find (Some t) is = refl
 
@@ -73,7 +73,7 @@ module _ {M C P : Type 0} (way : Way M C P) (own : Gnb) where
   abbrev Keeps : Answer M P (CuCpRecord M C) → Type 0
   Keeps a = MakesTo Good a
 
-  terminal_put : (ue : UeId) (r : CuCpRecord M C) (t : CpTerminal) → Good r → Good (with_terminal ue r t)
+  terminal_put : (ue : UeId) (r : CuCpRecord M C) (t : CuCpTerminal) → Good r → Good (with_terminal ue r t)
   terminal_put ue r t p = record { gnb_is = p.gnb_is; order = sorted-put ue_total r.terminals ue t p.order; units_are = p.units_are }
 
   transactions_put : (r : CuCpRecord M C) (t : Transactions M C) → Good r → Good (with_transactions r t)
@@ -92,8 +92,8 @@ module _ {M C P : Type 0} (way : Way M C P) (own : Gnb) where
 
   -- ---- what a row says is carried out
 
-  says_one : (ue : UeId) (r : CuCpRecord M C) (s : Say C) → IsSaid s → Good r → Keeps (say_one way ue r s)
-  unfolding say_one
+  says_one : (ue : UeId) (r : CuCpRecord M C) (s : Action C) → IsSaid s → Good r → Keeps (act_one way ue r s)
+  unfolding act_one
   says_one ue r (asks to m deadline awaited) is p =
       made_to Good (ask way r.transactions (channel ue.0 to) (waiting_of way m deadline awaited)) (λ a. nothing (after_asked way ue to (noted way ue to awaited r) a))
       (ask_made way r.transactions (channel ue.0 to) (waiting_of way m deadline awaited))
@@ -113,10 +113,10 @@ module _ {M C P : Type 0} (way : Way M C P) (own : Gnb) where
   says_one ue r (refuses reason) is p = absurd is
   says_one ue r forgets is p = (transactions_put r _ p, tt)
 
-  says_all : (ue : UeId) (ss : List (Say C)) (r : CuCpRecord M C) → AllByRecursion IsSaid ss → Good r → Keeps (say_all way ue ss r)
-  unfolding say_all
+  says_all : (ue : UeId) (ss : List (Action C)) (r : CuCpRecord M C) → AllByRecursion IsSaid ss → Good r → Keeps (act_all way ue ss r)
+  unfolding act_all
   says_all ue [] r all p = (p, tt)
-  says_all ue (s ∷ ss) r all p = after_to Good Good (say_one way ue r s) (say_all way ue ss) (says_one ue r s all.0 p) (λ q h. says_all ue ss q all.1 h)
+  says_all ue (s ∷ ss) r all p = after_to Good Good (act_one way ue r s) (act_all way ue ss) (says_one ue r s all.0 p) (λ q h. says_all ue ss q all.1 h)
 
   carried_out : (ue : UeId) (r : CuCpRecord M C) (what : Row C) → RowSays what → Good r → Keeps (carry_out way ue r what)
   unfolding carry_out
@@ -137,7 +137,7 @@ module _ {M C P : Type 0} (way : Way M C P) (own : Gnb) where
   caused_says None what each = tt
   caused_says (Some name) what each = each name
 
-  module _ (at : CpAt) (t : CpTerminal) (c : CpContext) where
+  module _ (at : CuCpScope) (t : CuCpTerminal) (c : CuCpContext) where
     attaching_says : (m : Message C) (a : Attempt) → ListSays (in_attaching way at m t c a)
     attaching_says (e1 (e1s.BearerContextSetupResponse ue instance uplinks n3 down up)) a =
         listed_says (name_bearers c uplinks && name_bearers c n3) _ (attach_has_says way at uplinks n3 t c a)
@@ -209,19 +209,19 @@ module _ {M C P : Type 0} (way : Way M C P) (own : Gnb) where
   AnswerSays answers_none = Unit {0}
   AnswerSays (answers_with taken) = ListSays taken
 
-  answer_says : (at : CpAt) (from : NodeId) (instance : ℕ) (m : Message C) (t : CpTerminal) → AnswerSays (answer way at from instance m t)
+  answer_says : (at : CuCpScope) (from : NodeId) (instance : ℕ) (m : Message C) (t : CuCpTerminal) → AnswerSays (answer way at from instance m t)
   unfolding answer
   answer_says at from instance m t = by t.context
     where
-      of_test : (c : CpContext) (a : Attempt) (b : Bool) → AnswerSays (if b then answers_with (in_state way at m t c c.state (answered a from)) else answers_none)
+      of_test : (c : CuCpContext) (a : Attempt) (b : Bool) → AnswerSays (if b then answers_with (in_state way at m t c c.state (answered a from)) else answers_none)
       of_test c a true = state_says at t c m c.state (answered a from)
       of_test c a false = tt
 
-      of_attempt : (c : CpContext) (a : Option Attempt) → AnswerSays (answer_of way at from instance m t c a)
+      of_attempt : (c : CuCpContext) (a : Option Attempt) → AnswerSays (answer_of way at from instance m t c a)
       of_attempt c None = tt
       of_attempt c (Some a) = of_test c a (awaits_answer a from instance)
 
-      by : (c : Option CpContext) → AnswerSays (answer_on way at from instance m t c)
+      by : (c : Option CuCpContext) → AnswerSays (answer_on way at from instance m t c)
       by None = tt
       by (Some c) = of_attempt c c.attempt
 
@@ -237,8 +237,8 @@ module _ {M C P : Type 0} (way : Way M C P) (own : Gnb) where
       after_to Good Good (carry_out way ue (closed_at way ch r) what) (put_next way ue ch)
       (carried_out ue (closed_at way ch r) what says (transactions_put r _ p)) (next_keeps ue ch)
 
-  reply_keeps : (ue : UeId) (ch : Channel) (instance : ℕ) (m : Message C) (r : CuCpRecord M C) → Good r → Keeps (reply_came way ue ch instance m r)
-  unfolding reply_came
+  reply_keeps : (ue : UeId) (ch : Channel) (instance : ℕ) (m : Message C) (r : CuCpRecord M C) → Good r → Keeps (reply_received way ue ch instance m r)
+  unfolding reply_received
   reply_keeps ue ch instance m r p =
       answered_keeps ue ch m r (answer way (at_of r ue) ch.peer instance m (terminal_of r ue)) (answer_says (at_of r ue) ch.peer instance m (terminal_of r ue)) p
 
@@ -269,26 +269,26 @@ module _ {M C P : Type 0} (way : Way M C P) (own : Gnb) where
       carried_out ue r _ (xn_released_says way (at_of r ue) from instance (terminal_of r ue)) p
   asked_keeps from m r is p = (p, (tt, tt))
 
-  module _ (at : CpAt) (from : NodeId) (t : CpTerminal) where
-    ready_says : (token : Token) (epoch : ℕ) (c : CpContext) (a : Attempt) → RowSays (token_in_ready way at from token epoch t c a)
+  module _ (at : CuCpScope) (from : NodeId) (t : CuCpTerminal) where
+    ready_says : (token : Token) (epoch : ℕ) (c : CuCpContext) (a : Attempt) → RowSays (token_in_ready way at from token epoch t c a)
     ready_says token epoch c a =
         row_if way (not (is_ready way c.state && same_node from (own_du at c.du))) _ _ (tt, tt)
         (row_if way (is_complete way token && a.epoch == epoch) _ _ (arrives_says way at epoch t c a)
         (row_if way (is_reestablish way token && a.epoch + 1 == epoch) _ _ (arrives_again_says way at epoch t c a) (tt, tt)))
 
-    return_says : (token : Token) (epoch : ℕ) (c : CpContext) (a : Attempt) → RowSays (token_of_return way at from token epoch t c a)
+    return_says : (token : Token) (epoch : ℕ) (c : CuCpContext) (a : Attempt) → RowSays (token_of_return way at from token epoch t c a)
     return_says token epoch c a =
         row_if way (is_reestablish way token && is_epoch way c.epoch 1 epoch && same_node from (own_du at c.du)) _ _
         (row_if way (may_return way c.state a.kind) _ _ (returns_says way at epoch t c)
         (row_if way (is_too_early way c.state a.kind) _ _ (tt, tt) (ready_says token epoch c a))) (ready_says token epoch c a)
 
-    attempt_says : (token : Token) (epoch : ℕ) (c : CpContext) (a : Attempt) → RowSays (token_of_attempt way at from token epoch t c a)
+    attempt_says : (token : Token) (epoch : ℕ) (c : CuCpContext) (a : Attempt) → RowSays (token_of_attempt way at from token epoch t c a)
     attempt_says token epoch c a =
         row_if way (not (is_own_command way c.state a.kind && same_node from (own_du at a.du))) _ _ (return_says token epoch c a)
         (row_if way (is_complete way token && is_epoch way c.epoch 1 epoch) _ _ (completes_says way at epoch t c a)
         (row_if way (is_reestablish way token && is_epoch way c.epoch 2 epoch) _ _ (completes_again_says way at epoch t c a) (return_says token epoch c a)))
 
-    token_says : (token : Token) (epoch : ℕ) (c : Option CpContext) → RowSays (token_on way at from token epoch t c)
+    token_says : (token : Token) (epoch : ℕ) (c : Option CuCpContext) → RowSays (token_on way at from token epoch t c)
     token_says token epoch None = (tt, tt)
     token_says token epoch (Some c) =
         row_if way (is_epoch way c.epoch 0 epoch && c.finished) _ _ (tt, tt) (by c.attempt)
@@ -303,14 +303,14 @@ module _ {M C P : Type 0} (way : Way M C P) (own : Gnb) where
     token_row_says (tokens.Reestablish ue epoch) = token_says (tokens.Reestablish ue epoch) epoch t.context
     token_row_says token = (tt, tt)
 
-    container_says : (c : Option CpContext) (token : Option Token) → RowSays (no_context_first way at from t c token)
+    container_says : (c : Option CuCpContext) (token : Option Token) → RowSays (no_context_first way at from t c token)
     container_says None token = (tt, tt)
     container_says (Some c) None = (tt, tt)
     container_says (Some c) (Some token) =
         row_if way ((token_ue way token).0 == at.ue.0) _ _ (token_row_says token) (tt, tt)
 
   transferred_keeps : (from : NodeId) (m : Message C) (r : CuCpRecord M C) → Good r → Keeps (transferred way from m r)
-  unfolding token_came
+  unfolding token_received
   transferred_keeps from (f1 (f1s.UlRrcMessageTransfer ue container)) r p =
       carried_out ue r _ (container_says (at_of r ue) from (terminal_of r ue) (terminal_of r ue).context (way.unwrap container)) p
   transferred_keeps from m r p = (p, (tt, tt))
@@ -320,12 +320,12 @@ module _ {M C P : Type 0} (way : Way M C P) (own : Gnb) where
       on_request_to way Good r r.transactions (channel ue from) i (λ t. asked way from m (with_transactions r t)) p
       (λ t. asked_keeps from m (with_transactions r t) is (transactions_put r t p))
   control_by_keeps from m r (reply ue i) is p =
-      on_reply_to way Good r r.transactions (channel ue from) i (reply_came way (record { 0 = ue }) (channel ue from) i m r) p
+      on_reply_to way Good r r.transactions (channel ue from) i (reply_received way (record { 0 = ue }) (channel ue from) i m r) p
       (reply_keeps (record { 0 = ue }) (channel ue from) i m r p)
   control_by_keeps from m r (transfer ue) is p = transferred_keeps from m r p
 
-  control_keeps : (from : NodeId) (m : Message C) (r : CuCpRecord M C) → Good r → Keeps (control_came way from m r)
-  unfolding control_came
+  control_keeps : (from : NodeId) (m : Message C) (r : CuCpRecord M C) → Good r → Keeps (control_received way from m r)
+  unfolding control_received
   control_keeps from m r p = by (shares_interface (CuCp r.gnb) from) refl
     where
       by : (t : Bool) → shares_interface (CuCp r.gnb) from ≡ t → Keeps (if t then control_by way from m r (kind_of m) else drops Unexpected r)
@@ -335,7 +335,7 @@ module _ {M C P : Type 0} (way : Way M C P) (own : Gnb) where
 
   -- ---- a tick
 
-  expired_says : (at : CpAt) (t : CpTerminal) (c : Option CpContext) → RowSays (expired_on way at t c)
+  expired_says : (at : CuCpScope) (t : CuCpTerminal) (c : Option CuCpContext) → RowSays (expired_on way at t c)
   expired_says at t None = tt
   expired_says at t (Some c) = expires_says way at t c
 
@@ -349,7 +349,7 @@ module _ {M C P : Type 0} (way : Way M C P) (own : Gnb) where
   due_each_keeps [] r p = (p, tt)
   due_each_keeps (d ∷ ds) r p = after_to Good Good (due_one way r d) (due_each way ds) (due_one_keeps r d p) (due_each_keeps ds)
 
-  commanded_says : (at : CpAt) (t : CpTerminal) (c : Option CpContext) → RowSays (command_on way at t c)
+  commanded_says : (at : CuCpScope) (t : CuCpTerminal) (c : Option CuCpContext) → RowSays (command_on way at t c)
   commanded_says at t None = tt
   commanded_says at t (Some c) = by c.state c.attempt
     where
@@ -373,10 +373,10 @@ module _ {M C P : Type 0} (way : Way M C P) (own : Gnb) where
 
   -- ---- orders: a row that refuses nothing, or one that refuses and keeps the terminal
 
-  abbrev IsOrderRow : CpTerminal → Row C → Type 0
+  abbrev IsOrderRow : CuCpTerminal → Row C → Type 0
   IsOrderRow t what = RowSays what ⊎ ((reason : RefuseReason) × (what ≡ row (refuses reason ∷ []) t))
 
-  order_if : (t : CpTerminal) (b : Bool) (x y : Row C) → IsOrderRow t x → IsOrderRow t y → IsOrderRow t (if b then x else y)
+  order_if : (t : CuCpTerminal) (b : Bool) (x y : Row C) → IsOrderRow t x → IsOrderRow t y → IsOrderRow t (if b then x else y)
   order_if t true x y p q = p
   order_if t false x y p q = q
 
@@ -396,10 +396,10 @@ module _ {M C P : Type 0} (way : Way M C P) (own : Gnb) where
       by (spent counter) p = tt
 
   refused_comes : (ue : UeId) (r : CuCpRecord M C) (reason : RefuseReason) → Good r → Comes ue r (carry_out way ue r (row (refuses reason ∷ []) (terminal_of r ue)))
-  unfolding carry_out say_all say_one
+  unfolding carry_out act_all act_one
   refused_comes ue r reason p = (
     terminal_put ue r (terminal_of r ue) p,
-    λ known. ap (λ (es : List (UeId × CpTerminal)). record r { terminals = es }) (put_back ue_total r.terminals ue (terminal_of r ue) p.order known),
+    λ known. ap (λ (es : List (UeId × CuCpTerminal)). record r { terminals = es }) (put_back ue_total r.terminals ue (terminal_of r ue) p.order known),
   )
 
   order_comes : (ue : UeId) (r : CuCpRecord M C) (what : Row C) → Good r → IsOrderRow (terminal_of r ue) what → Comes ue r (carry_out way ue r what)
@@ -408,11 +408,11 @@ module _ {M C P : Type 0} (way : Way M C P) (own : Gnb) where
   order_comes ue r what p (inr refused) =
       subst (λ (x : Row C). Comes ue r (carry_out way ue r x)) (sym refused.1) (refused_comes ue r refused.0 p)
 
-  handover_row : (at : CpAt) (goal : Plan) (t : CpTerminal) → IsOrderRow t (handover way at goal t)
+  handover_row : (at : CuCpScope) (goal : Plan) (t : CuCpTerminal) → IsOrderRow t (handover way at goal t)
   unfolding handover
   handover_row at goal t = by t.context
     where
-      by : (c : Option CpContext) → IsOrderRow t (handover_on way at goal t c)
+      by : (c : Option CuCpContext) → IsOrderRow t (handover_on way at goal t c)
       by None = inr (Busy, refl)
       by (Some c) =
           order_if t (is_same_gnb goal.gnb at.gnb && goal.du == c.du) _ _ (inr (Same, refl))
@@ -421,11 +421,11 @@ module _ {M C P : Type 0} (way : Way M C P) (own : Gnb) where
           (order_if t (is_same_gnb goal.gnb at.gnb) _ _ (inl (move_begins_says way at goal (epoch_of way c) t c))
           (inl (handover_begins_says way at goal (epoch_of way c) t c)))))
 
-  cancel_row : (at : CpAt) (t : CpTerminal) → IsOrderRow t (cancel way at t)
+  cancel_row : (at : CuCpScope) (t : CuCpTerminal) → IsOrderRow t (cancel way at t)
   unfolding cancel
   cancel_row at t = by t.context
     where
-      of_state : (c : CpContext) (s : StateName) (k : AttemptKind) (a : Attempt) → IsOrderRow t (cancel_attempt way at t c s k a)
+      of_state : (c : CuCpContext) (s : StateName) (k : AttemptKind) (a : Attempt) → IsOrderRow t (cancel_attempt way at t c s k a)
       of_state c states.Preparing kinds.BetweenGnbs a = inl (tt, tt)
       of_state c states.Preparing kinds.BetweenDus a = inr (Busy, refl)
       of_state c states.Prepared k a = inr (Busy, refl)
@@ -435,27 +435,27 @@ module _ {M C P : Type 0} (way : Way M C P) (own : Gnb) where
       of_state c states.Commanded kinds.BetweenGnbs a = inr (TooLate, refl)
       of_state c s k a = inr (Empty, refl)
 
-      of_attempt : (c : CpContext) (a : Option Attempt) → IsOrderRow t (cancel_of way at t c a)
+      of_attempt : (c : CuCpContext) (a : Option Attempt) → IsOrderRow t (cancel_of way at t c a)
       of_attempt c None = inr (Empty, refl)
       of_attempt c (Some a) = of_state c c.state a.kind a
 
-      by : (c : Option CpContext) → IsOrderRow t (cancel_on way at t c)
+      by : (c : Option CuCpContext) → IsOrderRow t (cancel_on way at t c)
       by None = inr (Empty, refl)
       by (Some c) = of_attempt c c.attempt
 
-  release_row : (at : CpAt) (t : CpTerminal) → IsOrderRow t (release way at t)
+  release_row : (at : CuCpScope) (t : CuCpTerminal) → IsOrderRow t (release way at t)
   unfolding release
   release_row at t = by t.context
     where
-      by : (c : Option CpContext) → IsOrderRow t (release_on way at t c)
+      by : (c : Option CuCpContext) → IsOrderRow t (release_on way at t c)
       by None = inr (Busy, refl)
       by (Some c) = order_if t (is_serving way c.state) _ _ (inl (tt, (tt, tt))) (inr (Busy, refl))
 
-  attach_row : (at : CpAt) (plan : Plan) (t : CpTerminal) → IsOrderRow t (attach way at plan t)
+  attach_row : (at : CuCpScope) (plan : Plan) (t : CuCpTerminal) → IsOrderRow t (attach way at plan t)
   unfolding attach
   attach_row at plan t = by t.context
     where
-      by : (c : Option CpContext) → IsOrderRow t (attach_on way at plan t c)
+      by : (c : Option CuCpContext) → IsOrderRow t (attach_on way at plan t c)
       by (Some c) = inr (Attached, refl)
       by None = order_if t (not (has_unit at.units (own_up at plan.up)) || not (has_unit at.units (own_du at plan.du))) _ _ (inr (NotStarted, refl)) (inl (tt, tt))
 
@@ -465,12 +465,12 @@ module _ {M C P : Type 0} (way : Way M C P) (own : Gnb) where
   begins true false x y h p = absurd cc
   begins false b x y h p = absurd cc
 
-  attach_says : (r : CuCpRecord M C) (plan : Plan) (t : CpTerminal) → has_unit r.units (CuUp r.gnb plan.up) && has_unit r.units (Du r.gnb plan.du) ≡ true
+  attach_says : (r : CuCpRecord M C) (plan : Plan) (t : CuCpTerminal) → has_unit r.units (CuUp r.gnb plan.up) && has_unit r.units (Du r.gnb plan.du) ≡ true
       → t.context ≡ None → RowSays (attach way (at_of r plan.ue) plan t)
   unfolding attach
   attach_says r plan t there is = by t.context is
     where
-      by : (c : Option CpContext) → c ≡ None → RowSays (attach_on way (at_of r plan.ue) plan t c)
+      by : (c : Option CuCpContext) → c ≡ None → RowSays (attach_on way (at_of r plan.ue) plan t c)
       by None h = begins (has_unit r.units (CuUp r.gnb plan.up)) (has_unit r.units (Du r.gnb plan.du)) _ _ there (tt, tt)
       by (Some c) h = absurd cc
 
@@ -478,7 +478,7 @@ module _ {M C P : Type 0} (way : Way M C P) (own : Gnb) where
       → StaysWhereLone r (carry_out way plan.ue r (attach way (at_of r plan.ue) plan (terminal_of r plan.ue)))
   attach_stays r plan p there = by (terminal_of r plan.ue).context refl
     where
-      by : (c : Option CpContext) → (terminal_of r plan.ue).context ≡ c
+      by : (c : Option CuCpContext) → (terminal_of r plan.ue).context ≡ c
           → StaysWhereLone r (carry_out way plan.ue r (attach way (at_of r plan.ue) plan (terminal_of r plan.ue)))
       by (Some c) is =
           (order_comes plan.ue r (attach way (at_of r plan.ue) plan (terminal_of r plan.ue)) p (attach_row (at_of r plan.ue) plan (terminal_of r plan.ue))).1
@@ -503,7 +503,7 @@ module _ {M C P : Type 0} (way : Way M C P) (own : Gnb) where
 
   pub cu_cp_ends : (r : CuCpRecord M C) (input : Input C P) → Good r → EndsIn Good (cu_cp_acts way r input)
   unfolding cu_cp_acts
-  cu_cp_ends r (control_input from m) p = made_ends (control_came way from m r) (control_keeps from m r p)
+  cu_cp_ends r (control_input from m) p = made_ends (control_received way from m r) (control_keeps from m r p)
   cu_cp_ends r tick_input p = made_ends (tick way r) (tick_keeps r p)
   cu_cp_ends r (order_input (orders.Attach plan)) p = (attach_comes r plan p).0
   cu_cp_ends r (order_input (orders.Handover plan)) p = (handover_comes r plan p).0
@@ -513,7 +513,7 @@ module _ {M C P : Type 0} (way : Way M C P) (own : Gnb) where
 
   pub cu_cp_stays : (r : CuCpRecord M C) (input : Input C P) → Good r → IsAskedOf r input → StaysWhereLone r (cu_cp_acts way r input)
   unfolding cu_cp_acts
-  cu_cp_stays r (control_input from m) p is = made_stands r (control_came way from m r) (control_keeps from m r p)
+  cu_cp_stays r (control_input from m) p is = made_stands r (control_received way from m r) (control_keeps from m r p)
   cu_cp_stays r tick_input p is = made_stands r (tick way r) (tick_keeps r p)
   cu_cp_stays r (order_input (orders.Attach plan)) p is = attach_stays r plan p is
   cu_cp_stays r (order_input (orders.Handover plan)) p is = (handover_comes r plan p).1 (known_by_find (find ue_cmp r.terminals plan.ue) is)

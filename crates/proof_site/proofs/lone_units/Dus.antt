@@ -26,7 +26,7 @@ use Rattle.unit_defs.specs.Ways.{Message, f1, rrc, uplink, status, end_marker, T
 use Rattle.unit_defs.specs.Messages.{channel, is_same_gnb, bearers_of, are_first_bearers}
 use Rattle.unit_defs.specs.Teids.{teids_are_left}
 use Rattle.unit_defs.specs.Transactions.{Kind, request, reply, transfer, kind_of, no_instance, ask, advance, replied}
-use Rattle.unit_defs.specs.Du.{DuBearer, DuContext, DuTunnel, Du, du_node, context_of, with_transactions, downlinks_of, downlink_list, replies, closings, openings, old_downlinks, replaced, replaces, context_with, setup, context_anew, modify_on, modify, end_markers, released_on, release, relayed_down, relay_down, relayed_up, relay_up, token_ue, start, set_up, asked, transferred, of_cp, of_terminal, control_came, missing, is_missing, told, gap_after, carried, with_bearer, frame_came, taken_in, taken_of, taken_on, take, of_bearer, of_context, pass_up, confirmed, confirm, due_output, tick, du_acts}
+use Rattle.unit_defs.specs.Du.{DuBearer, DuContext, DuTunnel, Du, du_node, context_of, with_transactions, downlinks_of, downlink_list, replies, closings, openings, old_downlinks, replaced, replaces, context_with, setup, context_anew, modify_on, modify, end_markers, released_on, release, relayed_down, relay_down, relayed_up, relay_up, token_ue, start, set_up, asked, transferred, of_cu_cp, of_terminal, control_received, missing, is_missing, told, gap_after, carried, with_bearer, frame_received, taken_in, taken_of, taken_on, take, of_bearer, of_context, pass_up, confirmed, confirm, due_output, tick, du_acts}
 use Rattle.proof_site.specs.lone_units.Lone.{IsMade, Makes, StaysWhereLone}
 use Rattle.proof_site.proofs.lone_units.Steps.{all_append, all_map, all_flat, either as either_way, after as after_one, made_stays, ask_made, advance_made, replied_made, on_request_made, on_reply_made}
 
@@ -121,7 +121,7 @@ module _ {M C P : Type 0} (way : Way M C P) where
       (λ a. nothing (record r { is_set_up = true; transactions = a.transactions }))
       (advance_made way (record r.transactions { caller = close r.transactions.caller ch }) ch) (λ a. tt)
 
-  of_cp_makes : (from : NodeId) (m : Message C) (r : Du M C) (k : Kind) → Fits (of_cp way from m r k)
+  of_cp_makes : (from : NodeId) (m : Message C) (r : Du M C) (k : Kind) → Fits (of_cu_cp way from m r k)
   of_cp_makes from m r (request ue i) =
       on_request_made way r r.transactions (channel ue from) i (λ t. asked way (channel ue from) m (with_transactions r t))
       (λ t. asked_makes (channel ue from) m (with_transactions r t))
@@ -129,10 +129,10 @@ module _ {M C P : Type 0} (way : Way M C P) where
       on_reply_made way r r.transactions (channel ue from) i (set_up way (channel ue from) r) (set_up_makes (channel ue from) r)
   of_cp_makes from m r (transfer ue) = transferred_makes m r
 
-  control_makes : (from : NodeId) (m : Message C) (r : Du M C) → Fits (control_came way from m r)
-  unfolding control_came
+  control_makes : (from : NodeId) (m : Message C) (r : Du M C) → Fits (control_received way from m r)
+  unfolding control_received
   control_makes (CuCp gnb) m r =
-      either (is_same_gnb gnb r.gnb) (of_cp way (CuCp gnb) m r (kind_of m)) (drops Unexpected r) (of_cp_makes (CuCp gnb) m r (kind_of m)) (tt, tt)
+      either (is_same_gnb gnb r.gnb) (of_cu_cp way (CuCp gnb) m r (kind_of m)) (drops Unexpected r) (of_cp_makes (CuCp gnb) m r (kind_of m)) (tt, tt)
   control_makes (Ue ue) m r = of_terminal_makes ue m r
   control_makes from m r = (tt, tt)
 
@@ -150,7 +150,7 @@ module _ {M C P : Type 0} (way : Way M C P) where
   carried_makes ue bearer c true (Some pdu) r = (tt, tt)
   carried_makes ue bearer c false (Some pdu) r = (tt, tt)
 
-  frame_makes : (ue : UeId) (bearer : BearerId) (c : DuContext) (b : DuBearer) (item : Taken P) (r : Du M C) → Fits (frame_came way ue bearer c b item r)
+  frame_makes : (ue : UeId) (bearer : BearerId) (c : DuContext) (b : DuBearer) (item : Taken P) (r : Du M C) → Fits (frame_received way ue bearer c b item r)
   frame_makes ue bearer c b (frame_item poll restart number pdu) r =
       let on : DuBearer = record b { awaited = number + 1; gap = gap_after way b number restart pdu } in
       after (gives (told way ue bearer b poll number) (with_bearer way ue bearer c on r)) (carried way ue bearer c (gap_after way b number restart pdu) pdu)

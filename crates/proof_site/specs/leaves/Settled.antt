@@ -11,8 +11,8 @@ use Rattle.run_defs.specs.UnitRuns.{Records}
 use Rattle.proof_site.specs.lone_units.Orders.{HasOrder, IsCpOf}
 
 pub record AreSettled (r : Records) : Type 0 where
-  pub cp_a : IsCpOf A r.cp_a
-  pub cp_b : IsCpOf B r.cp_b
+  pub cu_cp_a : IsCpOf A r.cu_cp_a
+  pub cu_cp_b : IsCpOf B r.cu_cp_b
   pub ups : IsSorted node_cmp r.ups
   pub ues : IsSorted ue_cmp r.ues
   pub terminals : (ue : UeId) (u : UeNode) → ue_of r ue ≡ Some u → HasOrder u

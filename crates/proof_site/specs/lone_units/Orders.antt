@@ -9,7 +9,7 @@ use Rattle.gnb_types.specs.Orders.{ue_cmp, bearer_cmp}
 use Rattle.tables.specs.Tables.{find, IsSorted}
 use Rattle.unit_defs.specs.Ways.{Input, order_input}
 use Rattle.unit_defs.specs.Ue.{UeNode}
-use Rattle.unit_defs.specs.CpRecords.{CuCpRecord, has_unit}
+use Rattle.unit_defs.specs.CuCpRecords.{CuCpRecord, has_unit}
 
 abbrev pub HasOrder : UeNode → Type 0
 HasOrder u = IsSorted bearer_cmp u.bearers

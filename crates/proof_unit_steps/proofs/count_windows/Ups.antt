@@ -7,57 +7,57 @@ use Rattle.gnb_types.specs.declared.outputs.Tag.TheVariants.{Absent, Own}
 use Rattle.pdcp.specs.Near.{last_count}
 use Rattle.pdcp_defs.specs.Senders.{numbered as with_next, has_room, confirmed_to}
 use Rattle.unit_defs.specs.Ways.{fresh, frame, packet, packet_pdu, Output, Way, Answer, gives, spent, with_outputs, ◌then◌, nothing, puts, counts_spent, frames_spent}
-use Rattle.unit_defs.specs.UpRecords.{Downlink, SourceHop, UpBearer, UpAt}
-use Rattle.unit_defs.specs.UpBearers.{last_frame, has_downlink, framed_on, framed, sent, sent_again, number_each, number_waiting, put_down, forwarded_down}
-use Rattle.unit_defs.specs.UpItems.{lost_frames, took_fresh, took_delivery_status}
+use Rattle.unit_defs.specs.CuUpRecords.{DownlinkTunnel, SourceHop, CuUpBearer, CuUpScope}
+use Rattle.unit_defs.specs.CuUpBearers.{last_frame, has_downlink, framed_on, framed, sent, sent_again, number_each, number_waiting, put_down, forwarded_down}
+use Rattle.unit_defs.specs.CuUpItems.{lost_frames, took_fresh, took_delivery_status}
 use Rattle.proof_unit_steps.specs.count_windows.Windows.{InWindow, EndsInWindow}
 use Rattle.proof_unit_steps.proofs.count_windows.Senders.{one_more, confirmed_stays}
 
-module _ {M C P : Type 0} (way : Way M C P) (at : UpAt) where
-  abbrev InHere : Answer M P UpBearer → Type 0
+module _ {M C P : Type 0} (way : Way M C P) (at : CuUpScope) where
+  abbrev InHere : Answer M P CuUpBearer → Type 0
   InHere a = EndsInWindow at a
 
-  abbrev Fits : UpBearer → Type 0
+  abbrev Fits : CuUpBearer → Type 0
   Fits b = InWindow at.sn at.quota b.sender
 
-  with_in : (os : List (Output M P)) (a : Answer M P UpBearer) → InHere a → InHere (with_outputs os a)
+  with_in : (os : List (Output M P)) (a : Answer M P CuUpBearer) → InHere a → InHere (with_outputs os a)
   with_in os (gives more b) h = h
   with_in os (spent counter) h = tt
 
-  then_in : (a : Answer M P UpBearer) (f : UpBearer → Answer M P UpBearer) → InHere a → ((b : UpBearer) → Fits b → InHere (f b)) → InHere (a then f)
+  then_in : (a : Answer M P CuUpBearer) (f : CuUpBearer → Answer M P CuUpBearer) → InHere a → ((b : CuUpBearer) → Fits b → InHere (f b)) → InHere (a then f)
   then_in (gives os b) f h more = with_in os (f b) (more b h)
   then_in (spent counter) f h more = tt
 
-  either : (t : Bool) (a b : Answer M P UpBearer) → InHere a → InHere b → InHere (if t then a else b)
+  either : (t : Bool) (a b : Answer M P CuUpBearer) → InHere a → InHere b → InHere (if t then a else b)
   either true a b p q = p
   either false a b p q = q
 
-  framed_in : (poll restart : Bool) (pdu : Option P) (tag : Tag) (b : UpBearer) (o : Option Downlink) → Fits b → InHere (framed_on way at b poll restart pdu tag o)
+  framed_in : (poll restart : Bool) (pdu : Option P) (tag : Tag) (b : CuUpBearer) (o : Option DownlinkTunnel) → Fits b → InHere (framed_on way at b poll restart pdu tag o)
   framed_in poll restart pdu tag b None h = h
   framed_in poll restart pdu tag b (Some d) h =
       either (nat_lt last_frame d.next) (spent frames_spent)
       (puts (packet d.du d.teid at.ue at.bearer Dl tag (frame poll restart d.next pdu))
       (record b { downlink = Some (record d { next = d.next + 1 }); restart = b.restart && not restart })) tt h
 
-  sent_in : (count : ℕ) (p : List ℕ) (tag : Tag) (b : UpBearer) → Fits b → InHere (sent way at count p tag b)
+  sent_in : (count : ℕ) (p : List ℕ) (tag : Tag) (b : CuUpBearer) → Fits b → InHere (sent way at count p tag b)
   unfolding sent framed
   sent_in count p tag b h = framed_in false b.restart (Some (way.write at.sn (packet_pdu count p))) tag b b.downlink h
 
-  sent_again_in : (es : List (ℕ × List ℕ)) (b : UpBearer) → Fits b → InHere (sent_again way at es b)
+  sent_again_in : (es : List (ℕ × List ℕ)) (b : CuUpBearer) → Fits b → InHere (sent_again way at es b)
   unfolding sent_again
   sent_again_in [] b h = h
   sent_again_in (e ∷ es) b h = then_in (sent way at e.0 e.1 (Own e.0) b) (sent_again way at es) (sent_in e.0 e.1 (Own e.0) b h) (sent_again_in es)
 
-  each_in : (ps : List (List ℕ)) (b : UpBearer) → Fits b → InHere (number_each way at ps b)
+  each_in : (ps : List (List ℕ)) (b : CuUpBearer) → Fits b → InHere (number_each way at ps b)
   unfolding number_each
   each_in [] b h = h
   each_in (p ∷ ps) b h = by (each_in ps) (has_room at.sn at.quota b.sender) refl
     where
-      begins : Answer M P UpBearer
+      begins : Answer M P CuUpBearer
       begins = if nat_lt last_count b.sender.next then spent counts_spent
           else sent way at b.sender.next p (Own b.sender.next) (record b { sender = with_next b.sender p; waiting = ps })
 
-      by : ((c : UpBearer) → Fits c → InHere (number_each way at ps c)) → (t : Bool) → has_room at.sn at.quota b.sender ≡ t
+      by : ((c : CuUpBearer) → Fits c → InHere (number_each way at ps c)) → (t : Bool) → has_room at.sn at.quota b.sender ≡ t
           → InHere (if not t then nothing b else (begins then number_each way at ps))
       by rest false none = h
       by rest true room =
@@ -66,12 +66,12 @@ module _ {M C P : Type 0} (way : Way M C P) (at : UpAt) where
           (sent way at b.sender.next p (Own b.sender.next) (record b { sender = with_next b.sender p; waiting = ps })) tt
           (sent_in b.sender.next p (Own b.sender.next) (record b { sender = with_next b.sender p; waiting = ps }) (one_more at.sn at.quota b.sender p h room))) rest
 
-  waiting_in : (b : UpBearer) → Fits b → InHere (number_waiting way at b)
+  waiting_in : (b : CuUpBearer) → Fits b → InHere (number_waiting way at b)
   unfolding number_waiting
   waiting_in b h =
       either (at.flags.frozen || at.flags.released || not (has_downlink b.downlink)) (nothing b) (number_each way at b.waiting b) h (each_in b.waiting b h)
 
-  passed_in : (p : List ℕ) (b : UpBearer) → Fits b → InHere (forwarded_down way at Absent (fresh p) b)
+  passed_in : (p : List ℕ) (b : CuUpBearer) → Fits b → InHere (forwarded_down way at Absent (fresh p) b)
   unfolding forwarded_down
   passed_in p b h = by b.hop
     where
@@ -79,25 +79,25 @@ module _ {M C P : Type 0} (way : Way M C P) (at : UpAt) where
       by None = h
       by (Some hop) = h
 
-  pub fresh_in : (p : List ℕ) (b : UpBearer) → Fits b → InHere (took_fresh way at p b)
+  pub fresh_in : (p : List ℕ) (b : CuUpBearer) → Fits b → InHere (took_fresh way at p b)
   unfolding took_fresh
   fresh_in p b h =
       either at.flags.released (forwarded_down way at Absent (fresh p) b)
       (if at.flags.frozen then forwarded_down way at Absent (fresh p) waits else number_waiting way at waits) (passed_in p b h)
       (either at.flags.frozen (forwarded_down way at Absent (fresh p) waits) (number_waiting way at waits) (passed_in p waits h) (waiting_in waits h))
     where
-      waits : UpBearer
+      waits : CuUpBearer
       waits = record b { waiting = b.waiting ++ p ∷ [] }
 
-  lost_in : (lost : List (ℕ × ℕ)) (b : UpBearer) → Fits b → InHere (lost_frames way at lost b)
+  lost_in : (lost : List (ℕ × ℕ)) (b : CuUpBearer) → Fits b → InHere (lost_frames way at lost b)
   lost_in [] b h = h
   lost_in (range ∷ ranges) b h =
       either at.flags.frozen (nothing (record b { restart = true; loss_while_frozen = true })) (sent_again way at b.sender.unconfirmed (record b { restart = true })) h
       (sent_again_in b.sender.unconfirmed (record b { restart = true }) h)
 
-  pub status_in : (lost : List (ℕ × ℕ)) (delivered : Option ℕ) (b : UpBearer) → Fits b → InHere (took_delivery_status way at lost delivered b)
+  pub status_in : (lost : List (ℕ × ℕ)) (delivered : Option ℕ) (b : CuUpBearer) → Fits b → InHere (took_delivery_status way at lost delivered b)
   unfolding took_delivery_status
   status_in lost None b h = then_in (lost_frames way at lost b) (number_waiting way at) (lost_in lost b h) waiting_in
   status_in lost (Some count) b h =
-      let known : UpBearer = record b { sender = confirmed_to b.sender count } in
+      let known : CuUpBearer = record b { sender = confirmed_to b.sender count } in
       then_in (lost_frames way at lost known) (number_waiting way at) (lost_in lost known (confirmed_stays at.sn at.quota b.sender count h)) waiting_in

@@ -27,7 +27,7 @@ use Rattle.unit_defs.specs.Ways.{Message, f1, rrc, uplink, status, end_marker, T
 use Rattle.unit_defs.specs.Messages.{channel, is_same_gnb, bearers_of, are_first_bearers}
 use Rattle.unit_defs.specs.Teids.{teids_are_left}
 use Rattle.unit_defs.specs.Transactions.{Kind, request, reply, transfer, kind_of, no_instance, Transactions, Asked, ask, advance, replied, on_reply}
-use Rattle.unit_defs.specs.Du.{DuBearer, DuContext, DuTunnel, Du, du_node, context_of, with_transactions, downlinks_of, downlink_list, replies, closings, openings, old_downlinks, replaced, replaces, context_with, setup, context_anew, modify_on, modify, end_markers, released_on, release, relayed_down, relay_down, relayed_up, relay_up, token_ue, start, set_up, asked, transferred, of_cp, of_terminal, control_came, missing, is_missing, told, gap_after, carried, with_bearer, frame_came, taken_in, taken_of, taken_on, take, of_bearer, of_context, pass_up, confirmed, confirm, due_output, tick, du_acts}
+use Rattle.unit_defs.specs.Du.{DuBearer, DuContext, DuTunnel, Du, du_node, context_of, with_transactions, downlinks_of, downlink_list, replies, closings, openings, old_downlinks, replaced, replaces, context_with, setup, context_anew, modify_on, modify, end_markers, released_on, release, relayed_down, relay_down, relayed_up, relay_up, token_ue, start, set_up, asked, transferred, of_cu_cp, of_terminal, control_received, missing, is_missing, told, gap_after, carried, with_bearer, frame_received, taken_in, taken_of, taken_on, take, of_bearer, of_context, pass_up, confirmed, confirm, due_output, tick, du_acts}
 use Rattle.intervals.proofs.Intervals.{all_append}
 use Rattle.proof_unit_steps.proofs.packets.Answers.{each_put, all_map}
 use Rattle.proof_unit_steps.specs.tunnel_names.Names.{Property, IfAny, Names, OwnDuList, OutputsName, AnswerNames, KeptNames}
@@ -38,7 +38,7 @@ use Rattle.proof_unit_steps.proofs.downlink_names.Begins.{all_as}
 use Rattle.proof_unit_steps.specs.downlink_grants.Grants.{IsLeft, NoAnswer, Tells, others, DuKeeps, TellIs, DuGoes}
 use Rattle.proof_unit_steps.proofs.downlink_grants.Lists.{GoOn, tunnels_in, made_go_on, anew_go_on, given_in, granted_in, not_in, is_in, left_before, is_left}
 
-module _ (t : DownlinkTeid) {C P : Type 0} (way : Way (Message C) C P) (same : (m : Message C) → way.spell m ≡ m) (passes : (c : C) → NoAnswer (way.pass c)) where
+module _ (t : DownlinkTeid) {C P : Type 0} (way : Way (Message C) C P) (same : (m : Message C) → way.encode m ≡ m) (passes : (c : C) → NoAnswer (way.pass c)) where
   abbrev Record : Type 0
   Record = Du (Message C) C
 
@@ -168,13 +168,13 @@ module _ (t : DownlinkTeid) {C P : Type 0} (way : Way (Message C) C P) (same : (
     record { left = h.left; opened = h.opened; waiting = h.waiting; replies = by (kept_at r.transactions.callee ch) },
   )
     where
-      spelled : AnswerIs t s.grant me (way.spell (f1 m))
+      spelled : AnswerIs t s.grant me (way.encode (f1 m))
       spelled = subst (λ (n : Message C). AnswerIs t s.grant me n) (sym (same (f1 m))) is
 
-      by : (o : Option (Kept (Message C))) → AllByRecursion (λ (e : Channel × Kept (Message C)). Tells t s.grant e.1.reply) (with_reply r.transactions.callee ch (way.spell (f1 m)) o)
+      by : (o : Option (Kept (Message C))) → AllByRecursion (λ (e : Channel × Kept (Message C)). Tells t s.grant e.1.reply) (with_reply r.transactions.callee ch (way.encode (f1 m)) o)
       by None = h.replies
       by (Some k) =
-          each_put channel_cmp (λ (x : Kept (Message C)). Tells t s.grant x.reply) r.transactions.callee ch (record k { reply = Some (way.spell (f1 m)) }) h.replies spelled
+          each_put channel_cmp (λ (x : Kept (Message C)). Tells t s.grant x.reply) r.transactions.callee ch (record k { reply = Some (way.encode (f1 m)) }) h.replies spelled
 
   -- ---- TEIDs are given, and the reply names them
 
@@ -342,7 +342,7 @@ module _ (t : DownlinkTeid) {C P : Type 0} (way : Way (Message C) C P) (same : (
     relayed_up_stays : (ue : UeId) (token : Token) (r : Record) (c : Option DuContext) → DuKeeps t s r → Stays s (relayed_up way ue token r c)
     relayed_up_stays ue token r None h = one (dropped NoContext) r tt h
     relayed_up_stays ue token r (Some c) h =
-        one (control (CuCp r.gnb) ue.0 (way.spell (f1 (f1s.UlRrcMessageTransfer ue (way.wrap token))))) r
+        one (control (CuCp r.gnb) ue.0 (way.encode (f1 (f1s.UlRrcMessageTransfer ue (way.wrap token))))) r
         (subst (λ (n : Message C). AnswerIs t s.grant me n) (sym (same (f1 (f1s.UlRrcMessageTransfer ue (way.wrap token))))) tt) h
 
     of_terminal_stays : (ue : ℕ) (m : Message C) (r : Record) → DuKeeps t s r → Stays s (of_terminal way ue m r)
@@ -367,22 +367,22 @@ module _ (t : DownlinkTeid) {C P : Type 0} (way : Way (Message C) C P) (same : (
     answer_goes (gives os r) k = goes_on s (gives os r) (control_puts s.grant me os k.1, k.0)
     answer_goes (spent counter) k = tt
 
-    of_cp_goes : (from : NodeId) (m : Message C) (r : Record) (k : Kind) → DuKeeps t s r → DuGoes t s (of_cp way from m r k)
+    of_cp_goes : (from : NodeId) (m : Message C) (r : Record) (k : Kind) → DuKeeps t s r → DuGoes t s (of_cu_cp way from m r k)
     unfolding on_reply
     of_cp_goes from m r (request ue i) h =
         on_request_with (Is s.grant) me (DuKeeps t s) (DuGoes t s) answer_goes r r.transactions (channel ue from) i
         (λ x. asked way (channel ue from) m (with_transactions r x)) h (kept_of s r h) (λ x k. asked_goes (channel ue from) m (with_transactions r x) (with_kept r x h k))
     of_cp_goes from m r (reply ue i) h =
-        goes_on s (of_cp way from m r (reply ue i))
+        goes_on s (of_cu_cp way from m r (reply ue i))
         (either s (is_awaited r.transactions.caller (channel ue from) i) (set_up way (channel ue from) r) (drops Stale r) (set_up_stays (channel ue from) r h)
         (one (dropped Stale) r tt h))
     of_cp_goes from m r (transfer ue) h = goes_on s (transferred way m r) (transferred_stays m r h)
 
-    control_goes : (from : NodeId) (m : Message C) (r : Record) → DuKeeps t s r → DuGoes t s (control_came way from m r)
-    unfolding control_came
+    control_goes : (from : NodeId) (m : Message C) (r : Record) → DuKeeps t s r → DuGoes t s (control_received way from m r)
+    unfolding control_received
     control_goes (CuCp g) m r h = by (is_same_gnb g r.gnb)
       where
-        by : (b : Bool) → DuGoes t s (if b then of_cp way (CuCp g) m r (kind_of m) else drops Unexpected r)
+        by : (b : Bool) → DuGoes t s (if b then of_cu_cp way (CuCp g) m r (kind_of m) else drops Unexpected r)
         by true = of_cp_goes (CuCp g) m r (kind_of m) h
         by false = goes_on s (drops Unexpected r) (one (dropped Unexpected) r tt h)
     control_goes (Ue ue) m r h = goes_on s (of_terminal way ue m r) (of_terminal_stays ue m r h)
@@ -403,7 +403,7 @@ module _ (t : DownlinkTeid) {C P : Type 0} (way : Way (Message C) C P) (same : (
     carried_stays ue bearer c false (Some pdu) r h = ((tt, tt), h)
 
     frame_stays : (ue : UeId) (bearer : BearerId) (c : DuContext) (b : DuBearer) (item : Taken P) (r : Record) → DuKeeps t s r
-        → Stays s (frame_came way ue bearer c b item r)
+        → Stays s (frame_received way ue bearer c b item r)
     frame_stays ue bearer c b (frame_item poll restart n pdu) r h =
         let on : DuBearer = record b { awaited = n + 1; gap = gap_after way b n restart pdu } in
         stays_then s (gives (told way ue bearer b poll n) (with_bearer way ue bearer c on r)) (carried way ue bearer c (gap_after way b n restart pdu) pdu)

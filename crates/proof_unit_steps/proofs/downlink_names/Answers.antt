@@ -18,8 +18,8 @@ use Rattle.unit_defs.specs.declared.StateName.TheVariants as states
 use Rattle.unit_defs.specs.declared.AttemptKind.{AttemptKind}
 use Rattle.unit_defs.specs.Ways.{Message, f1, e1, xn, core, Way}
 use Rattle.unit_defs.specs.Messages.{channel, cause_name, are_bearers, statuses_of}
-use Rattle.unit_defs.specs.CpRecords.{Awaited, Attempt, CpContext, CpTerminal, same_node, bearers_in, Row, answered, awaits_answer}
-use Rattle.unit_defs.specs.CpRows.{CpAt, own_du, name_bearers, is_between_dus, is_between_gnbs, attach_has_tunnels, attach_is_placed, attach_fails, move_has_uplinks, move_is_placed, handover_is_acknowledged, handover_is_declined, handover_is_frozen, handover_is_not_frozen, offer_has_tunnels, offer_is_declined, offer_is_placed, place_is_renewed}
+use Rattle.unit_defs.specs.CuCpRecords.{Awaited, Attempt, CuCpContext, CuCpTerminal, same_node, bearers_in, Row, answered, awaits_answer}
+use Rattle.unit_defs.specs.CuCpRows.{CuCpScope, own_du, name_bearers, is_between_dus, is_between_gnbs, attach_has_tunnels, attach_is_placed, attach_fails, move_has_uplinks, move_is_placed, handover_is_acknowledged, handover_is_declined, handover_is_frozen, handover_is_not_frozen, offer_has_tunnels, offer_is_declined, offer_is_placed, place_is_renewed}
 use Rattle.unit_defs.specs.CuCp.{listed, caused, only_closes, in_attaching, in_moving, in_preparing, in_prepared, in_offered, in_switching, in_releasing, in_state, Answered, answers_none, answers_with, answer_of, answer_on, answer, is_complete, is_reestablish, is_epoch, is_own_command, may_return, is_too_early, is_ready, token_in_ready, token_of_return, token_of_attempt, token_by_attempt, token_on, token_row, token_ue, no_context_first}
 use Rattle.proof_unit_steps.specs.tunnel_names.Names.{Property, OwnDuList, NamesFor}
 use Rattle.proof_unit_steps.specs.tunnel_names.CuCps.{asked_du, AwaitedOf, is_at_goal, AttemptNames, ContextNames, TerminalNames}
@@ -39,8 +39,8 @@ unused_command : {M C P : Type 0} (way : Way M C P) (state : StateName) (kind : 
 unused_command way states.Commanded kind h = refl
 unused_command way state kind h = absurd cc
 
-module _ (d : DownlinkTeid) {M C P : Type 0} {way : Way M C P} (is : Property way) (at : CpAt) (g : Option Grant) (p : Place) where
-  abbrev Held : CpContext → Attempt → Type 0
+module _ (d : DownlinkTeid) {M C P : Type 0} {way : Way M C P} (is : Property way) (at : CuCpScope) (g : Option Grant) (p : Place) where
+  abbrev Held : CuCpContext → Attempt → Type 0
   Held c a = HeldIn d p at.ue c.state (Some a)
 
   -- ---- an awaited answer: its row is as it should be where the TEID is, or where it is once it was taken from the answer
@@ -84,7 +84,7 @@ module _ (d : DownlinkTeid) {M C P : Type 0} {way : Way M C P} (is : Property wa
     from_here up du (Du gnb number) list own w names same = λ i. Du ((w.0 ∙ own) i) ((w.1 ∙ same) i)
     from_here up du n list own w names same = absurd names
 
-    module _ (t : CpTerminal) (c : CpContext) (a : Attempt) (own : at.gnb ≡ d.gnb) (w : AwaitedOf at.gnb c.up (asked_du c a) from) (fresh : IsFresh) (held : Held c a) where
+    module _ (t : CuCpTerminal) (c : CuCpContext) (a : Attempt) (own : at.gnb ≡ d.gnb) (w : AwaitedOf at.gnb c.up (asked_du c a) from) (fresh : IsFresh) (held : Held c a) where
       gives_of : (list : List Tunnel) → OwnDuList is.owners from at.ue list → (from ≡ du_of_teid d → Granted d.teid g (channel at.ue.0 from) instance list)
           → asked_du c a ≡ d.du → Gives d.teid taken (known at.ue.0) list
       gives_of list names given same =
@@ -186,22 +186,22 @@ module _ (d : DownlinkTeid) {M C P : Type 0} {way : Way M C P} (is : Property wa
           (λ e. switching_is m names given (ap is_used same) (goal (ap (λ (b : Bool). not b) e)))
       state_is m names given state same goal = closes_is
 
-    pub answer_is : (m : Message C) (t : CpTerminal) → at.gnb ≡ d.gnb → NamesFor is.owners from at.ue m → IsGiven m → IsFresh
+    pub answer_is : (m : Message C) (t : CuCpTerminal) → at.gnb ≡ d.gnb → NamesFor is.owners from at.ue m → IsGiven m → IsFresh
         → TerminalNames is at.gnb at.ue t.context → HeldBy d p at.ue t.context → AnsweredIs (answer way at from instance m t)
     unfolding answer
     answer_is m t own names given fresh n h = by t.context n h
       where
-        awaited : (c : CpContext) (a : Attempt) → AttemptNames is at.gnb at.ue c a → Held c a → (b : Bool) → awaits_answer a from instance ≡ b
+        awaited : (c : CuCpContext) (a : Attempt) → AttemptNames is at.gnb at.ue c a → Held c a → (b : Bool) → awaits_answer a from instance ≡ b
             → AnsweredIs (if b then answers_with (in_state way at m t c c.state (answered a from)) else answers_none)
         awaited c a n held true e =
             state_is t c (answered a from) own (awaited_from at.gnb c.up (asked_du c a) from instance a.awaits n.awaits e) fresh held m names given c.state refl n.at_goal
         awaited c a n held false e = tt
 
-        of_attempt : (c : CpContext) (o : Option Attempt) → ContextNames is at.gnb at.ue c o → HeldIn d p at.ue c.state o → AnsweredIs (answer_of way at from instance m t c o)
+        of_attempt : (c : CuCpContext) (o : Option Attempt) → ContextNames is at.gnb at.ue c o → HeldIn d p at.ue c.state o → AnsweredIs (answer_of way at from instance m t c o)
         of_attempt c None n held = tt
         of_attempt c (Some a) n held = awaited c a n held (awaits_answer a from instance) refl
 
-        by : (o : Option CpContext) → TerminalNames is at.gnb at.ue o → HeldBy d p at.ue o → AnsweredIs (answer_on way at from instance m t o)
+        by : (o : Option CuCpContext) → TerminalNames is at.gnb at.ue o → HeldBy d p at.ue o → AnsweredIs (answer_on way at from instance m t o)
         by None n held = tt
         by (Some c) n held = of_attempt c c.attempt n held
 
@@ -210,8 +210,8 @@ module _ (d : DownlinkTeid) {M C P : Type 0} {way : Way M C P} (is : Property wa
   abbrev Tells : Row C → Type 0
   Tells what = RowIs d p at.ue what
 
-  module _ (from : NodeId) (token : Token) (epoch : ℕ) (t : CpTerminal) (h : HeldBy d p at.ue t.context) where
-    ready_is : (c : CpContext) (a : Attempt) → AttemptNames is at.gnb at.ue c a → Held c a → Tells (token_in_ready way at from token epoch t c a)
+  module _ (from : NodeId) (token : Token) (epoch : ℕ) (t : CuCpTerminal) (h : HeldBy d p at.ue t.context) where
+    ready_is : (c : CuCpContext) (a : Attempt) → AttemptNames is at.gnb at.ue c a → Held c a → Tells (token_in_ready way at from token epoch t c a)
     ready_is c a n held =
         row_if d way at p (not (is_ready way c.state && same_node from (own_du at c.du))) _ _ (λ e. inl ((tt, tt), h))
         (λ e. let ready = (both (is_ready way c.state) (same_node from (own_du at c.du)) e).0 in
@@ -220,13 +220,13 @@ module _ (d : DownlinkTeid) {M C P : Type 0} {way : Way M C P} (is : Property wa
         (λ f. row_if d way at p (is_reestablish way token && a.epoch + 1 == epoch) _ _ (λ k. arrives_again_is d way at p epoch t c a)
         (λ k. inl ((tt, tt), h))))
 
-    return_is : (c : CpContext) (a : Attempt) → AttemptNames is at.gnb at.ue c a → Held c a → Tells (token_of_return way at from token epoch t c a)
+    return_is : (c : CuCpContext) (a : Attempt) → AttemptNames is at.gnb at.ue c a → Held c a → Tells (token_of_return way at from token epoch t c a)
     return_is c a n held =
         row_if d way at p (is_reestablish way token && is_epoch way c.epoch 1 epoch && same_node from (own_du at c.du)) _ _
         (λ e. row_if d way at p (may_return way c.state a.kind) _ _ (λ f. returns_is d way at p epoch t c)
         (λ f. row_if d way at p (is_too_early way c.state a.kind) _ _ (λ k. inl ((tt, tt), h)) (λ k. ready_is c a n held))) (λ e. ready_is c a n held)
 
-    attempt_is : (c : CpContext) (a : Attempt) → AttemptNames is at.gnb at.ue c a → Held c a → Tells (token_of_attempt way at from token epoch t c a)
+    attempt_is : (c : CuCpContext) (a : Attempt) → AttemptNames is at.gnb at.ue c a → Held c a → Tells (token_of_attempt way at from token epoch t c a)
     attempt_is c a n held =
         row_if d way at p (not (is_own_command way c.state a.kind && same_node from (own_du at a.du))) _ _ (λ e. return_is c a n held)
         (λ e. let mine = (both (is_own_command way c.state a.kind) (same_node from (own_du at a.du)) e).0 in
@@ -235,25 +235,25 @@ module _ (d : DownlinkTeid) {M C P : Type 0} {way : Way M C P} (is : Property wa
         (λ f. row_if d way at p (is_reestablish way token && is_epoch way c.epoch 2 epoch) _ _ (λ k. completes_again_is d way at p epoch t c a)
         (λ k. return_is c a n held)))
 
-    by_attempt_is : (c : CpContext) (o : Option Attempt) → ContextNames is at.gnb at.ue c o → HeldIn d p at.ue c.state o
+    by_attempt_is : (c : CuCpContext) (o : Option Attempt) → ContextNames is at.gnb at.ue c o → HeldIn d p at.ue c.state o
         → Tells (token_by_attempt way at from token epoch t c o)
     by_attempt_is c None n held =
         row_if d way at p (is_reestablish way token && is_epoch way c.epoch 1 epoch && same_node from (own_du at c.du)) _ _
         (λ e. returns_is d way at p epoch t c) (λ e. inl ((tt, tt), h))
     by_attempt_is c (Some a) n held = attempt_is c a n held
 
-    on_is : (o : Option CpContext) → TerminalNames is at.gnb at.ue o → HeldBy d p at.ue o → Tells (token_on way at from token epoch t o)
+    on_is : (o : Option CuCpContext) → TerminalNames is at.gnb at.ue o → HeldBy d p at.ue o → Tells (token_on way at from token epoch t o)
     on_is None n held = inl ((tt, tt), h)
     on_is (Some c) n held =
         row_if d way at p (is_epoch way c.epoch 0 epoch && c.finished) _ _ (λ e. inl ((tt, tt), h)) (λ e. by_attempt_is c c.attempt n held)
 
-  token_is : (from : NodeId) (t : CpTerminal) (token : Token) → TerminalNames is at.gnb at.ue t.context → HeldBy d p at.ue t.context
+  token_is : (from : NodeId) (t : CuCpTerminal) (token : Token) → TerminalNames is at.gnb at.ue t.context → HeldBy d p at.ue t.context
       → Tells (token_row way at from t token)
   token_is from t (tokens.Complete ue epoch) n h = on_is from (tokens.Complete ue epoch) epoch t h t.context n h
   token_is from t (tokens.Reestablish ue epoch) n h = on_is from (tokens.Reestablish ue epoch) epoch t h t.context n h
   token_is from t token n h = inl ((tt, tt), h)
 
-  pub container_is : (from : NodeId) (t : CpTerminal) (c : Option CpContext) (token : Option Token) → TerminalNames is at.gnb at.ue t.context
+  pub container_is : (from : NodeId) (t : CuCpTerminal) (c : Option CuCpContext) (token : Option Token) → TerminalNames is at.gnb at.ue t.context
       → HeldBy d p at.ue t.context → Tells (no_context_first way at from t c token)
   container_is from t None token n h = inl ((tt, tt), h)
   container_is from t (Some c) None n h = inl ((tt, tt), h)

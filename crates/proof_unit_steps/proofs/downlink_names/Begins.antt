@@ -294,7 +294,7 @@ module _ (d : DownlinkTeid) {C : Type 0} where
     is = h;
   }
 
-  module _ {P : Type 0} (way : Way (Message C) C P) (same : (m : Message C) → way.spell m ≡ m) (g : Option Grant) where
+  module _ {P : Type 0} (way : Way (Message C) C P) (same : (m : Message C) → way.encode m ≡ m) (g : Option Grant) where
     -- a caller that closes more, at a place that moved
     closed_stays : (p q : Place) (r s : Caller (Message C)) → Moves p q → CloseMore r s → ((p ≡ away → ⊥) → HasClosed r g)
         → (q ≡ away → ⊥) → HasClosed s g

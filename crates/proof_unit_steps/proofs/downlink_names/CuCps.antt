@@ -31,17 +31,17 @@ use Rattle.unit_defs.specs.declared.StateName.TheVariants as states
 use Rattle.unit_defs.specs.Ways.{Message, f1, e1, xn, Input, control_input, packet_input, radio_input, confirm_input, offer_input, tick_input, order_input, Output, control, Way, Answer, gives, spent, with_outputs, ◌then◌, nothing, drops}
 use Rattle.unit_defs.specs.Messages.{channel, shares_interface}
 use Rattle.unit_defs.specs.Transactions.{Kind, request, reply, transfer, kind_of, Waiting, Transactions, Asked, waits_at, with_waiting, ask, ask_at_once, advance, replied, replied_late, answered_again, request_by, on_request, on_reply}
-use Rattle.unit_defs.specs.CpRecords.{Attempt, CpContext, CpTerminal, CuCpRecord, terminal_in, terminal_of, with_terminal, with_transactions, awaiting, begun, on_attempt, on_context, with_attempt, waiting_of, after_begun, after_asked, noted, not_awaited, unawaited, forgotten, Say, asks, cancels, replies, replies_late, sends, fails, ignores, refuses, forgets, say_one, say_all, Row, row, row_spent, carry_out}
-use Rattle.unit_defs.specs.CuCp.{at_of, Answered, answers_none, answers_with, answer, is_up_release, without_release, is_setup_failure, after_failed_setup, put_next, closed_at, answered_by, reply_came, set_up, asked as asked_row, token_came, transferred, control_by, control_came, expired_on, due_one, due_each, command_by, command_on, command_each, ues_of, tick, ordered, cu_cp_acts}
+use Rattle.unit_defs.specs.CuCpRecords.{Attempt, CuCpContext, CuCpTerminal, CuCpRecord, terminal_in, terminal_of, with_terminal, with_transactions, awaiting, begun, on_attempt, on_context, with_attempt, waiting_of, after_begun, after_asked, noted, not_awaited, unawaited, forgotten, Action, asks, cancels, replies, replies_late, sends, fails, ignores, refuses, forgets, act_one, act_all, Row, row, row_spent, carry_out}
+use Rattle.unit_defs.specs.CuCp.{at_of, Answered, answers_none, answers_with, answer, is_cu_up_release, without_release, is_setup_failure, after_failed_setup, put_next, closed_at, answered_by, reply_received, set_up, asked as asked_row, token_received, transferred, control_by, control_received, expired_on, due_one, due_each, command_by, command_on, command_each, ues_of, tick, ordered, cu_cp_acts}
 use Rattle.intervals.proofs.Intervals.{all_append, all_filter}
 use Rattle.proof_unit_steps.proofs.packets.Answers.{found, each_put}
 use Rattle.proof_unit_steps.specs.tunnel_names.Names.{Property, Names, NamesFor, ue_of, InputNames}
-use Rattle.proof_unit_steps.specs.tunnel_names.CuCps.{CpNames}
+use Rattle.proof_unit_steps.specs.tunnel_names.CuCps.{CuCpNames}
 use Rattle.proof_unit_steps.proofs.tunnel_names.Kept.{all_mapped}
 use Rattle.proof_unit_steps.proofs.tunnel_names.CuCps.{terminal_names}
 use Rattle.proof_unit_steps.proofs.tunnels.Keyed.{put_found}
 use Rattle.proof_unit_steps.specs.downlink_names.Places.{DownlinkTeid, du_of_teid, Grant, Place, away, known, waits, asked, placed, Story, Granted, OnAnswer, NoSwitch, AnswerIs, SwitchIs}
-use Rattle.proof_unit_steps.specs.downlink_names.Claims.{HasClosed, IsClosed, KeptIs, PutIs, RequestIs, AreMarked, TransactionsAre, HeldIn, HeldBy, CpIs, CpHas, InputIs, CpGoes}
+use Rattle.proof_unit_steps.specs.downlink_names.Claims.{HasClosed, IsClosed, KeptIs, PutIs, RequestIs, AreMarked, TransactionsAre, HeldIn, HeldBy, CuCpIs, CuCpHas, InputIs, CuCpGoes}
 use Rattle.proof_unit_steps.proofs.downlink_names.Moves.{gives_by, on_answer, from_known, nowhere, same_channel, Moves, stays_there, moves_then, take, take_keeps, Asks}
 use Rattle.proof_unit_steps.proofs.downlink_names.Begins.{all_as, LastOf, close_last, close_closes, closed_more, awaited_closes, shut_not_awaited, marked_by, put_stays, plain_put, opens_stay, from_nowhere, AskedIs, Went, ask_went, advance_went, closed_are, with_waiting_are, at_once_went}
 use Rattle.proof_unit_steps.proofs.downlink_names.Rows.{SayIs, AllPlain, Switches, Settled, RowIs, attach_is, handover_is, cancel_is, release_is, expires_is, command_is, offer_is, status_is, xn_cancelled_is, xn_released_is}
@@ -50,7 +50,7 @@ use Rattle.proof_unit_steps.proofs.downlink_names.Answers.{AnsweredIs, IsGiven, 
 -- ---- contexts of terminals
 
 module _ (d : DownlinkTeid) where
-  held_stays : (p q : Place) (ue : UeId) (c : Option CpContext) → ((b : BearerId) → p ≡ known ue.0 b → q ≡ known ue.0 b) → HeldBy d p ue c → HeldBy d q ue c
+  held_stays : (p q : Place) (ue : UeId) (c : Option CuCpContext) → ((b : BearerId) → p ≡ known ue.0 b → q ≡ known ue.0 b) → HeldBy d p ue c → HeldBy d q ue c
   held_stays p q ue None each h = tt
   held_stays p q ue (Some c) each h = by c.attempt h
     where
@@ -59,7 +59,7 @@ module _ (d : DownlinkTeid) where
       by (Some a) k = λ unused same. gives_by d.teid p q (known ue.0) (known ue.0) a.downlinks each (k unused same)
 
   -- another attempt with the same tunnels
-  held_on : (q : Place) (ue : UeId) (f : Attempt → Attempt) (c : Option CpContext)
+  held_on : (q : Place) (ue : UeId) (f : Attempt → Attempt) (c : Option CuCpContext)
       → ((state : StateName) (a : Attempt) → HeldIn d q ue state (Some a) → HeldIn d q ue state (Some (f a))) → HeldBy d q ue c → HeldBy d q ue (on_context f c)
   held_on q ue f None each h = tt
   held_on q ue f (Some c) each h = by c.attempt h
@@ -68,16 +68,16 @@ module _ (d : DownlinkTeid) where
       by None k = tt
       by (Some a) k = each c.state a k
 
-module _ (d : DownlinkTeid) {C P : Type 0} (way : Way (Message C) C P) (same : (m : Message C) → way.spell m ≡ m) (g : Option Grant) where
+module _ (d : DownlinkTeid) {C P : Type 0} (way : Way (Message C) C P) (same : (m : Message C) → way.encode m ≡ m) (g : Option Grant) where
   abbrev Record : Type 0
   Record = CuCpRecord (Message C) C
 
   abbrev Held : Place → Record → Type 0
   Held q r = (ue : UeId) → HeldBy d q ue (terminal_of r ue).context
 
-  held_put : (q : Place) (r : Record) (ue : UeId) (t : CpTerminal) → Held q r → HeldBy d q ue t.context → Held q (with_terminal ue r t)
+  held_put : (q : Place) (r : Record) (ue : UeId) (t : CuCpTerminal) → Held q r → HeldBy d q ue t.context → Held q (with_terminal ue r t)
   held_put q r ue t h here v =
-      subst (λ (o : Option CpTerminal). HeldBy d q v (terminal_in o).context) (sym (find-put ue_total r.terminals ue t v)) (by (eq_by_cmp ue_cmp v ue) refl)
+      subst (λ (o : Option CuCpTerminal). HeldBy d q v (terminal_in o).context) (sym (find-put ue_total r.terminals ue t v)) (by (eq_by_cmp ue_cmp v ue) refl)
     where
       by : (b : Bool) → eq_by_cmp ue_cmp v ue ≡ b → HeldBy d q v (terminal_in (cond b (Some t) (find ue_cmp r.terminals v))).context
       by true tie = subst (λ (w : UeId). HeldBy d q w t.context) (sym (ue_exact v ue ((Equal-is (ue_cmp v ue)).0 tie))) here
@@ -93,10 +93,10 @@ module _ (d : DownlinkTeid) {C P : Type 0} (way : Way (Message C) C P) (same : (
   noted_held q ue node false r h = h
 
   asked_is : (q : Place) (high : ℕ) (ue : UeId) (node : NodeId) (r : Record) (x : Asked (Message C) C) → Held q r → TransactionsAre d g q high x.transactions
-      → CpIs d g q high (after_asked way ue node r x)
+      → CuCpIs d g q high (after_asked way ue node r x)
   asked_is q high ue node r x h k = by x.awaited
     where
-      by : (o : Option ℕ) → CpIs d g q high (after_begun way ue node (with_transactions r x.transactions) o)
+      by : (o : Option ℕ) → CuCpIs d g q high (after_begun way ue node (with_transactions r x.transactions) o)
       by None = record { transactions = k; contexts = h }
       by (Some i) = record {
         transactions = k;
@@ -113,7 +113,7 @@ module _ (d : DownlinkTeid) {C P : Type 0} (way : Way (Message C) C P) (same : (
   Puts q os = AllByRecursion (PutIs d q) os
 
   abbrev Stays : Place → Answer (Message C) P (CuCpRecord (Message C) C) → Type 0
-  Stays q (gives os r) = (high : ℕ) × AllByRecursion (PutIs d q) os × CpIs d g q high r
+  Stays q (gives os r) = (high : ℕ) × AllByRecursion (PutIs d q) os × CuCpIs d g q high r
   Stays q (spent counter) = Unit {0}
 
   abbrev Goes : Place → Answer (Message C) P (CuCpRecord (Message C) C) → Type 0
@@ -123,7 +123,7 @@ module _ (d : DownlinkTeid) {C P : Type 0} (way : Way (Message C) C P) (same : (
   same_place p a h = (p, stays_there p, h)
 
   stays_then : (q : Place) (a : Answer (Message C) P Record) (f : Record → Answer (Message C) P Record) → Stays q a
-      → ((high : ℕ) (r : Record) → CpIs d g q high r → Stays q (f r)) → Stays q (a then f)
+      → ((high : ℕ) (r : Record) → CuCpIs d g q high r → Stays q (f r)) → Stays q (a then f)
   stays_then q (gives os r) f h each = by (f r) (each h.0 r h.2)
     where
       by : (b : Answer (Message C) P Record) → Stays q b → Stays q (with_outputs os b)
@@ -135,7 +135,7 @@ module _ (d : DownlinkTeid) {C P : Type 0} (way : Way (Message C) C P) (same : (
   puts_stay p q os stay all = all_as (PutIs d p) (PutIs d q) os (λ o h. put_stays d p q o stay h) all
 
   goes_then : (p : Place) (a : Answer (Message C) P Record) (f : Record → Answer (Message C) P Record) → Goes p a
-      → ((q : Place) (high : ℕ) (r : Record) → Moves p q → CpIs d g q high r → Goes q (f r)) → Goes p (a then f)
+      → ((q : Place) (high : ℕ) (r : Record) → Moves p q → CuCpIs d g q high r → Goes q (f r)) → Goes p (a then f)
   goes_then p (gives os r) f h each = by (f r) (each h.0 h.2.0 r h.1 h.2.2)
     where
       by : (b : Answer (Message C) P Record) → Goes h.0 b → Goes p (with_outputs os b)
@@ -145,7 +145,7 @@ module _ (d : DownlinkTeid) {C P : Type 0} (way : Way (Message C) C P) (same : (
   goes_then p (spent counter) f h each = (h.0, h.1, tt)
 
   asked_then : (q : Place) (a : Answer (Message C) P (Asked (Message C) C)) (f : Asked (Message C) C → Record) → AskedIs d g q a
-      → ((high : ℕ) (x : Asked (Message C) C) → TransactionsAre d g q high x.transactions → CpIs d g q high (f x)) → Stays q (a then (λ x. nothing (f x)))
+      → ((high : ℕ) (x : Asked (Message C) C) → TransactionsAre d g q high x.transactions → CuCpIs d g q high (f x)) → Stays q (a then (λ x. nothing (f x)))
   asked_then q (gives os x) f h each = (h.0, all_append (PutIs d q) os [] h.1 tt, each h.0 x h.2)
   asked_then q (spent counter) f h each = tt
 
@@ -154,14 +154,14 @@ module _ (d : DownlinkTeid) {C P : Type 0} (way : Way (Message C) C P) (same : (
   abbrev Kepts : List (Channel × Kept (Message C)) → Type 0
   Kepts es = AllByRecursion (λ (e : Channel × Kept (Message C)). KeptIs e.1.reply) es
 
-  keep_is : (r : List (Channel × Kept (Message C))) (c : Channel) (m : Message C) → NoSwitch m → Kepts r → Kepts (keep r c (way.spell m))
+  keep_is : (r : List (Channel × Kept (Message C))) (c : Channel) (m : Message C) → NoSwitch m → Kepts r → Kepts (keep r c (way.encode m))
   unfolding keep
   keep_is r c m none all = by (kept_at r c)
     where
-      by : (o : Option (Kept (Message C))) → Kepts (with_reply r c (way.spell m) o)
+      by : (o : Option (Kept (Message C))) → Kepts (with_reply r c (way.encode m) o)
       by None = all
       by (Some k) =
-          each_put channel_cmp (λ (x : Kept (Message C)). KeptIs x.reply) r c (record k { reply = Some (way.spell m) }) all
+          each_put channel_cmp (λ (x : Kept (Message C)). KeptIs x.reply) r c (record k { reply = Some (way.encode m) }) all
           (subst (λ (n : Message C). NoSwitch n) (sym (same m)) none)
 
   with_callee : (q : Place) (high : ℕ) (x : Transactions (Message C) C) (r : List (Channel × Kept (Message C))) → TransactionsAre d g q high x → Kepts r
@@ -169,11 +169,11 @@ module _ (d : DownlinkTeid) {C P : Type 0} (way : Way (Message C) C P) (same : (
   unfolding waits_at
   with_callee q high x r h all = record { opened = h.opened; last = h.last; waiting = h.waiting; kept = all; closed = h.closed }
 
-  with_kept : (q : Place) (high : ℕ) (r : Record) (x : Transactions (Message C) C) → CpIs d g q high r → TransactionsAre d g q high x → CpIs d g q high (with_transactions r x)
+  with_kept : (q : Place) (high : ℕ) (r : Record) (x : Transactions (Message C) C) → CuCpIs d g q high r → TransactionsAre d g q high x → CuCpIs d g q high (with_transactions r x)
   with_kept q high r x h k = record { transactions = k; contexts = h.contexts }
 
-  spelled_put : (q : Place) (to : NodeId) (m : Message C) → NoSwitch m → SwitchIs d q to (way.spell m)
-  spelled_put q to m none = plain_put d q to (way.spell m) (subst (λ (n : Message C). NoSwitch n) (sym (same m)) none)
+  spelled_put : (q : Place) (to : NodeId) (m : Message C) → NoSwitch m → SwitchIs d q to (way.encode m)
+  spelled_put q to m none = plain_put d q to (way.encode m) (subst (λ (n : Message C). NoSwitch n) (sym (same m)) none)
 
   forgotten_is : (q : Place) (high : ℕ) (ue : UeId) (x : Transactions (Message C) C) → TransactionsAre d g q high x → TransactionsAre d g q high (forgotten way ue x)
   unfolding waits_at at find
@@ -205,8 +205,8 @@ module _ (d : DownlinkTeid) {C P : Type 0} (way : Way (Message C) C P) (same : (
           by false rest = found_as e.1 (λ m. m) (is_at (channel_cmp ch) e.0) rest k
 
   -- what switches nothing leaves it where it is
-  say_plain : (p : Place) (high : ℕ) (ue : UeId) (r : Record) (s : Say C) → SayIs d s → CpIs d g p high r → Stays p (say_one way ue r s)
-  unfolding say_one replied replied_late keep_for
+  say_plain : (p : Place) (high : ℕ) (ue : UeId) (r : Record) (s : Action C) → SayIs d s → CuCpIs d g p high r → Stays p (act_one way ue r s)
+  unfolding act_one replied replied_late keep_for
   say_plain p high ue r (asks to m deadline awaited) none h =
       let went = ask_went d way same g p nowhere high r.transactions (channel ue.0 to) (waiting_of way m deadline awaited) tt
       (from_nowhere d p (channel ue.0 to) m none) h.transactions in
@@ -221,8 +221,8 @@ module _ (d : DownlinkTeid) {C P : Type 0} (way : Way (Message C) C P) (same : (
   say_plain p high ue r (replies to m) none h = (
     high,
     (spelled_put p to m none, tt),
-    with_kept p high r (record r.transactions { callee = keep r.transactions.callee (channel ue.0 to) (way.spell m) }) h
-        (with_callee p high r.transactions (keep r.transactions.callee (channel ue.0 to) (way.spell m)) h.transactions
+    with_kept p high r (record r.transactions { callee = keep r.transactions.callee (channel ue.0 to) (way.encode m) }) h
+        (with_callee p high r.transactions (keep r.transactions.callee (channel ue.0 to) (way.encode m)) h.transactions
         (keep_is r.transactions.callee (channel ue.0 to) m none h.transactions.kept)),
   )
   say_plain p high ue r (replies_late to i m) none h = (
@@ -231,12 +231,12 @@ module _ (d : DownlinkTeid) {C P : Type 0} (way : Way (Message C) C P) (same : (
     by (is_newest (newest r.transactions.callee (channel ue.0 to)) i),
   )
     where
-      by : (b : Bool) → CpIs d g p high (with_transactions r (record r.transactions {
-        callee = if b then keep r.transactions.callee (channel ue.0 to) (way.spell m) else r.transactions.callee;
+      by : (b : Bool) → CuCpIs d g p high (with_transactions r (record r.transactions {
+        callee = if b then keep r.transactions.callee (channel ue.0 to) (way.encode m) else r.transactions.callee;
       }))
       by true =
-          with_kept p high r (record r.transactions { callee = keep r.transactions.callee (channel ue.0 to) (way.spell m) }) h
-          (with_callee p high r.transactions (keep r.transactions.callee (channel ue.0 to) (way.spell m)) h.transactions
+          with_kept p high r (record r.transactions { callee = keep r.transactions.callee (channel ue.0 to) (way.encode m) }) h
+          (with_callee p high r.transactions (keep r.transactions.callee (channel ue.0 to) (way.encode m)) h.transactions
           (keep_is r.transactions.callee (channel ue.0 to) m none h.transactions.kept))
       by false = with_kept p high r r.transactions h h.transactions
   say_plain p high ue r (sends to m) none h = (high, (spelled_put p to m none, tt), h)
@@ -246,16 +246,16 @@ module _ (d : DownlinkTeid) {C P : Type 0} (way : Way (Message C) C P) (same : (
   say_plain p high ue r forgets none h =
       (high, tt, with_kept p high r (forgotten way ue r.transactions) h (forgotten_is p high ue r.transactions h.transactions))
 
-  all_plain : (p : Place) (high : ℕ) (ue : UeId) (ss : List (Say C)) (r : Record) → AllPlain d ss → CpIs d g p high r → Stays p (say_all way ue ss r)
-  unfolding say_all
+  all_plain : (p : Place) (high : ℕ) (ue : UeId) (ss : List (Action C)) (r : Record) → AllPlain d ss → CuCpIs d g p high r → Stays p (act_all way ue ss r)
+  unfolding act_all
   all_plain p high ue [] r none h = (high, tt, h)
   all_plain p high ue (s ∷ ss) r none h =
-      stays_then p (say_one way ue r s) (say_all way ue ss) (say_plain p high ue r s none.0 h) (λ i q k. all_plain p i ue ss q none.1 k)
+      stays_then p (act_one way ue r s) (act_all way ue ss) (say_plain p high ue r s none.0 h) (λ i q k. all_plain p i ue ss q none.1 k)
 
   -- what switches bearers moves it on from the terminal's attempt, which may not say so again
-  say_switch : (p : Place) (high : ℕ) (ue : UeId) (r : Record) (s : Say C) → Switches d p ue s → Settled d ue (terminal_of r ue).context → CpIs d g p high r
-      → Goes p (say_one way ue r s)
-  unfolding say_one
+  say_switch : (p : Place) (high : ℕ) (ue : UeId) (r : Record) (s : Action C) → Switches d p ue s → Settled d ue (terminal_of r ue).context → CuCpIs d g p high r
+      → Goes p (act_one way ue r s)
+  unfolding act_one
   say_switch p high ue r (asks to m deadline awaited) from settled h = (
     went.place,
     went.moves,
@@ -276,23 +276,23 @@ module _ (d : DownlinkTeid) {C P : Type 0} (way : Way (Message C) C P) (same : (
           by false e = held_stays d p went.place v (terminal_of r v).context (λ b k. went.keeps v.0 b e k) (h.contexts v)
   say_switch p high ue r s from settled h = absurd from
 
-  carried : (p : Place) (high : ℕ) (ue : UeId) (r : Record) (what : Row C) → RowIs d p ue what → CpIs d g p high r → Goes p (carry_out way ue r what)
-  unfolding carry_out say_all
+  carried : (p : Place) (high : ℕ) (ue : UeId) (r : Record) (what : Row C) → RowIs d p ue what → CuCpIs d g p high r → Goes p (carry_out way ue r what)
+  unfolding carry_out act_all
   carried p high ue r (row says t) (inl is) h =
-      same_place p (say_all way ue says (with_terminal ue r t))
+      same_place p (act_all way ue says (with_terminal ue r t))
       (all_plain p high ue says (with_terminal ue r t) is.0 (record { transactions = h.transactions; contexts = held_put p r ue t h.contexts is.1 }))
   carried p high ue r (row [] t) (inr is) h = absurd is
   carried p high ue r (row (s ∷ ss) t) (inr is) h =
       let on : Record = with_terminal ue r t in
-      goes_then p (say_one way ue on s) (say_all way ue ss)
-      (say_switch p high ue on s is.0 (subst (λ (x : CpTerminal). Settled d ue x.context) (sym (ap terminal_in (put_found r.terminals ue t))) is.1)
+      goes_then p (act_one way ue on s) (act_all way ue ss)
+      (say_switch p high ue on s is.0 (subst (λ (x : CuCpTerminal). Settled d ue x.context) (sym (ap terminal_in (put_found r.terminals ue t))) is.1)
       (record { transactions = h.transactions; contexts = held_put p r ue t h.contexts (is.1 p) }))
-      (λ q i x moves k. same_place q (say_all way ue ss x) (all_plain q i ue ss x is.2 k))
+      (λ q i x moves k. same_place q (act_all way ue ss x) (all_plain q i ue ss x is.2 k))
   carried p high ue r (row_spent counter) is h = (p, stays_there p, tt)
 
   -- ---- replies
 
-  next_goes : (p : Place) (high : ℕ) (ue : UeId) (ch : Channel) (r : Record) → CpIs d g p high r → Goes p (put_next way ue ch r)
+  next_goes : (p : Place) (high : ℕ) (ue : UeId) (ch : Channel) (r : Record) → CuCpIs d g p high r → Goes p (put_next way ue ch r)
   next_goes p high ue ch r h =
       let a = advance_went d way same g p high r.transactions ch h.transactions in
       let went = a.2 in (
@@ -303,7 +303,7 @@ module _ (d : DownlinkTeid) {C P : Type 0} (way : Way (Message C) C P) (same : (
             (λ v. held_stays d p went.place v (terminal_of r v).context (λ b e. went.keeps v.0 b (a.1 v.0) e) (h.contexts v)) k),
       )
 
-  closed_is : (p : Place) (high : ℕ) (ch : Channel) (r : Record) → CpIs d g p high r → CpIs d g p high (closed_at way ch r)
+  closed_is : (p : Place) (high : ℕ) (ch : Channel) (r : Record) → CuCpIs d g p high r → CuCpIs d g p high (closed_at way ch r)
   closed_is p high ch r h = record { transactions = closed_are d way same g p high r.transactions ch h.transactions; contexts = h.contexts }
 
   -- taken from an awaited answer, whose request is closed then
@@ -334,8 +334,8 @@ module _ (d : DownlinkTeid) {C P : Type 0} (way : Way (Message C) C P) (same : (
   take_asks : (ch : Channel) (i ue : ℕ) (p : Place) → Asks p (take g ch i ue p)
   take_asks ch i ue p c n b e = take_keeps g ch i ue p (asked c n b) tt e
 
-  taken_is : (p : Place) (high : ℕ) (ch : Channel) (i ue : ℕ) (r : Record) → is_awaited r.transactions.caller ch i ≡ true → CpIs d g p high r
-      → CpIs d g (take g ch i ue p) high (closed_at way ch r)
+  taken_is : (p : Place) (high : ℕ) (ch : Channel) (i ue : ℕ) (r : Record) → is_awaited r.transactions.caller ch i ≡ true → CuCpIs d g p high r
+      → CuCpIs d g (take g ch i ue p) high (closed_at way ch r)
   unfolding close without waits_at
   taken_is p high ch i ue r is h =
       let q : Place = take g ch i ue p in
@@ -354,7 +354,7 @@ module _ (d : DownlinkTeid) {C P : Type 0} (way : Way (Message C) C P) (same : (
 
   without_release_is : (p : Place) (ch : Channel) (high : ℕ) (ws : List (Waiting C)) → AreMarked d p ch 0 high ws → AreMarked d p ch 0 high (without_release way ws)
   without_release_is p ch high [] h = tt
-  without_release_is p ch high (w ∷ ws) h = by (is_up_release way w.message)
+  without_release_is p ch high (w ∷ ws) h = by (is_cu_up_release way w.message)
     where
       by : (b : Bool) → AreMarked d p ch 0 high (if b then ws else w ∷ ws)
       by true = marked_by d p p ch (h.0 + 1) 0 high high ws (omega arith) (omega arith) (λ m b up e. e) h.4
@@ -397,11 +397,11 @@ module _ (d : DownlinkTeid) {C P : Type 0} (way : Way (Message C) C P) (same : (
   )
 
   answered_ends : (is : Property way) (p : Place) (high : ℕ) (ue : UeId) (from : NodeId) (i : ℕ) (m : Message C) (r : Record) (a : Answered way)
-      → is_awaited r.transactions.caller (channel ue.0 from) i ≡ true → AnsweredIs d is (at_of r ue) g p from i a → CpIs d g p high r
+      → is_awaited r.transactions.caller (channel ue.0 from) i ≡ true → AnsweredIs d is (at_of r ue) g p from i a → CuCpIs d g p high r
       → Ends p (answered_by way ue (channel ue.0 from) m r a)
   answered_ends is p high ue from i m r answers_none awaited fits h =
       let c : Record = closed_at way (channel ue.0 from) r in
-      let k : CpIs d g p high c = closed_is p high (channel ue.0 from) r h in
+      let k : CuCpIs d g p high c = closed_is p high (channel ue.0 from) r h in
       ends_of p _ (next_goes p high ue (channel ue.0 from) (with_transactions c (after_failed_setup way m (channel ue.0 from) c.transactions))
       (with_kept p high c (after_failed_setup way m (channel ue.0 from) c.transactions) k (failed_is p high m (channel ue.0 from) c.transactions k.transactions)))
   answered_ends is p high ue from i m r (answers_with None) awaited fits h = ends_of p (drops Unexpected r) (same_place p (drops Unexpected r) (high, (tt, tt), h))
@@ -420,36 +420,36 @@ module _ (d : DownlinkTeid) {C P : Type 0} (way : Way (Message C) C P) (same : (
           (carried (take g (channel ue.0 from) i ue.0 p) high ue on what taken (taken_is p high (channel ue.0 from) i ue.0 r awaited h))
           (λ q j x moves k. next_goes q j ue (channel ue.0 from) x k))
 
-  fresh_is : (p : Place) (high : ℕ) (ch : Channel) (i : ℕ) (r : Record) → is_awaited r.transactions.caller ch i ≡ true → CpIs d g p high r
+  fresh_is : (p : Place) (high : ℕ) (ch : Channel) (i : ℕ) (r : Record) → is_awaited r.transactions.caller ch i ≡ true → CuCpIs d g p high r
       → (b : BearerId) → g ≡ Some (record { channel = ch; instance = i; bearer = b }) → (p ≡ away → ⊥) → ⊥
   fresh_is p high ch i r awaited h b given apart =
       shut_not_awaited r.transactions.caller ch i (subst (HasClosed r.transactions.caller) given (h.transactions.closed apart)) awaited
 
   reply_ends : (is : Property way) (p : Place) (high : ℕ) (ue : UeId) (from : NodeId) (i : ℕ) (m : Message C) (r : Record)
-      → is_awaited r.transactions.caller (channel ue.0 from) i ≡ true → NamesFor is.owners from ue m → IsGiven d is (at_of r ue) g p from i m → CpNames is d.gnb r
-      → CpIs d g p high r → Ends p (reply_came way ue (channel ue.0 from) i m r)
-  unfolding reply_came
+      → is_awaited r.transactions.caller (channel ue.0 from) i ≡ true → NamesFor is.owners from ue m → IsGiven d is (at_of r ue) g p from i m → CuCpNames is d.gnb r
+      → CuCpIs d g p high r → Ends p (reply_received way ue (channel ue.0 from) i m r)
+  unfolding reply_received
   reply_ends is p high ue from i m r awaited names given n h =
       answered_ends is p high ue from i m r (answer way (at_of r ue) from i m (terminal_of r ue)) awaited
       (answer_is d is (at_of r ue) g p from i m (terminal_of r ue) n.own names given (fresh_is p high (channel ue.0 from) i r awaited h)
-      (terminal_names is r.gnb r ue (subst (λ (x : Gnb). CpNames is x r) (sym n.own) n)) (h.contexts ue)) h
+      (terminal_names is r.gnb r ue (subst (λ (x : Gnb). CuCpNames is x r) (sym n.own) n)) (h.contexts ue)) h
 
   -- ---- requests and transfers
 
-  set_up_goes : (p : Place) (high : ℕ) (from : NodeId) (m : Message C) (r : Record) → NoSwitch m → CpIs d g p high r → Goes p (set_up way from m r)
+  set_up_goes : (p : Place) (high : ℕ) (from : NodeId) (m : Message C) (r : Record) → NoSwitch m → CuCpIs d g p high r → Goes p (set_up way from m r)
   unfolding replied
   set_up_goes p high from m r none h =
       same_place p (set_up way from m r) (
         high,
         (spelled_put p from m none, tt),
         record {
-          transactions = with_callee p high r.transactions (keep r.transactions.callee (channel 0 from) (way.spell m)) h.transactions
+          transactions = with_callee p high r.transactions (keep r.transactions.callee (channel 0 from) (way.encode m)) h.transactions
               (keep_is r.transactions.callee (channel 0 from) m none h.transactions.kept);
           contexts = h.contexts;
         },
       )
 
-  asked_goes : (p : Place) (high : ℕ) (from : NodeId) (m : Message C) (r : Record) → CpIs d g p high r → Goes p (asked_row way from m r)
+  asked_goes : (p : Place) (high : ℕ) (from : NodeId) (m : Message C) (r : Record) → CuCpIs d g p high r → Goes p (asked_row way from m r)
   asked_goes p high from (f1 (f1s.F1SetupRequest i name)) r h = set_up_goes p high from (f1 (f1s.F1SetupResponse i)) r tt h
   asked_goes p high from (e1 (e1s.E1SetupRequest i name)) r h = set_up_goes p high from (e1 (e1s.E1SetupResponse i)) r tt h
   asked_goes p high from (xn (xns.HandoverRequest ue i epoch bearers sn quota peer du origin)) r h =
@@ -463,8 +463,8 @@ module _ (d : DownlinkTeid) {C P : Type 0} (way : Way (Message C) C P) (same : (
   asked_goes p high from m r h = same_place p (drops Unexpected r) (high, (tt, tt), h)
 
   -- a request is taken once
-  request_goes : (p : Place) (high : ℕ) (r : Record) (c : Channel) (i : ℕ) (f : Record → Answer (Message C) P Record) → CpIs d g p high r
-      → ((s : Record) → CpIs d g p high s → Goes p (f s)) → Goes p (on_request way r r.transactions c i (λ x. f (with_transactions r x)))
+  request_goes : (p : Place) (high : ℕ) (r : Record) (c : Channel) (i : ℕ) (f : Record → Answer (Message C) P Record) → CuCpIs d g p high r
+      → ((s : Record) → CuCpIs d g p high s → Goes p (f s)) → Goes p (on_request way r r.transactions c i (λ x. f (with_transactions r x)))
   unfolding on_request taken kept_reply kept_at
   request_goes p high r c i f h each = by (verdict r.transactions.callee c i)
     where
@@ -485,13 +485,13 @@ module _ (d : DownlinkTeid) {C P : Type 0} (way : Way (Message C) C P) (same : (
       by again = kept_again (kept_reply r.transactions.callee c) (kept_in (kept_at r.transactions.callee c) refl)
       by stale = same_place p (drops Stale r) (high, (tt, tt), h)
 
-  transferred_goes : (is : Property way) (p : Place) (high : ℕ) (from : NodeId) (m : Message C) (r : Record) → CpNames is d.gnb r → CpIs d g p high r
+  transferred_goes : (is : Property way) (p : Place) (high : ℕ) (from : NodeId) (m : Message C) (r : Record) → CuCpNames is d.gnb r → CuCpIs d g p high r
       → Goes p (transferred way from m r)
-  unfolding token_came
+  unfolding token_received
   transferred_goes is p high from (f1 (f1s.UlRrcMessageTransfer ue container)) r n h =
       carried p high ue r _
       (container_is d is (at_of r ue) g p from (terminal_of r ue) (terminal_of r ue).context (way.unwrap container)
-      (terminal_names is r.gnb r ue (subst (λ (x : Gnb). CpNames is x r) (sym n.own) n)) (h.contexts ue)) h
+      (terminal_names is r.gnb r ue (subst (λ (x : Gnb). CuCpNames is x r) (sym n.own) n)) (h.contexts ue)) h
   transferred_goes is p high from m r n h = same_place p (drops Unexpected r) (high, (tt, tt), h)
 
   -- a reply has this terminal and instance
@@ -517,14 +517,14 @@ module _ (d : DownlinkTeid) {C P : Type 0} (way : Way (Message C) C P) (same : (
   given_as from m h = tt
 
   by_kind_ends : (is : Property way) (p : Place) (high : ℕ) (from : NodeId) (m : Message C) (r : Record) (k : Kind) → NamesFor is.owners from (ue_of k) m
-      → (from ≡ du_of_teid d → GivenAs from m k) → CpNames is d.gnb r → CpIs d g p high r → Ends p (control_by way from m r k)
+      → (from ≡ du_of_teid d → GivenAs from m k) → CuCpNames is d.gnb r → CuCpIs d g p high r → Ends p (control_by way from m r k)
   unfolding on_reply
   by_kind_ends is p high from m r (request ue i) names given n h =
       ends_of p _ (request_goes p high r (channel ue from) i (λ s. asked_row way from m s) h (λ s k. asked_goes p high from m s k))
   by_kind_ends is p high from m r (reply ue i) names given n h = by (is_awaited r.transactions.caller (channel ue from) i) refl
     where
       by : (b : Bool) → is_awaited r.transactions.caller (channel ue from) i ≡ b
-          → Ends p (if b then reply_came way (record { 0 = ue }) (channel ue from) i m r else drops Stale r)
+          → Ends p (if b then reply_received way (record { 0 = ue }) (channel ue from) i m r else drops Stale r)
       by true awaited =
           reply_ends is p high (record { 0 = ue }) from i m r awaited names
           (λ here. on_answer _ _ m (λ u j list each. each ue i refl) (given here)) n h
@@ -532,8 +532,8 @@ module _ (d : DownlinkTeid) {C P : Type 0} (way : Way (Message C) C P) (same : (
   by_kind_ends is p high from m r (transfer ue) names given n h = ends_of p _ (transferred_goes is p high from m r n h)
 
   control_ends : (is : Property way) (p : Place) (high : ℕ) (from : NodeId) (m : Message C) (r : Record) → Names is.owners from m
-      → (from ≡ du_of_teid d → AnswerIs d g from m) → CpNames is d.gnb r → CpIs d g p high r → Ends p (control_came way from m r)
-  unfolding control_came
+      → (from ≡ du_of_teid d → AnswerIs d g from m) → CuCpNames is d.gnb r → CuCpIs d g p high r → Ends p (control_received way from m r)
+  unfolding control_received
   control_ends is p high from m r names given n h = by (shares_interface (CuCp r.gnb) from)
     where
       by : (b : Bool) → Ends p (if b then control_by way from m r (kind_of m) else drops Unexpected r)
@@ -595,16 +595,16 @@ module _ (d : DownlinkTeid) {C P : Type 0} (way : Way (Message C) C P) (same : (
       → RowIs d p ue (expired_on way (at_of r ue) (terminal_of r ue) (terminal_of r ue).context)
   expired_is p r ue h = by (terminal_of r ue).context
     where
-      by : (o : Option CpContext) → RowIs d p ue (expired_on way (at_of r ue) (terminal_of r ue) o)
+      by : (o : Option CuCpContext) → RowIs d p ue (expired_on way (at_of r ue) (terminal_of r ue) o)
       by None = inl (tt, h)
       by (Some c) = expires_is d way (at_of r ue) p (terminal_of r ue) c
 
-  due_one_goes : (p : Place) (high : ℕ) (r : Record) (x : Due (Message C)) → DueIs p x → CpIs d g p high r → Goes p (due_one way r x)
+  due_one_goes : (p : Place) (high : ℕ) (r : Record) (x : Due (Message C)) → DueIs p x → CuCpIs d g p high r → Goes p (due_one way r x)
   due_one_goes p high r (repeats c m) is h = same_place p (due_one way r (repeats c m)) (high, (is, tt), h)
   due_one_goes p high r (expires c) is h =
       carried p high (record { 0 = c.ue }) r _ (expired_is p r (record { 0 = c.ue }) (h.contexts (record { 0 = c.ue }))) h
 
-  due_each_goes : (p : Place) (high : ℕ) (xs : List (Due (Message C))) (r : Record) → AllByRecursion (DueIs p) xs → CpIs d g p high r → Goes p (due_each way xs r)
+  due_each_goes : (p : Place) (high : ℕ) (xs : List (Due (Message C))) (r : Record) → AllByRecursion (DueIs p) xs → CuCpIs d g p high r → Goes p (due_each way xs r)
   due_each_goes p high [] r all h = same_place p (nothing r) (high, tt, h)
   due_each_goes p high (x ∷ xs) r all h =
       goes_then p (due_one way r x) (due_each way xs) (due_one_goes p high r x all.0 h)
@@ -614,22 +614,22 @@ module _ (d : DownlinkTeid) {C P : Type 0} (way : Way (Message C) C P) (same : (
       → RowIs d p ue (command_on way (at_of r ue) (terminal_of r ue) (terminal_of r ue).context)
   commanded_is p r ue h = by (terminal_of r ue).context h
     where
-      in_state : (c : CpContext) (state : StateName) (o : Option Attempt) → HeldIn d p ue state o → RowIs d p ue (command_by way (at_of r ue) (terminal_of r ue) c state o)
+      in_state : (c : CuCpContext) (state : StateName) (o : Option Attempt) → HeldIn d p ue state o → RowIs d p ue (command_by way (at_of r ue) (terminal_of r ue) c state o)
       in_state c states.Frozen (Some a) k = command_is d way (at_of r ue) p (terminal_of r ue) c a (k refl)
       in_state c states.Commanded (Some a) k = command_is d way (at_of r ue) p (terminal_of r ue) c a (k refl)
       in_state c state o k = inl (tt, h)
 
-      by : (o : Option CpContext) → HeldBy d p ue o → RowIs d p ue (command_on way (at_of r ue) (terminal_of r ue) o)
+      by : (o : Option CuCpContext) → HeldBy d p ue o → RowIs d p ue (command_on way (at_of r ue) (terminal_of r ue) o)
       by None k = inl (tt, h)
       by (Some c) k = in_state c c.state c.attempt k
 
-  command_each_goes : (p : Place) (high : ℕ) (ues : List UeId) (r : Record) → CpIs d g p high r → Goes p (command_each way ues r)
+  command_each_goes : (p : Place) (high : ℕ) (ues : List UeId) (r : Record) → CuCpIs d g p high r → Goes p (command_each way ues r)
   command_each_goes p high [] r h = same_place p (nothing r) (high, tt, h)
   command_each_goes p high (ue ∷ ues) r h =
       goes_then p (carry_out way ue r (command_on way (at_of r ue) (terminal_of r ue) (terminal_of r ue).context)) (command_each way ues)
       (carried p high ue r _ (commanded_is p r ue (h.contexts ue)) h) (λ q i s moves k. command_each_goes q i ues s k)
 
-  tick_goes : (p : Place) (high : ℕ) (r : Record) → CpIs d g p high r → Goes p (tick way r)
+  tick_goes : (p : Place) (high : ℕ) (r : Record) → CuCpIs d g p high r → Goes p (tick way r)
   unfolding tick
   tick_goes p high r h =
       let on : Record = with_transactions r (record r.transactions { caller = after_tick r.transactions.caller }) in
@@ -640,7 +640,7 @@ module _ (d : DownlinkTeid) {C P : Type 0} (way : Way (Message C) C P) (same : (
 
   -- ---- the table
 
-  ordered_goes : (p : Place) (high : ℕ) (order : Order) (r : Record) → CpIs d g p high r → Goes p (ordered way order r)
+  ordered_goes : (p : Place) (high : ℕ) (order : Order) (r : Record) → CuCpIs d g p high r → Goes p (ordered way order r)
   ordered_goes p high (orders.Attach plan) r h =
       carried p high plan.ue r _ (attach_is d way (at_of r plan.ue) p plan (terminal_of r plan.ue) (h.contexts plan.ue)) h
   ordered_goes p high (orders.Handover plan) r h =
@@ -649,8 +649,8 @@ module _ (d : DownlinkTeid) {C P : Type 0} (way : Way (Message C) C P) (same : (
   ordered_goes p high (orders.Release ue) r h = carried p high ue r _ (release_is d way (at_of r ue) p (terminal_of r ue) (h.contexts ue)) h
   ordered_goes p high order r h = same_place p (drops Unexpected r) (high, (tt, tt), h)
 
-  acts_ends : (is : Property way) (p : Place) (high : ℕ) (r : Record) (input : Input C P) → CpNames is d.gnb r → InputNames is input
-      → InputIs d (record { grant = g; place = p }) input → CpIs d g p high r → Ends p (cu_cp_acts way r input)
+  acts_ends : (is : Property way) (p : Place) (high : ℕ) (r : Record) (input : Input C P) → CuCpNames is d.gnb r → InputNames is input
+      → InputIs d (record { grant = g; place = p }) input → CuCpIs d g p high r → Ends p (cu_cp_acts way r input)
   unfolding cu_cp_acts
   acts_ends is p high r (control_input from m) n names given h = control_ends is p high from m r names given n h
   acts_ends is p high r (packet_input teid item) n names given h = ends_of p (drops Unexpected r) (same_place p (drops Unexpected r) (high, (tt, tt), h))
@@ -660,12 +660,12 @@ module _ (d : DownlinkTeid) {C P : Type 0} (way : Way (Message C) C P) (same : (
   acts_ends is p high r tick_input n names given h = ends_of p _ (tick_goes p high r h)
   acts_ends is p high r (order_input order) n names given h = ends_of p _ (ordered_goes p high order r h)
 
-module _ (d : DownlinkTeid) {C P : Type 0} (way : Way (Message C) C P) (same : (m : Message C) → way.spell m ≡ m) (is : Property way) (s : Story) where
-  pub cu_cp_goes : (r : CuCpRecord (Message C) C) (input : Input C P) → CpNames is d.gnb r → InputNames is input → CpHas d s r → InputIs d s input
-      → CpGoes d s (cu_cp_acts way r input)
+module _ (d : DownlinkTeid) {C P : Type 0} (way : Way (Message C) C P) (same : (m : Message C) → way.encode m ≡ m) (is : Property way) (s : Story) where
+  pub cu_cp_goes : (r : CuCpRecord (Message C) C) (input : Input C P) → CuCpNames is d.gnb r → InputNames is input → CuCpHas d s r → InputIs d s input
+      → CuCpGoes d s (cu_cp_acts way r input)
   cu_cp_goes r input n names h given = by (cu_cp_acts way r input) (acts_ends d way same s.grant is s.place h.0 r input n names given h.1)
     where
-      by : (a : Answer (Message C) P (CuCpRecord (Message C) C)) → Ends d way same s.grant s.place a → CpGoes d s a
+      by : (a : Answer (Message C) P (CuCpRecord (Message C) C)) → Ends d way same s.grant s.place a → CuCpGoes d s a
       by (gives os q) e = (
         e.0,
         record { granted = λ g k. k; asked_stays = e.1.asks; placed_stays = e.1.places },

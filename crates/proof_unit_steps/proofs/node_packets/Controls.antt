@@ -20,8 +20,8 @@ use Rattle.message_types.specs.declared.xn.CoreMessage.TheVariants as cores
 use Rattle.unit_defs.specs.Ways.{Message, f1, e1, xn, core, Input, control_input, tick_input, order_input, Way, Answer, ◌then◌, nothing, drops}
 use Rattle.unit_defs.specs.Messages.{channel, shares_interface}
 use Rattle.unit_defs.specs.Transactions.{Kind, request, reply, transfer, kind_of, ask, ask_at_once, advance, replied, replied_late}
-use Rattle.unit_defs.specs.CpRecords.{CuCpRecord, terminal_of, with_terminal, with_transactions, waiting_of, after_asked, noted, Say, asks, cancels, replies, replies_late, sends, fails, ignores, refuses, forgets, say_one, say_all, Row, row, row_spent, carry_out}
-use Rattle.unit_defs.specs.CuCp.{at_of, Answered, answers_none, answers_with, answer, put_next, closed_at, answered_by, reply_came, with_unit, set_up, asked, token_came, transferred, control_by, control_came, due_one, due_each, command_on, command_each, ues_of, tick, cu_cp_acts}
+use Rattle.unit_defs.specs.CuCpRecords.{CuCpRecord, terminal_of, with_terminal, with_transactions, waiting_of, after_asked, noted, Action, asks, cancels, replies, replies_late, sends, fails, ignores, refuses, forgets, act_one, act_all, Row, row, row_spent, carry_out}
+use Rattle.unit_defs.specs.CuCp.{at_of, Answered, answers_none, answers_with, answer, put_next, closed_at, answered_by, reply_received, with_unit, set_up, asked, token_received, transferred, control_by, control_received, due_one, due_each, command_on, command_each, ues_of, tick, cu_cp_acts}
 use Rattle.unit_defs.specs.Core.{CorePath, CoreRecord, end_of, old_ends, moved, switch_path, asked as core_asked, came, core_acts}
 use Rattle.proof_unit_steps.specs.packets.Packets.{Property, OutputHas, OutputsHave}
 use Rattle.proof_unit_steps.proofs.packets.Answers.{all_map, either as either_way, after_any, ask_has, advance_has, at_once_has, replied_has, late_has, on_request_has, on_reply_has}
@@ -35,8 +35,8 @@ module _ {M C P : Type 0} {way : Way M C P} (has : Property way) where
 
   -- ---- whatever a row of a CU-CP says
 
-  says_one : (ue : UeId) (r : CuCpRecord M C) (s : Say C) → Fits (say_one way ue r s)
-  unfolding say_one
+  says_one : (ue : UeId) (r : CuCpRecord M C) (s : Action C) → Fits (act_one way ue r s)
+  unfolding act_one
   says_one ue r (asks to m deadline awaited) =
       after (ask way r.transactions (channel ue.0 to) (waiting_of way m deadline awaited)) (λ a. nothing (after_asked way ue to (noted way ue to awaited r) a))
       (ask_has has r.transactions (channel ue.0 to) (waiting_of way m deadline awaited)) (λ a. (tt, tt))
@@ -54,10 +54,10 @@ module _ {M C P : Type 0} {way : Way M C P} (has : Property way) where
   says_one ue r (refuses reason) = (tt, (tt, tt))
   says_one ue r forgets = (tt, tt)
 
-  says_all : (ue : UeId) (ss : List (Say C)) (r : CuCpRecord M C) → Fits (say_all way ue ss r)
-  unfolding say_all
+  says_all : (ue : UeId) (ss : List (Action C)) (r : CuCpRecord M C) → Fits (act_all way ue ss r)
+  unfolding act_all
   says_all ue [] r = (tt, tt)
-  says_all ue (s ∷ ss) r = after (say_one way ue r s) (say_all way ue ss) (says_one ue r s) (says_all ue ss)
+  says_all ue (s ∷ ss) r = after (act_one way ue r s) (act_all way ue ss) (says_one ue r s) (says_all ue ss)
 
   carried_out : (ue : UeId) (r : CuCpRecord M C) (what : Row C) → Fits (carry_out way ue r what)
   unfolding carry_out
@@ -75,8 +75,8 @@ module _ {M C P : Type 0} {way : Way M C P} (has : Property way) where
   answered_has ue ch m r (answers_with (Some what)) =
       after (carry_out way ue (closed_at way ch r) what) (put_next way ue ch) (carried_out ue (closed_at way ch r) what) (next_has ue ch)
 
-  reply_has : (ue : UeId) (ch : Channel) (instance : ℕ) (m : Message C) (r : CuCpRecord M C) → Fits (reply_came way ue ch instance m r)
-  unfolding reply_came
+  reply_has : (ue : UeId) (ch : Channel) (instance : ℕ) (m : Message C) (r : CuCpRecord M C) → Fits (reply_received way ue ch instance m r)
+  unfolding reply_received
   reply_has ue ch instance m r = answered_has ue ch m r (answer way (at_of r ue) ch.peer instance m (terminal_of r ue))
 
   set_up_has : (from : NodeId) (m : Message C) (r : CuCpRecord M C) → Fits (set_up way from m r)
@@ -94,7 +94,7 @@ module _ {M C P : Type 0} {way : Way M C P} (has : Property way) where
   asked_has from m r = (tt, (tt, tt))
 
   transferred_has : (from : NodeId) (m : Message C) (r : CuCpRecord M C) → Fits (transferred way from m r)
-  unfolding token_came
+  unfolding token_received
   transferred_has from (f1 (f1s.UlRrcMessageTransfer ue container)) r = carried_out ue r _
   transferred_has from m r = (tt, (tt, tt))
 
@@ -103,12 +103,12 @@ module _ {M C P : Type 0} {way : Way M C P} (has : Property way) where
       on_request_has has (λ (x : CuCpRecord M C). Unit {0}) r r.transactions (channel ue from) i (λ t. asked way from m (with_transactions r t)) tt
       (λ t. asked_has from m (with_transactions r t))
   control_by_has from m r (reply ue i) =
-      on_reply_has has (λ (x : CuCpRecord M C). Unit {0}) r r.transactions (channel ue from) i (reply_came way (record { 0 = ue }) (channel ue from) i m r) tt
+      on_reply_has has (λ (x : CuCpRecord M C). Unit {0}) r r.transactions (channel ue from) i (reply_received way (record { 0 = ue }) (channel ue from) i m r) tt
       (reply_has (record { 0 = ue }) (channel ue from) i m r)
   control_by_has from m r (transfer ue) = transferred_has from m r
 
-  control_has : (from : NodeId) (m : Message C) (r : CuCpRecord M C) → Fits (control_came way from m r)
-  unfolding control_came
+  control_has : (from : NodeId) (m : Message C) (r : CuCpRecord M C) → Fits (control_received way from m r)
+  unfolding control_received
   control_has from m r =
       either_way has (λ (x : CuCpRecord M C). Unit {0}) (shares_interface (CuCp r.gnb) from) (control_by way from m r (kind_of m)) (drops Unexpected r)
       (control_by_has from m r (kind_of m)) (tt, (tt, tt))

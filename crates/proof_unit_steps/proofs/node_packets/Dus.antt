@@ -26,7 +26,7 @@ use Rattle.unit_defs.specs.Ways.{Message, f1, rrc, uplink, status, end_marker, T
 use Rattle.unit_defs.specs.Messages.{channel, is_same_gnb, bearers_of, are_first_bearers}
 use Rattle.unit_defs.specs.Teids.{teids_are_left}
 use Rattle.unit_defs.specs.Transactions.{Kind, request, reply, transfer, kind_of, no_instance, ask, advance, replied}
-use Rattle.unit_defs.specs.Du.{DuBearer, DuContext, DuTunnel, Du, du_node, context_of, with_transactions, downlinks_of, downlink_list, replies, closings, openings, old_downlinks, replaced, replaces, context_with, setup, context_anew, modify_on, modify, end_markers, released_on, release, relayed_down, relay_down, relayed_up, relay_up, token_ue, start, set_up, asked, transferred, of_cp, of_terminal, control_came, missing, is_missing, told, gap_after, carried, with_bearer, frame_came, taken_in, taken_of, taken_on, take, of_bearer, of_context, pass_up, confirmed, confirm, due_output, tick, du_acts}
+use Rattle.unit_defs.specs.Du.{DuBearer, DuContext, DuTunnel, Du, du_node, context_of, with_transactions, downlinks_of, downlink_list, replies, closings, openings, old_downlinks, replaced, replaces, context_with, setup, context_anew, modify_on, modify, end_markers, released_on, release, relayed_down, relay_down, relayed_up, relay_up, token_ue, start, set_up, asked, transferred, of_cu_cp, of_terminal, control_received, missing, is_missing, told, gap_after, carried, with_bearer, frame_received, taken_in, taken_of, taken_on, take, of_bearer, of_context, pass_up, confirmed, confirm, due_output, tick, du_acts}
 use Rattle.intervals.proofs.Intervals.{all_append}
 use Rattle.proof_unit_steps.specs.packets.Packets.{of, Property, PayloadHas, TakenHas, DuInputHas, OutputHas, OutputsHave}
 use Rattle.proof_unit_steps.proofs.packets.Answers.{all_map, all_flat, either as either_way, after_any, ask_has, advance_has, replied_has, on_request_has, on_reply_has}
@@ -126,7 +126,7 @@ module _ {M C P : Type 0} {way : Way M C P} (has : Property way) where
       (λ a. nothing (record r { is_set_up = true; transactions = a.transactions }))
       (advance_has has (record r.transactions { caller = close r.transactions.caller ch }) ch) (λ a. (tt, tt))
 
-  of_cp_has : (from : NodeId) (m : Message C) (r : Du M C) (k : Kind) → Fits (of_cp way from m r k)
+  of_cp_has : (from : NodeId) (m : Message C) (r : Du M C) (k : Kind) → Fits (of_cu_cp way from m r k)
   of_cp_has from m r (request ue i) =
       on_request_has has (λ (x : Du M C). Unit {0}) r r.transactions (channel ue from) i (λ t. asked way (channel ue from) m (with_transactions r t)) tt
       (λ t. asked_has (channel ue from) m (with_transactions r t))
@@ -134,10 +134,10 @@ module _ {M C P : Type 0} {way : Way M C P} (has : Property way) where
       on_reply_has has (λ (x : Du M C). Unit {0}) r r.transactions (channel ue from) i (set_up way (channel ue from) r) tt (set_up_has (channel ue from) r)
   of_cp_has from m r (transfer ue) = transferred_has m r
 
-  control_has : (from : NodeId) (m : Message C) (r : Du M C) → Fits (control_came way from m r)
-  unfolding control_came
+  control_has : (from : NodeId) (m : Message C) (r : Du M C) → Fits (control_received way from m r)
+  unfolding control_received
   control_has (CuCp gnb) m r =
-      either (is_same_gnb gnb r.gnb) (of_cp way (CuCp gnb) m r (kind_of m)) (drops Unexpected r) (of_cp_has (CuCp gnb) m r (kind_of m)) (tt, (tt, tt))
+      either (is_same_gnb gnb r.gnb) (of_cu_cp way (CuCp gnb) m r (kind_of m)) (drops Unexpected r) (of_cp_has (CuCp gnb) m r (kind_of m)) (tt, (tt, tt))
   control_has (Ue ue) m r = of_terminal_has ue m r
   control_has from m r = (tt, (tt, tt))
 
@@ -157,7 +157,7 @@ module _ {M C P : Type 0} {way : Way M C P} (has : Property way) where
   carried_has ue bearer c false (Some pdu) r is = (tt, (is, tt))
 
   frame_has : (ue : UeId) (bearer : BearerId) (c : DuContext) (b : DuBearer) (item : Taken P) (r : Du M C) → TakenHas has (of ue bearer Dl) item
-      → Fits (frame_came way ue bearer c b item r)
+      → Fits (frame_received way ue bearer c b item r)
   frame_has ue bearer c b (frame_item poll restart number pdu) r is =
       let on : DuBearer = record b { awaited = number + 1; gap = gap_after way b number restart pdu } in
       after (gives (told way ue bearer b poll number) (with_bearer way ue bearer c on r)) (carried way ue bearer c (gap_after way b number restart pdu) pdu)

@@ -9,8 +9,8 @@ use Rattle.std.specs.BTreeMap.{insert_entry}
 use Rattle.std.specs.List.{AllByRecursion}
 use Rattle.tables.specs.Tables.{put}
 use Rattle.pdcp_defs.specs.Receivers.{Receiver, with_packet, deliver_from, deliver}
-use Rattle.unit_defs.specs.UpRecords.{UpFlags}
-use Rattle.proof_unit_steps.specs.receivers.Ready.{Ascends, StoresAbove, UpStores}
+use Rattle.unit_defs.specs.CuUpRecords.{CuUpFlags}
+use Rattle.proof_unit_steps.specs.receivers.Ready.{Ascends, StoresAbove, CuUpStores}
 
 abbrev Store : Type 0
 Store = List (ℕ × List ℕ)
@@ -63,15 +63,15 @@ each_above low (e ∷ es) p = let first : low ≤ e.0 = p.0 in (first, each_abov
 
 -- ---- at a CU-UP
 
-pub with_none : (flags : UpFlags) (r : Receiver (List ℕ)) → r.stored ≡ [] → UpStores flags r
+pub with_none : (flags : CuUpFlags) (r : Receiver (List ℕ)) → r.stored ≡ [] → CuUpStores flags r
 with_none flags r none = record {
   from = subst (λ (es : Store). Ascends r.deliv es) (sym none) tt;
   above = λ frozen. subst (λ (es : Store). Ascends (r.deliv + 1) es) (sym none) tt;
   none = λ without. none;
 }
 
-pub when_delivered : (old new : UpFlags) (r : Receiver (List ℕ)) → UpStores old r
-    → (new.may_serve && new.arrived ≡ false → old.may_serve && old.arrived ≡ false) → UpStores new (deliver r).after
+pub when_delivered : (old new : CuUpFlags) (r : Receiver (List ℕ)) → CuUpStores old r
+    → (new.may_serve && new.arrived ≡ false → old.may_serve && old.arrived ≡ false) → CuUpStores new (deliver r).after
 when_delivered old new r p before =
     let above : StoresAbove (deliver r).after = above_after r p.from in record {
       from = lower (deliver r).after.deliv ((deliver r).after.deliv + 1) (deliver r).after.stored (omega arith) above;
@@ -79,6 +79,6 @@ when_delivered old new r p before =
       none = λ without. none_after r (p.none (before without));
     }
 
-pub when_frozen : (old new : UpFlags) (r : Receiver (List ℕ)) → UpStores old r → new.frozen ≡ true
-    → (new.may_serve && new.arrived ≡ false → old.may_serve && old.arrived ≡ false) → UpStores new r
+pub when_frozen : (old new : CuUpFlags) (r : Receiver (List ℕ)) → CuUpStores old r → new.frozen ≡ true
+    → (new.may_serve && new.arrived ≡ false → old.may_serve && old.arrived ≡ false) → CuUpStores new r
 when_frozen old new r p frozen before = record { from = p.from; above = λ thawed. absurd cc; none = λ without. p.none (before without) }

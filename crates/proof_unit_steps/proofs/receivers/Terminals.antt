@@ -31,10 +31,10 @@ use Rattle.proof_unit_steps.proofs.receivers.CuUps.{Each, found_in, all_put}
 abbrev Bearers : Type 0
 Bearers = List (BearerId × UeBearer)
 
-abbrev IsFine : UeBearer → Type 0
-IsFine b = StoresAbove b.receiver
+abbrev IsConsistent : UeBearer → Type 0
+IsConsistent b = StoresAbove b.receiver
 
-new_bearers_fine : (i n : ℕ) → Each IsFine (new_bearers i n)
+new_bearers_fine : (i n : ℕ) → Each IsConsistent (new_bearers i n)
 new_bearers_fine i zero = tt
 new_bearers_fine i (suc n) = (tt, new_bearers_fine (i + 1) n)
 
@@ -42,26 +42,26 @@ module _ {M C P : Type 0} (way : Way M C P) where
   -- ---- one bearer
 
   abbrev Fine : Answer M P UeBearer → Type 0
-  Fine a = HoldsAfter IsFine a
+  Fine a = HoldsAfter IsConsistent a
 
-  number_each_fine : (u : UeNode) (bearer : BearerId) (ps : List (List ℕ)) (b : UeBearer) → IsFine b → Fine (number_each way u bearer ps b)
+  number_each_fine : (u : UeNode) (bearer : BearerId) (ps : List (List ℕ)) (b : UeBearer) → IsConsistent b → Fine (number_each way u bearer ps b)
   unfolding number_each
   number_each_fine u bearer [] b p = p
   number_each_fine u bearer (x ∷ ps) b p =
       let on : UeBearer = record b { sender = numbered b.sender x; waiting = ps } in
-      holds_if IsFine (not (has_room u.plan.sn u.plan.quota b.sender)) (nothing b) _ p
-      (holds_then IsFine IsFine (if nat_lt last_count b.sender.next then spent counts_spent else puts (data_output way u bearer b.sender.next x) on) (number_each way u bearer ps)
-      (holds_if IsFine (nat_lt last_count b.sender.next) (spent counts_spent) (puts (data_output way u bearer b.sender.next x) on) tt p)
+      holds_if IsConsistent (not (has_room u.plan.sn u.plan.quota b.sender)) (nothing b) _ p
+      (holds_then IsConsistent IsConsistent (if nat_lt last_count b.sender.next then spent counts_spent else puts (data_output way u bearer b.sender.next x) on) (number_each way u bearer ps)
+      (holds_if IsConsistent (nat_lt last_count b.sender.next) (spent counts_spent) (puts (data_output way u bearer b.sender.next x) on) tt p)
       (λ c q. number_each_fine u bearer ps c q))
 
-  number_waiting_fine : (u : UeNode) (bearer : BearerId) (b : UeBearer) → IsFine b → Fine (number_waiting way u bearer b)
+  number_waiting_fine : (u : UeNode) (bearer : BearerId) (b : UeBearer) → IsConsistent b → Fine (number_waiting way u bearer b)
   unfolding number_waiting
-  number_waiting_fine u bearer b p = holds_if IsFine (is_connected u.state) (number_each way u bearer b.waiting b) (nothing b) (number_each_fine u bearer b.waiting b p) p
+  number_waiting_fine u bearer b p = holds_if IsConsistent (is_connected u.state) (number_each way u bearer b.waiting b) (nothing b) (number_each_fine u bearer b.waiting b p) p
 
-  connect_bearer_fine : (u : UeNode) (bearer : BearerId) (b : UeBearer) → IsFine b → Fine (connect_bearer way u bearer b)
+  connect_bearer_fine : (u : UeNode) (bearer : BearerId) (b : UeBearer) → IsConsistent b → Fine (connect_bearer way u bearer b)
   unfolding connect_bearer
   connect_bearer_fine u bearer b p =
-      holds_then IsFine IsFine
+      holds_then IsConsistent IsConsistent
       (gives (on_air way u bearer Absent (way.write u.plan.sn (report_pdu b.receiver.deliv (received_bits b.receiver))) ∷ unconfirmed_outputs way u bearer b) b)
       (number_waiting way u bearer) p (λ c q. number_waiting_fine u bearer c q)
 
@@ -70,25 +70,25 @@ module _ {M C P : Type 0} (way : Way M C P) where
   abbrev Keeps : Answer M P UeNode → Type 0
   Keeps a = HoldsAfter UeReady a
 
-  connect_each_fine : (u : UeNode) (es : Bearers) → Each IsFine es → HoldsAfter (Each IsFine) (connect_each way u es)
+  connect_each_fine : (u : UeNode) (es : Bearers) → Each IsConsistent es → HoldsAfter (Each IsConsistent) (connect_each way u es)
   connect_each_fine u [] all = tt
   connect_each_fine u (e ∷ es) all =
-      holds_then IsFine (Each IsFine) (connect_bearer way u e.0 e.1) (λ b. connect_each way u es then (λ bearers. nothing ((e.0, b) ∷ bearers)))
+      holds_then IsConsistent (Each IsConsistent) (connect_bearer way u e.0 e.1) (λ b. connect_each way u es then (λ bearers. nothing ((e.0, b) ∷ bearers)))
       (connect_bearer_fine u e.0 e.1 all.0)
-      (λ b p. holds_then (Each IsFine) (Each IsFine) (connect_each way u es) (λ bearers. nothing ((e.0, b) ∷ bearers)) (connect_each_fine u es all.1) (λ bearers q. (p, q)))
+      (λ b p. holds_then (Each IsConsistent) (Each IsConsistent) (connect_each way u es) (λ bearers. nothing ((e.0, b) ∷ bearers)) (connect_each_fine u es all.1) (λ bearers q. (p, q)))
 
   connect_keeps : (u : UeNode) → UeReady u → Keeps (connect way u)
-  connect_keeps u p = holds_then (Each IsFine) UeReady (connect_each way u u.bearers) (λ bearers. nothing (with_bearers way u bearers)) (connect_each_fine u u.bearers p) (λ bearers q. q)
+  connect_keeps u p = holds_then (Each IsConsistent) UeReady (connect_each way u u.bearers) (λ bearers. nothing (with_bearers way u bearers)) (connect_each_fine u u.bearers p) (λ bearers q. q)
 
-  at_bearer_keeps : (u : UeNode) (bearer : BearerId) (row : UeBearer → Answer M P UeBearer) → UeReady u → ((b : UeBearer) → IsFine b → Fine (row b))
+  at_bearer_keeps : (u : UeNode) (bearer : BearerId) (row : UeBearer → Answer M P UeBearer) → UeReady u → ((b : UeBearer) → IsConsistent b → Fine (row b))
       → Keeps (at_bearer way u bearer row)
   at_bearer_keeps u bearer row p each = by (find bearer_cmp u.bearers bearer) refl
     where
       by : (o : Option UeBearer) → find bearer_cmp u.bearers bearer ≡ o → Keeps (of_bearer way u bearer row o)
       by None is = p
       by (Some b) is =
-          holds_then IsFine UeReady (row b) (λ c. nothing (with_bearer way u bearer c)) (each b (found_in IsFine u.bearers bearer b p is))
-          (λ c q. all_put IsFine u.bearers bearer c p q)
+          holds_then IsConsistent UeReady (row b) (λ c. nothing (with_bearer way u bearer c)) (each b (found_in IsConsistent u.bearers bearer b p is))
+          (λ c q. all_put IsConsistent u.bearers bearer c p q)
 
   -- ---- its state
 
@@ -137,11 +137,11 @@ module _ {M C P : Type 0} (way : Way M C P) where
       by (Some b) is =
           holds_if UeReady (nat_lt largest_packet (length x)) (puts (no Size) u) _ p
           (holds_if UeReady (nat_le u.plan.quota (used_uplink way b)) (puts (no Quota) u) _ p
-          (holds_then IsFine UeReady (number_waiting way u bearer (record b { waiting = b.waiting ++ x ∷ [] })) (λ c. nothing (with_bearer way u bearer c))
-          (number_waiting_fine u bearer (record b { waiting = b.waiting ++ x ∷ [] }) (found_in IsFine u.bearers bearer b p is))
-          (λ c q. all_put IsFine u.bearers bearer c p q)))
+          (holds_then IsConsistent UeReady (number_waiting way u bearer (record b { waiting = b.waiting ++ x ∷ [] })) (λ c. nothing (with_bearer way u bearer c))
+          (number_waiting_fine u bearer (record b { waiting = b.waiting ++ x ∷ [] }) (found_in IsConsistent u.bearers bearer b p is))
+          (λ c q. all_put IsConsistent u.bearers bearer c p q)))
 
-  took_fine : (u : UeNode) (bearer : BearerId) (content : Content) (b : UeBearer) → IsFine b → Fine (took way u bearer content b)
+  took_fine : (u : UeNode) (bearer : BearerId) (content : Content) (b : UeBearer) → IsConsistent b → Fine (took way u bearer content b)
   unfolding stored
   took_fine u bearer (packet_content None x) b p = p
   took_fine u bearer (packet_content (Some count) x) b p = by (is_duplicate b.receiver count) refl
@@ -154,11 +154,11 @@ module _ {M C P : Type 0} (way : Way M C P) where
           else handed way u bearer b (handed_up (stored b.receiver count x))))
       by true old = p
       by false new =
-          holds_if IsFine (is_ahead u.plan.quota b.receiver count) (puts (held Ahead) b) (handed way u bearer b (handed_up (stored b.receiver count x))) p
+          holds_if IsConsistent (is_ahead u.plan.quota b.receiver count) (puts (held Ahead) b) (handed way u bearer b (handed_up (stored b.receiver count x))) p
           (above_after (stored b.receiver count x) (put_ascends b.receiver.deliv b.receiver.stored count x from (above_or_duplicate b.receiver count new)))
   took_fine u bearer (report_content fmc bits) b p = number_waiting_fine u bearer (record b { sender = confirmed_by b.sender fmc bits }) p
 
-  confirmed_fine : (u : UeNode) (bearer : BearerId) (content : Content) (b : UeBearer) → IsFine b → Fine (confirmed way u bearer content b)
+  confirmed_fine : (u : UeNode) (bearer : BearerId) (content : Content) (b : UeBearer) → IsConsistent b → Fine (confirmed way u bearer content b)
   confirmed_fine u bearer (packet_content None x) b p = number_waiting_fine u bearer b p
   confirmed_fine u bearer (packet_content (Some count) x) b p = number_waiting_fine u bearer (record b { sender = confirmed_to b.sender count }) p
   confirmed_fine u bearer (report_content fmc bits) b p = p
@@ -187,4 +187,4 @@ module _ {M C P : Type 0} (way : Way M C P) where
   terminal_stores u input p = p
 
 pub new_ready : (u : UeNode) (i n : ℕ) → u.bearers ≡ new_bearers i n → UeReady u
-new_ready u i n is = subst (λ (es : Bearers). Each IsFine es) (sym is) (new_bearers_fine i n)
+new_ready u i n is = subst (λ (es : Bearers). Each IsConsistent es) (sym is) (new_bearers_fine i n)

@@ -17,21 +17,21 @@ use Rattle.gnb_types.proofs.OrderLemmas.{ue_total, ue_exact, bearer_total, beare
 use Rattle.tables.specs.Tables.{find, put, IsSorted}
 use Rattle.tables.proofs.TableLaws.{find-put}
 use Rattle.unit_defs.specs.Ways.{Way, Answer, gives, spent}
-use Rattle.unit_defs.specs.UpRecords.{Downlink, UpBearer, UpContext, CuUp, up_at}
-use Rattle.unit_defs.specs.UpBearers.{with_status, with_uplink}
+use Rattle.unit_defs.specs.CuUpRecords.{DownlinkTunnel, CuUpBearer, CuUpContext, CuUp, cu_up_scope}
+use Rattle.unit_defs.specs.CuUpBearers.{with_status, with_uplink}
 use Rattle.unit_defs.specs.CuUp.{UpStep, steps, stops, step_with, each_bearer, answer_with, status_each, uplinks_from, with_bearer}
 use Rattle.proof_unit_steps.specs.frames.Numbered.{Frame, frames_in, frames_by, NumbersFrom}
 use Rattle.proof_unit_steps.proofs.frames.Bearers.{status_stays, with_uplink_stays}
-use Rattle.proof_unit_steps.specs.tunnel_frames.OneTunnel.{OwnedTunnel, number_on, numbers_on, CountTo, NextIs, BearerCounts, UpCounts, NumbersTunnel}
+use Rattle.proof_unit_steps.specs.tunnel_frames.OneTunnel.{OwnedTunnel, number_on, numbers_on, CountTo, NextIs, BearerCounts, CuUpCounts, NumbersTunnel}
 use Rattle.proof_unit_steps.proofs.tunnel_frames.Counting.{count_then, not_both, Went, went}
 
 abbrev pub Bearers : Type 0
-Bearers = List (BearerId × UpBearer)
+Bearers = List (BearerId × CuUpBearer)
 
 -- ---- bearers in ascending order are apart, so each of them is found
 
 abbrev pub Others : BearerId → Bearers → Type 0
-Others b es = AllByRecursion (λ (f : BearerId × UpBearer). f.0 ≡ b → ⊥) es
+Others b es = AllByRecursion (λ (f : BearerId × CuUpBearer). f.0 ≡ b → ⊥) es
 
 abbrev pub Apart : Bearers → Type 0
 Apart [] = Unit {0}
@@ -55,7 +55,7 @@ sorted_apart [] sorted = tt
 sorted_apart (e ∷ es) sorted =
     (others_above e.0 es (sorted_head bearer_cmp e.0 (keys_of es) sorted), sorted_apart es (sorted_tail bearer_cmp e.0 (keys_of es) sorted))
 
-not_found : (b : BearerId) (es : Bearers) (x : UpBearer) → Others b es → find bearer_cmp es b ≡ Some x → ⊥
+not_found : (b : BearerId) (es : Bearers) (x : CuUpBearer) → Others b es → find bearer_cmp es b ≡ Some x → ⊥
 unfolding find
 not_found b [] x all e = absurd cc
 not_found b (f ∷ fs) x all e = by (not_found b fs x all.1) (is_at (bearer_cmp b) f.0) refl e
@@ -64,8 +64,8 @@ not_found b (f ∷ fs) x all e = by (not_found b fs x all.1) (is_at (bearer_cmp 
     by later true tie h = all.0 (sym (bearer_exact b f.0 ((Equal-is (bearer_cmp b f.0)).0 tie)))
     by later false apart h = later h
 
-pub each_found : (Q : BearerId → UpBearer → Type 0) (es : Bearers) → Apart es → ((b : BearerId) (x : UpBearer) → find bearer_cmp es b ≡ Some x → Q b x)
-    → AllByRecursion (λ (e : BearerId × UpBearer). Q e.0 e.1) es
+pub each_found : (Q : BearerId → CuUpBearer → Type 0) (es : Bearers) → Apart es → ((b : BearerId) (x : CuUpBearer) → find bearer_cmp es b ≡ Some x → Q b x)
+    → AllByRecursion (λ (e : BearerId × CuUpBearer). Q e.0 e.1) es
 unfolding find
 each_found Q [] apart each = tt
 each_found Q (e ∷ es) apart each = (
@@ -73,15 +73,15 @@ each_found Q (e ∷ es) apart each = (
   each_found Q es apart.1 (λ b x found. each b x (by b x found (is_at (bearer_cmp b) e.0) refl)),
 )
   where
-    by : (b : BearerId) (x : UpBearer) → find bearer_cmp es b ≡ Some x → (t : Bool) → is_at (bearer_cmp b) e.0 ≡ t
+    by : (b : BearerId) (x : CuUpBearer) → find bearer_cmp es b ≡ Some x → (t : Bool) → is_at (bearer_cmp b) e.0 ≡ t
         → cond (is_at (bearer_cmp b) e.0) (Some e.1) (lookup (is_at (bearer_cmp b)) es) ≡ Some x
     by b x found true tie =
         let same : b ≡ e.0 = bearer_exact b e.0 ((Equal-is (bearer_cmp b e.0)).0 tie) in
         absurd (not_found e.0 es x apart.0 (subst (λ (k : BearerId). find bearer_cmp es k ≡ Some x) same found))
     by b x found false off = ap (λ (t : Bool). cond t (Some e.1) (lookup (is_at (bearer_cmp b)) es)) off ∙ found
 
-pub found_all : (Q : BearerId → UpBearer → Type 0) (es : Bearers) → AllByRecursion (λ (e : BearerId × UpBearer). Q e.0 e.1) es
-    → (b : BearerId) (x : UpBearer) → find bearer_cmp es b ≡ Some x → Q b x
+pub found_all : (Q : BearerId → CuUpBearer → Type 0) (es : Bearers) → AllByRecursion (λ (e : BearerId × CuUpBearer). Q e.0 e.1) es
+    → (b : BearerId) (x : CuUpBearer) → find bearer_cmp es b ≡ Some x → Q b x
 unfolding find
 found_all Q [] all b x e = absurd cc
 found_all Q (f ∷ fs) all b x e = by (found_all Q fs all.1 b x) (is_at (bearer_cmp b) f.0) refl e
@@ -106,19 +106,19 @@ one_owner a b e = let same : a ≡ b = cc in same
 
 module _ (t : OwnedTunnel) where
   -- what counted so far counts on, where nothing was put meanwhile if this is the owner
-  pub counts_on : (k j : ℕ) (ue : UeId) (b : BearerId) (d : Option Downlink) → BearerCounts t k ue b d → (t.owner ≡ Some (ue, b) → j ≡ k) → BearerCounts t j ue b d
+  pub counts_on : (k j : ℕ) (ue : UeId) (b : BearerId) (d : Option DownlinkTunnel) → BearerCounts t k ue b d → (t.owner ≡ Some (ue, b) → j ≡ k) → BearerCounts t j ue b d
   counts_on k j ue b d is same l = let now = is l in (now.0, subst (λ (m : ℕ). NextIs m d) (sym (same now.0)) now.1)
 
   module _ {M C P : Type 0} (way : Way M C P) (ue : UeId) where
-    abbrev pub EachCounts : (BearerId → UpBearer → Option Downlink) → ℕ → Bearers → Type 0
-    EachCounts start k es = AllByRecursion (λ (e : BearerId × UpBearer). BearerCounts t k ue e.0 (start e.0 e.1)) es
+    abbrev pub EachCounts : (BearerId → CuUpBearer → Option DownlinkTunnel) → ℕ → Bearers → Type 0
+    EachCounts start k es = AllByRecursion (λ (e : BearerId × CuUpBearer). BearerCounts t k ue e.0 (start e.0 e.1)) es
 
-    abbrev pub stood : BearerId → UpBearer → Option Downlink
+    abbrev pub stood : BearerId → CuUpBearer → Option DownlinkTunnel
     stood b x = x.downlink
 
     -- the owner is none of these
     abbrev pub Elsewhere : Bearers → Type 0
-    Elsewhere es = AllByRecursion (λ (e : BearerId × UpBearer). t.owner ≡ Some (ue, e.0) → ⊥) es
+    Elsewhere es = AllByRecursion (λ (e : BearerId × CuUpBearer). t.owner ≡ Some (ue, e.0) → ⊥) es
 
     abbrev pub StepNumbers : ℕ → Bearers → UpStep way → Type 0
     StepNumbers k es (steps os bs) =
@@ -136,7 +136,7 @@ module _ (t : OwnedTunnel) where
     nowhere [] not = tt
     nowhere (e ∷ es) not = (not e.0, nowhere es not)
 
-    moved : (start : BearerId → UpBearer → Option Downlink) (k j : ℕ) (b : BearerId) (es : Bearers) → Others b es
+    moved : (start : BearerId → CuUpBearer → Option DownlinkTunnel) (k j : ℕ) (b : BearerId) (es : Bearers) → Others b es
         → ((t.owner ≡ Some (ue, b) → ⊥) → j ≡ k) → EachCounts start k es → EachCounts start j es
     moved start k j b [] others same all = tt
     moved start k j b (e ∷ es) others same all = (
@@ -144,7 +144,7 @@ module _ (t : OwnedTunnel) where
       moved start k j b es others.1 same all.1,
     )
 
-    step_numbers : (k : ℕ) (e : BearerId × UpBearer) (es : Bearers) (d : Option Downlink) (a : Answer M P UpBearer) (s : UpStep way)
+    step_numbers : (k : ℕ) (e : BearerId × CuUpBearer) (es : Bearers) (d : Option DownlinkTunnel) (a : Answer M P CuUpBearer) (s : UpStep way)
         → NumbersFrom d a → BearerCounts t k ue e.0 d → Others e.0 es
         → ((j : ℕ) → ((t.owner ≡ Some (ue, e.0) → ⊥) → j ≡ k) → StepNumbers j es s) → StepNumbers k (e ∷ es) (step_with way e.0 a s)
     step_numbers k e es d (spent c) s p is others rest = tt
@@ -173,20 +173,20 @@ module _ (t : OwnedTunnel) where
         )
         by (stops c) h = tt
 
-    pub each_numbers : (start : BearerId → UpBearer → Option Downlink) (order : BearerId → UpBearer → Answer M P UpBearer)
-        → ((b : BearerId) (x : UpBearer) → NumbersFrom (start b x) (order b x)) → (k : ℕ) (es : Bearers) → Apart es → EachCounts start k es
+    pub each_numbers : (start : BearerId → CuUpBearer → Option DownlinkTunnel) (order : BearerId → CuUpBearer → Answer M P CuUpBearer)
+        → ((b : BearerId) (x : CuUpBearer) → NumbersFrom (start b x) (order b x)) → (k : ℕ) (es : Bearers) → Apart es → EachCounts start k es
         → StepNumbers k es (each_bearer way order es)
     each_numbers start order each k [] apart all = (k, refl, tt, λ off. refl)
     each_numbers start order each k (e ∷ es) apart all =
         step_numbers k e es (start e.0 e.1) (order e.0 e.1) (each_bearer way order es) (each e.0 e.1) all.0 apart.0
         (λ j same. each_numbers start order each j es apart.1 (moved start k j e.0 es apart.0 same all.1))
 
-    pub statuses_number : (c : UpContext) (ss : List SnStatus) (k : ℕ) (es : Bearers) → Apart es → EachCounts stood k es
+    pub statuses_number : (c : CuUpContext) (ss : List SnStatus) (k : ℕ) (es : Bearers) → Apart es → EachCounts stood k es
         → StepNumbers k es (status_each way ue c ss es)
     statuses_number c [] k es apart all = (k, refl, all, λ off. refl)
     statuses_number c (s ∷ ss) k [] apart all = (k, refl, tt, λ off. refl)
     statuses_number c (s ∷ ss) k (e ∷ es) apart all =
-        step_numbers k e es e.1.downlink (with_status way (up_at ue c e.0) s e.1) (status_each way ue c ss es) (status_stays way (up_at ue c e.0) s e.1) all.0 apart.0
+        step_numbers k e es e.1.downlink (with_status way (cu_up_scope ue c e.0) s e.1) (status_each way ue c ss es) (status_stays way (cu_up_scope ue c e.0) s e.1) all.0 apart.0
         (λ j same. statuses_number c ss j es apart.1 (moved stood k j e.0 es apart.0 same all.1))
 
     pub uplinks_number : (next : ℕ) (k : ℕ) (es : Bearers) → Apart es → EachCounts stood k es → StepNumbers k es (uplinks_from way next es)
@@ -206,7 +206,7 @@ module _ (t : OwnedTunnel) where
         gone : ◌≡◌ {A = Option (UeId × BearerId)} None (Some (ue, c)) → ⊥
         gone e = absurd cc
 
-    pub answer_numbers : (k : ℕ) (r : CuUp M C) (d : UpContext) (es : Bearers) (s : UpStep way) → UpCounts t k r → StepNumbers k es s
+    pub answer_numbers : (k : ℕ) (r : CuUp M C) (d : CuUpContext) (es : Bearers) (s : UpStep way) → CuUpCounts t k r → StepNumbers k es s
         → NumbersTunnel t k (answer_with way r ue d s)
     answer_numbers k r d es (stops c) p h = tt
     answer_numbers k r d es (steps os bs) p h = (
@@ -216,18 +216,18 @@ module _ (t : OwnedTunnel) where
       λ none. h.3 (nowhere es (no_owner none)),
     )
       where
-        by : (u : UeId) (x : UpContext) (b : BearerId) (y : UpBearer) (tie : Bool) → eq_by_cmp ue_cmp u ue ≡ tie
+        by : (u : UeId) (x : CuUpContext) (b : BearerId) (y : CuUpBearer) (tie : Bool) → eq_by_cmp ue_cmp u ue ≡ tie
             → cond tie (Some (record d { bearers = bs })) (find ue_cmp r.contexts u) ≡ Some x → find bearer_cmp x.bearers b ≡ Some y
             → BearerCounts t h.0 u b y.downlink
         by u x b y true tie e found =
             let same : u ≡ ue = ue_exact u ue ((Equal-is (ue_cmp u ue)).0 tie) in
-            let those : ◌≡◌ {A = UpContext} (record d { bearers = bs }) x = cc in
+            let those : ◌≡◌ {A = CuUpContext} (record d { bearers = bs }) x = cc in
             subst (λ (v : UeId). BearerCounts t h.0 v b y.downlink) (sym same)
-            (found_all (λ c z. BearerCounts t h.0 ue c z.downlink) bs h.2 b y (subst (λ (z : UpContext). find bearer_cmp z.bearers b ≡ Some y) (sym those) found))
+            (found_all (λ c z. BearerCounts t h.0 ue c z.downlink) bs h.2 b y (subst (λ (z : CuUpContext). find bearer_cmp z.bearers b ≡ Some y) (sym those) found))
         by u x b y false off e found =
             counts_on k h.0 u b y.downlink (p.1 u x b y e found) (λ own. h.3 (nowhere es (other_owner u b (other_ue u ue off) own)))
 
-    pub bearer_numbers : (k : ℕ) (r : CuUp M C) (c : UpContext) (bearer : BearerId) (x : UpBearer) (a : Answer M P UpBearer) → UpCounts t k r
+    pub bearer_numbers : (k : ℕ) (r : CuUp M C) (c : CuUpContext) (bearer : BearerId) (x : CuUpBearer) (a : Answer M P CuUpBearer) → CuUpCounts t k r
         → find ue_cmp r.contexts ue ≡ Some c → find bearer_cmp c.bearers bearer ≡ Some x → NumbersFrom x.downlink a
         → NumbersTunnel t k (with_bearer way r ue c bearer a)
     bearer_numbers k r c bearer x (spent s) p at found numbers = tt
@@ -247,24 +247,24 @@ module _ (t : OwnedTunnel) where
         only : (t.owner ≡ Some (ue, bearer) → ⊥) → first.0 ≡ k
         only not = first.3 (λ l. not (stands l).0)
 
-        in_context : (y : BearerId) (w : UpBearer) (tie : Bool) → eq_by_cmp bearer_cmp y bearer ≡ tie
+        in_context : (y : BearerId) (w : CuUpBearer) (tie : Bool) → eq_by_cmp bearer_cmp y bearer ≡ tie
             → cond tie (Some b) (find bearer_cmp c.bearers y) ≡ Some w → BearerCounts t first.0 ue y w.downlink
         in_context y w true tie e =
             let same : y ≡ bearer = bearer_exact y bearer ((Equal-is (bearer_cmp y bearer)).0 tie) in
             let it : b ≡ w = cc in
             subst (λ (v : BearerId). BearerCounts t first.0 ue v w.downlink) (sym same)
-            (subst (λ (v : UpBearer). BearerCounts t first.0 ue bearer v.downlink) it (λ l. let now = first.2 l in ((stands now.1).0, now.0)))
+            (subst (λ (v : CuUpBearer). BearerCounts t first.0 ue bearer v.downlink) it (λ l. let now = first.2 l in ((stands now.1).0, now.0)))
         in_context y w false off e =
             counts_on k first.0 ue y w.downlink (p.1 ue c y w at e) (λ own. only (λ mine. other_bearer y bearer off (one_bearer bearer y mine own)))
 
-        by : (u : UeId) (z : UpContext) (y : BearerId) (w : UpBearer) (tie : Bool) → eq_by_cmp ue_cmp u ue ≡ tie
+        by : (u : UeId) (z : CuUpContext) (y : BearerId) (w : CuUpBearer) (tie : Bool) → eq_by_cmp ue_cmp u ue ≡ tie
             → cond tie (Some (record c { bearers = put bearer_cmp c.bearers bearer b })) (find ue_cmp r.contexts u) ≡ Some z → find bearer_cmp z.bearers y ≡ Some w
             → BearerCounts t first.0 u y w.downlink
         by u z y w true tie e there =
             let same : u ≡ ue = ue_exact u ue ((Equal-is (ue_cmp u ue)).0 tie) in
-            let those : ◌≡◌ {A = UpContext} (record c { bearers = put bearer_cmp c.bearers bearer b }) z = cc in
+            let those : ◌≡◌ {A = CuUpContext} (record c { bearers = put bearer_cmp c.bearers bearer b }) z = cc in
             subst (λ (v : UeId). BearerCounts t first.0 v y w.downlink) (sym same)
             (in_context y w (eq_by_cmp bearer_cmp y bearer) refl
-            (sym (find-put bearer_total c.bearers bearer b y) ∙ subst (λ (v : UpContext). find bearer_cmp v.bearers y ≡ Some w) (sym those) there))
+            (sym (find-put bearer_total c.bearers bearer b y) ∙ subst (λ (v : CuUpContext). find bearer_cmp v.bearers y ≡ Some w) (sym those) there))
         by u z y w false off e there =
             counts_on k first.0 u y w.downlink (p.1 u z y w e there) (λ own. only (λ mine. absurd (other_owner u y (other_ue u ue off) own bearer mine)))

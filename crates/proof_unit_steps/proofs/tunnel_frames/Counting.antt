@@ -3,7 +3,7 @@ use Rattle.std.proofs.Common.{◌≡◌, ℕ, zero, suc, ◌+◌, Bool, true, fa
 use Rattle.std.specs.Prelude.{if◌then◌else◌}
 use Rattle.gnb_types.specs.declared.names.NodeId.{NodeId}
 use Rattle.gnb_types.specs.declared.keys.TunnelEnd.{TunnelEnd}
-use Rattle.unit_defs.specs.UpRecords.{Downlink}
+use Rattle.unit_defs.specs.CuUpRecords.{DownlinkTunnel}
 use Rattle.proof_unit_steps.specs.frames.Numbered.{Frame, frames_from, GoOn}
 use Rattle.proof_unit_steps.specs.tunnel_frames.OneTunnel.{is_tunnel, numbers_on, CountTo, Leads, NextIs}
 
@@ -29,11 +29,11 @@ module _ (end : TunnelEnd) where
       (refl, subst (λ (m : ℕ). CountTo (number + 1) (numbers_on end (frames_from du teid (number + 1) n)) m) far (on_all du teid (number + 1) n on))
 
   -- the frames of a bearer whose downlink was this one, and is that one then
-  abbrev pub Went : ℕ → Option Downlink → List Frame → Option Downlink → Type 0
+  abbrev pub Went : ℕ → Option DownlinkTunnel → List Frame → Option DownlinkTunnel → Type 0
   Went count d frames after =
       (more : ℕ) × CountTo count (numbers_on end frames) more × (Leads end after → NextIs more after × Leads end d) × ((Leads end d → ⊥) → more ≡ count)
 
-  pub went : (count : ℕ) (d : Option Downlink) (frames : List Frame) (after : Option Downlink) → GoOn d frames after → (Leads end d → NextIs count d)
+  pub went : (count : ℕ) (d : Option DownlinkTunnel) (frames : List Frame) (after : Option DownlinkTunnel) → GoOn d frames after → (Leads end d → NextIs count d)
       → Went count d frames after
   went count None frames after p is = (
     count,

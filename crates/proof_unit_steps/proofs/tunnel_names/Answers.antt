@@ -24,12 +24,12 @@ use Rattle.unit_defs.specs.declared.AttemptKind.TheVariants as kinds
 use Rattle.unit_defs.specs.Ways.{Message, f1, e1, xn, core, Way}
 use Rattle.unit_defs.specs.Transactions.{kind_of}
 use Rattle.unit_defs.specs.Messages.{cause_name, are_bearers, statuses_of}
-use Rattle.unit_defs.specs.UpRecords.{TunnelKind, n3, f1u_uplink, forwarding_down, forwarding_up}
-use Rattle.unit_defs.specs.CpRecords.{Awaited, Attempt, CpContext, CpTerminal, same_node, bearers_in, Row, is_from, answered, is_instance, awaits_answer}
-use Rattle.unit_defs.specs.CpRows.{CpAt, own_du, name_bearers, is_between_dus, is_between_gnbs, attach_has_tunnels, attach_is_placed, attach_fails, move_has_uplinks, move_is_placed, handover_is_acknowledged, handover_is_declined, handover_is_frozen, handover_is_not_frozen, offer_has_tunnels, offer_is_declined, offer_is_placed, place_is_renewed}
+use Rattle.unit_defs.specs.CuUpRecords.{TunnelKind, n3, f1u_uplink, forwarding_down, forwarding_up}
+use Rattle.unit_defs.specs.CuCpRecords.{Awaited, Attempt, CuCpContext, CuCpTerminal, same_node, bearers_in, Row, is_from, answered, is_instance, awaits_answer}
+use Rattle.unit_defs.specs.CuCpRows.{CuCpScope, own_du, name_bearers, is_between_dus, is_between_gnbs, attach_has_tunnels, attach_is_placed, attach_fails, move_has_uplinks, move_is_placed, handover_is_acknowledged, handover_is_declined, handover_is_frozen, handover_is_not_frozen, offer_has_tunnels, offer_is_declined, offer_is_placed, place_is_renewed}
 use Rattle.unit_defs.specs.CuCp.{listed, caused, only_closes, in_attaching, in_moving, in_preparing, in_prepared, in_offered, in_switching, in_releasing, in_state, Answered, answers_none, answers_with, answer_of, answer_on, answer, is_complete, is_reestablish, is_epoch, is_own_command, may_return, is_too_early, is_ready, token_in_ready, token_of_return, token_of_attempt, token_by_attempt, token_on, token_row, token_ue, no_context_first}
 use Rattle.intervals.proofs.Intervals.{all_filter}
-use Rattle.proof_unit_steps.specs.tunnel_names.Names.{Property, IfAny, UpList, DuList, OwnUpList, OwnDuList, NamesFor}
+use Rattle.proof_unit_steps.specs.tunnel_names.Names.{Property, IfAny, CuUpList, DuList, OwnUpList, OwnDuList, NamesFor}
 use Rattle.proof_unit_steps.specs.tunnel_names.CuCps.{asked_du, AwaitedOf, is_at_goal, AttemptNames, ContextNames, TerminalNames}
 use Rattle.proof_unit_steps.proofs.tunnel_names.Rows.{dus_not_gnbs, asked_there, RowNames, row_if, attach_has_names, attach_placed_names, attach_fails_names, move_has_names, move_placed_names, acknowledged_names, declined_names, frozen_names, not_frozen_names, offer_has_names, offer_declined_names, offer_placed_names, renewed_names, switched_names, path_names, completes_names, completes_again_names, returns_names, arrives_names, arrives_again_names}
 
@@ -63,24 +63,24 @@ both true true h = (refl, refl)
 both true false h = absurd cc
 both false b h = absurd cc
 
-module _ {M C P : Type 0} {way : Way M C P} (is : Property way) (at : CpAt) where
+module _ {M C P : Type 0} {way : Way M C P} (is : Property way) (at : CuCpScope) where
   abbrev Fits : Row C → Type 0
   Fits what = RowNames is at.gnb at.ue what
 
   abbrev FitsIf : Option (Row C) → Type 0
   FitsIf o = IfAny Fits o
 
-  abbrev FitsOf : CpTerminal → Type 0
+  abbrev FitsOf : CuCpTerminal → Type 0
   FitsOf t = TerminalNames is at.gnb at.ue t.context
 
-  abbrev Good : CpContext → Attempt → Type 0
+  abbrev Good : CuCpContext → Attempt → Type 0
   Good c a = AttemptNames is at.gnb at.ue c a
 
   -- a response of an awaited node names tunnels of the attempt's CU-UP, or DU
   from_up : (up du : ℕ) (from : NodeId) (kind : TunnelKind) (ts : List Tunnel) → AwaitedOf at.gnb up du from → OwnUpList is.owners from kind at.ue ts
-      → UpList is.owners at.gnb up kind at.ue ts
+      → CuUpList is.owners at.gnb up kind at.ue ts
   from_up up du (CuUp gnb number) kind ts w p =
-      subst (λ (g : Gnb). UpList is.owners g up kind at.ue ts) w.0 (subst (λ (n : ℕ). UpList is.owners gnb n kind at.ue ts) w.1 p)
+      subst (λ (g : Gnb). CuUpList is.owners g up kind at.ue ts) w.0 (subst (λ (n : ℕ). CuUpList is.owners gnb n kind at.ue ts) w.1 p)
   from_up up du from kind ts w p = absurd p
 
   from_du : (up du : ℕ) (from : NodeId) (ts : List Tunnel) → AwaitedOf at.gnb up du from → OwnDuList is.owners from at.ue ts → DuList is.owners at.gnb du at.ue ts
@@ -98,8 +98,8 @@ module _ {M C P : Type 0} {way : Way M C P} (is : Property way) (at : CpAt) wher
 
   -- ---- an awaited answer
 
-  module _ (from : NodeId) (t : CpTerminal) (c : CpContext) (a : Attempt) (n : Good c a) (w : AwaitedOf at.gnb c.up (asked_du c a) from) where
-    ups : (kind : TunnelKind) (ts : List Tunnel) → OwnUpList is.owners from kind at.ue ts → UpList is.owners at.gnb c.up kind at.ue ts
+  module _ (from : NodeId) (t : CuCpTerminal) (c : CuCpContext) (a : Attempt) (n : Good c a) (w : AwaitedOf at.gnb c.up (asked_du c a) from) where
+    ups : (kind : TunnelKind) (ts : List Tunnel) → OwnUpList is.owners from kind at.ue ts → CuUpList is.owners at.gnb c.up kind at.ue ts
     ups kind ts p = from_up c.up (asked_du c a) from kind ts w p
 
     -- tunnels of the DU that is asked, where that is the attempt's
@@ -197,7 +197,7 @@ module _ {M C P : Type 0} {way : Way M C P} (is : Property way) (at : CpAt) wher
   AnsweredNames answers_none = Unit {0}
   AnsweredNames (answers_with o) = FitsIf o
 
-  answered_names : (from : NodeId) (c : CpContext) (a : Attempt) → Good c a → Good c (answered a from)
+  answered_names : (from : NodeId) (c : CuCpContext) (a : Attempt) → Good c a → Good c (answered a from)
   answered_names from c a n = record {
     paths = n.paths;
     downlinks = n.downlinks;
@@ -208,43 +208,43 @@ module _ {M C P : Type 0} {way : Way M C P} (is : Property way) (at : CpAt) wher
     sn = n.sn;
   }
 
-  pub answer_names : (from : NodeId) (instance : ℕ) (m : Message C) (t : CpTerminal) → NamesFor is.owners from at.ue m → FitsOf t
+  pub answer_names : (from : NodeId) (instance : ℕ) (m : Message C) (t : CuCpTerminal) → NamesFor is.owners from at.ue m → FitsOf t
       → AnsweredNames (answer way at from instance m t)
   unfolding answer
   answer_names from instance m t p h = by t.context h
     where
-      awaited : (c : CpContext) (a : Attempt) → Good c a → (b : Bool) → awaits_answer a from instance ≡ b
+      awaited : (c : CuCpContext) (a : Attempt) → Good c a → (b : Bool) → awaits_answer a from instance ≡ b
           → AnsweredNames (if b then answers_with (in_state way at m t c c.state (answered a from)) else answers_none)
       awaited c a n true e =
           state_names from t c (answered a from) (answered_names from c a n) (awaited_from at.gnb c.up (asked_du c a) from instance a.awaits n.awaits e) m p c.state
           n.at_goal
       awaited c a n false e = tt
 
-      of_attempt : (c : CpContext) (o : Option Attempt) → ContextNames is at.gnb at.ue c o → AnsweredNames (answer_of way at from instance m t c o)
+      of_attempt : (c : CuCpContext) (o : Option Attempt) → ContextNames is at.gnb at.ue c o → AnsweredNames (answer_of way at from instance m t c o)
       of_attempt c None n = tt
       of_attempt c (Some a) n = awaited c a n (awaits_answer a from instance) refl
 
-      by : (o : Option CpContext) → TerminalNames is at.gnb at.ue o → AnsweredNames (answer_on way at from instance m t o)
+      by : (o : Option CuCpContext) → TerminalNames is at.gnb at.ue o → AnsweredNames (answer_on way at from instance m t o)
       by None n = tt
       by (Some c) n = of_attempt c c.attempt n
 
   -- ---- a token
 
-  module _ (from : NodeId) (token : Token) (epoch : ℕ) (t : CpTerminal) (h : FitsOf t) where
-    ready_names : (c : CpContext) (a : Attempt) → Good c a → Fits (token_in_ready way at from token epoch t c a)
+  module _ (from : NodeId) (token : Token) (epoch : ℕ) (t : CuCpTerminal) (h : FitsOf t) where
+    ready_names : (c : CuCpContext) (a : Attempt) → Good c a → Fits (token_in_ready way at from token epoch t c a)
     ready_names c a n =
         row_if is at (not (is_ready way c.state && same_node from (own_du at c.du))) _ _ (λ e. (h, (tt, tt)))
         (λ e. let same : a.du ≡ c.du = n.at_goal (in_ready way c.state a.kind (both (is_ready way c.state) (same_node from (own_du at c.du)) e).0) in
         row_if is at (is_complete way token && a.epoch == epoch) _ _ (λ f. arrives_names is at epoch t c a n same)
         (λ f. row_if is at (is_reestablish way token && a.epoch + 1 == epoch) _ _ (λ g. arrives_again_names is at epoch t c a n same) (λ g. (h, (tt, tt)))))
 
-    return_names : (c : CpContext) (a : Attempt) → Good c a → Fits (token_of_return way at from token epoch t c a)
+    return_names : (c : CuCpContext) (a : Attempt) → Good c a → Fits (token_of_return way at from token epoch t c a)
     return_names c a n =
         row_if is at (is_reestablish way token && is_epoch way c.epoch 1 epoch && same_node from (own_du at c.du)) _ _
         (λ e. row_if is at (may_return way c.state a.kind) _ _ (λ f. returns_names is at epoch t c n.sn)
         (λ f. row_if is at (is_too_early way c.state a.kind) _ _ (λ g. (h, (tt, tt))) (λ g. ready_names c a n))) (λ e. ready_names c a n)
 
-    attempt_names : (c : CpContext) (a : Attempt) → Good c a → Fits (token_of_attempt way at from token epoch t c a)
+    attempt_names : (c : CuCpContext) (a : Attempt) → Good c a → Fits (token_of_attempt way at from token epoch t c a)
     attempt_names c a n =
         row_if is at (not (is_own_command way c.state a.kind && same_node from (own_du at a.du))) _ _ (λ e. return_names c a n)
         (λ e. let own : is_between_gnbs a.kind ≡ false =
@@ -253,24 +253,24 @@ module _ {M C P : Type 0} {way : Way M C P} (is : Property way) (at : CpAt) wher
         (λ f. row_if is at (is_reestablish way token && is_epoch way c.epoch 2 epoch) _ _ (λ g. completes_again_names is at epoch t c a n own)
         (λ g. return_names c a n)))
 
-    by_attempt_names : (c : CpContext) (o : Option Attempt) → ContextNames is at.gnb at.ue c o → Fits (token_by_attempt way at from token epoch t c o)
+    by_attempt_names : (c : CuCpContext) (o : Option Attempt) → ContextNames is at.gnb at.ue c o → Fits (token_by_attempt way at from token epoch t c o)
     by_attempt_names c None n =
         row_if is at (is_reestablish way token && is_epoch way c.epoch 1 epoch && same_node from (own_du at c.du)) _ _ (λ e. returns_names is at epoch t c n)
         (λ e. (h, (tt, tt)))
     by_attempt_names c (Some a) n = attempt_names c a n
 
-    on_names : (o : Option CpContext) → TerminalNames is at.gnb at.ue o → Fits (token_on way at from token epoch t o)
+    on_names : (o : Option CuCpContext) → TerminalNames is at.gnb at.ue o → Fits (token_on way at from token epoch t o)
     unfolding kind_of
     on_names None n = (h, (tt, tt))
     on_names (Some c) n =
         row_if is at (is_epoch way c.epoch 0 epoch && c.finished) _ _ (λ e. (h, (tt, tt))) (λ e. by_attempt_names c c.attempt n)
 
-  token_names : (from : NodeId) (t : CpTerminal) (token : Token) → FitsOf t → Fits (token_row way at from t token)
+  token_names : (from : NodeId) (t : CuCpTerminal) (token : Token) → FitsOf t → Fits (token_row way at from t token)
   token_names from t (tokens.Complete ue epoch) h = on_names from (tokens.Complete ue epoch) epoch t h t.context h
   token_names from t (tokens.Reestablish ue epoch) h = on_names from (tokens.Reestablish ue epoch) epoch t h t.context h
   token_names from t token h = (h, (tt, tt))
 
-  pub container_names : (from : NodeId) (t : CpTerminal) (c : Option CpContext) (token : Option Token) → FitsOf t → Fits (no_context_first way at from t c token)
+  pub container_names : (from : NodeId) (t : CuCpTerminal) (c : Option CuCpContext) (token : Option Token) → FitsOf t → Fits (no_context_first way at from t c token)
   container_names from t None token h = (h, (tt, tt))
   container_names from t (Some c) None h = (h, (tt, tt))
   container_names from t (Some c) (Some token) h =

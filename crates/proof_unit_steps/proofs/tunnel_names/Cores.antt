@@ -17,7 +17,7 @@ use Rattle.tables.proofs.TableLaws.{find-put}
 use Rattle.unit_defs.specs.Ways.{Message, core, Way}
 use Rattle.unit_defs.specs.Messages.{channel}
 use Rattle.unit_defs.specs.Transactions.{Kind, request, reply, transfer, kind_of, replied}
-use Rattle.unit_defs.specs.UpRecords.{n3}
+use Rattle.unit_defs.specs.CuUpRecords.{n3}
 use Rattle.unit_defs.specs.Core.{CorePath, CoreRecord, end_of, old_ends, new_path, moved, switch_path, asked, came, core_acts}
 use Rattle.proof_unit_steps.specs.tunnel_names.Names.{Property, Names, PeerList, OwnUpList, PutOn, OutputsName, AnswerNames, KeptNames}
 use Rattle.proof_unit_steps.specs.tunnel_names.CuCps.{PathNames, CoreNames}

@@ -25,11 +25,11 @@ use Rattle.unit_defs.specs.declared.StateName.TheVariants as states
 use Rattle.unit_defs.specs.Ways.{Message, f1, e1, xn, Input, control_input, packet_input, radio_input, confirm_input, offer_input, tick_input, order_input, Way, Answer, gives, spent, ◌then◌, nothing, drops}
 use Rattle.unit_defs.specs.Messages.{channel, shares_interface}
 use Rattle.unit_defs.specs.Transactions.{Kind, request, reply, transfer, kind_of, Waiting, Transactions, Asked, waits_at, with_waiting, ask, ask_at_once, advance, replied, replied_late}
-use Rattle.unit_defs.specs.CpRecords.{Awaited, Attempt, CpContext, CpTerminal, CuCpRecord, terminal_in, terminal_of, with_terminal, with_transactions, with_instance_of, is_from, awaiting, begun, on_attempt, on_context, with_attempt, waiting_of, after_begun, after_asked, noted, not_awaited, unawaited, forgotten, Say, asks, cancels, replies, replies_late, sends, fails, ignores, refuses, forgets, say_one, say_all, Row, row, row_spent, carry_out}
-use Rattle.unit_defs.specs.CuCp.{at_of, Answered, answers_none, answers_with, answer, is_up_release, without_release, is_setup_failure, after_failed_setup, put_next, closed_at, answered_by, reply_came, with_unit, set_up, asked, token_came, transferred, control_by, control_came, expired_on, due_one, due_each, command_by, command_on, command_each, ues_of, tick, ordered, cu_cp_acts}
+use Rattle.unit_defs.specs.CuCpRecords.{Awaited, Attempt, CuCpContext, CuCpTerminal, CuCpRecord, terminal_in, terminal_of, with_terminal, with_transactions, with_instance_of, is_from, awaiting, begun, on_attempt, on_context, with_attempt, waiting_of, after_begun, after_asked, noted, not_awaited, unawaited, forgotten, Action, asks, cancels, replies, replies_late, sends, fails, ignores, refuses, forgets, act_one, act_all, Row, row, row_spent, carry_out}
+use Rattle.unit_defs.specs.CuCp.{at_of, Answered, answers_none, answers_with, answer, is_cu_up_release, without_release, is_setup_failure, after_failed_setup, put_next, closed_at, answered_by, reply_received, with_unit, set_up, asked, token_received, transferred, control_by, control_received, expired_on, due_one, due_each, command_by, command_on, command_each, ues_of, tick, ordered, cu_cp_acts}
 use Rattle.intervals.proofs.Intervals.{all_append}
 use Rattle.proof_unit_steps.specs.tunnel_names.Names.{Property, Names, NamesFor, ue_of, OrderNames, InputNames, AnswerNames, KeptNames}
-use Rattle.proof_unit_steps.specs.tunnel_names.CuCps.{asked_du, AwaitedOf, ContextNames, TerminalNames, CpNames}
+use Rattle.proof_unit_steps.specs.tunnel_names.CuCps.{asked_du, AwaitedOf, ContextNames, TerminalNames, CuCpNames}
 use Rattle.proof_unit_steps.proofs.tunnel_names.Kept.{all_mapped, either, after, waits_name, with_waiting_names, closed_names, ask_names, advance_names, at_once_names, replied_names, late_names, on_request_names, on_reply_names, DueNames, due_names, ticked_names}
 use Rattle.proof_unit_steps.proofs.tunnel_names.Rows.{key_of, awaits_at, MayAwait, SayNames, SaysName, RowNames, attach_names, handover_names, cancel_names, release_names, expires_names, command_names, offer_names, status_names, xn_cancelled_names, xn_released_names}
 use Rattle.proof_unit_steps.proofs.tunnel_names.Answers.{AnsweredNames, answer_names, container_names}
@@ -40,57 +40,57 @@ module _ {M C P : Type 0} {way : Way M C P} (is : Property way) where
 
   -- ---- terminals
 
-  pub terminal_names : (gnb : Gnb) (r : Record) (ue : UeId) → CpNames is gnb r → TerminalNames is gnb ue (terminal_of r ue).context
+  pub terminal_names : (gnb : Gnb) (r : Record) (ue : UeId) → CuCpNames is gnb r → TerminalNames is gnb ue (terminal_of r ue).context
   terminal_names gnb r ue p = by (find ue_cmp r.terminals ue) refl
     where
-      by : (o : Option CpTerminal) → find ue_cmp r.terminals ue ≡ o → TerminalNames is gnb ue (terminal_in o).context
+      by : (o : Option CuCpTerminal) → find ue_cmp r.terminals ue ≡ o → TerminalNames is gnb ue (terminal_in o).context
       by None e = tt
       by (Some t) e = p.terminals ue t e
 
-  with_terminal_names : (gnb : Gnb) (r : Record) (ue : UeId) (t : CpTerminal) → CpNames is gnb r → TerminalNames is gnb ue t.context
-      → CpNames is gnb (with_terminal ue r t)
+  with_terminal_names : (gnb : Gnb) (r : Record) (ue : UeId) (t : CuCpTerminal) → CuCpNames is gnb r → TerminalNames is gnb ue t.context
+      → CuCpNames is gnb (with_terminal ue r t)
   with_terminal_names gnb r ue t p h = record {
     own = p.own;
     terminals = λ v x e. by v x (eq_by_cmp ue_cmp v ue) refl (sym (find-put ue_total r.terminals ue t v) ∙ e);
     kept = p.kept;
   }
     where
-      by : (v : UeId) (x : CpTerminal) (b : Bool) → eq_by_cmp ue_cmp v ue ≡ b → cond b (Some t) (find ue_cmp r.terminals v) ≡ Some x → TerminalNames is gnb v x.context
+      by : (v : UeId) (x : CuCpTerminal) (b : Bool) → eq_by_cmp ue_cmp v ue ≡ b → cond b (Some t) (find ue_cmp r.terminals v) ≡ Some x → TerminalNames is gnb v x.context
       by v x true tie e =
           let same : v ≡ ue = ue_exact v ue ((Equal-is (ue_cmp v ue)).0 tie) in
           let those : t ≡ x = cc in
-          subst (λ (w : UeId). TerminalNames is gnb w x.context) (sym same) (subst (λ (y : CpTerminal). TerminalNames is gnb ue y.context) those h)
+          subst (λ (w : UeId). TerminalNames is gnb w x.context) (sym same) (subst (λ (y : CuCpTerminal). TerminalNames is gnb ue y.context) those h)
       by v x false apart e = p.terminals v x e
 
   -- the terminal that was put is found
-  put_terminal : (r : Record) (ue : UeId) (t : CpTerminal) → terminal_of (with_terminal ue r t) ue ≡ t
+  put_terminal : (r : Record) (ue : UeId) (t : CuCpTerminal) → terminal_of (with_terminal ue r t) ue ≡ t
   put_terminal r ue t =
       let tie : eq_by_cmp ue_cmp ue ue ≡ true = (Equal-is (ue_cmp ue ue)).1 (tied_itself ue_total ue) in
       let there : find ue_cmp (put ue_cmp r.terminals ue t) ue ≡ Some t =
       find-put ue_total r.terminals ue t ue ∙ subst (λ (b : Bool). cond b (Some t) (find ue_cmp r.terminals ue) ≡ Some t) (sym tie) refl in
-      subst (λ (o : Option CpTerminal). terminal_in o ≡ t) (sym there) refl
+      subst (λ (o : Option CuCpTerminal). terminal_in o ≡ t) (sym there) refl
 
   -- ---- what is carried out of a row, with these that may be awaited
 
   abbrev Holds : Gnb → UeId → Option (ℕ × ℕ) → Record → Type 0
-  Holds gnb ue key r = CpNames is gnb r × (awaits_at (terminal_of r ue).context ≡ key)
+  Holds gnb ue key r = CuCpNames is gnb r × (awaits_at (terminal_of r ue).context ≡ key)
 
-  with_kept : (gnb : Gnb) (r : Record) (t : Transactions M C) → CpNames is gnb r → KeptNames is (CuCp gnb) t → CpNames is gnb (with_transactions r t)
+  with_kept : (gnb : Gnb) (r : Record) (t : Transactions M C) → CuCpNames is gnb r → KeptNames is (CuCp gnb) t → CuCpNames is gnb (with_transactions r t)
   with_kept gnb r t p k = record { own = p.own; terminals = p.terminals; kept = k }
 
   -- another attempt, which awaits whom it may
   abbrev KeepsAwaits : Gnb → (Attempt → Attempt) → Option (ℕ × ℕ) → Type 0
   KeepsAwaits gnb f key =
-      (ue : UeId) (c : Option CpContext) → awaits_at c ≡ key → TerminalNames is gnb ue c
+      (ue : UeId) (c : Option CuCpContext) → awaits_at c ≡ key → TerminalNames is gnb ue c
       → TerminalNames is gnb ue (on_context f c) × (awaits_at (on_context f c) ≡ key)
 
   with_attempt_names : (gnb : Gnb) (ue : UeId) (key : Option (ℕ × ℕ)) (f : Attempt → Attempt) (r : Record) → KeepsAwaits gnb f key → Holds gnb ue key r
       → Holds gnb ue key (with_attempt ue f r)
   with_attempt_names gnb ue key f r each p =
-      let t : CpTerminal = record (terminal_of r ue) { context = on_context f (terminal_of r ue).context } in
+      let t : CuCpTerminal = record (terminal_of r ue) { context = on_context f (terminal_of r ue).context } in
       let well = each ue (terminal_of r ue).context p.1 (terminal_names gnb r ue p.0) in (
         with_terminal_names gnb r ue t p.0 well.0,
-        subst (λ (x : CpTerminal). awaits_at x.context ≡ key) (sym (put_terminal r ue t)) well.1,
+        subst (λ (x : CuCpTerminal). awaits_at x.context ≡ key) (sym (put_terminal r ue t)) well.1,
       )
 
   awaiting_keeps : (gnb : Gnb) (key : Option (ℕ × ℕ)) (node : NodeId) → MayAwait gnb key node → KeepsAwaits gnb (λ a. awaiting a node) key
@@ -178,8 +178,8 @@ module _ {M C P : Type 0} {way : Way M C P} (is : Property way) where
         each [] q = tt
         each (e ∷ es) q = (one e q.0 _, each es q.1)
 
-    say_names : (ue : UeId) (key : Option (ℕ × ℕ)) (r : Record) (s : Say C) → SayNames is gnb key s → Holds gnb ue key r → Answers (Holds gnb ue key) (say_one way ue r s)
-    unfolding say_one
+    say_names : (ue : UeId) (key : Option (ℕ × ℕ)) (r : Record) (s : Action C) → SayNames is gnb key s → Holds gnb ue key r → Answers (Holds gnb ue key) (act_one way ue r s)
+    unfolding act_one
     say_names ue key r (asks to m deadline awaited) says p =
         after is (CuCp gnb) GoodAsked (Holds gnb ue key) (ask way r.transactions (channel ue.0 to) (waiting_of way m deadline awaited))
         (λ a. nothing (after_asked way ue to (noted way ue to awaited r) a))
@@ -202,50 +202,50 @@ module _ {M C P : Type 0} {way : Way M C P} (is : Property way) where
     say_names ue key r (refuses reason) says p = (p, (tt, tt))
     say_names ue key r forgets says p = ((with_kept gnb r (forgotten way ue r.transactions) p.0 (forgotten_names ue r.transactions p.0.kept), p.1), tt)
 
-    say_all_names : (ue : UeId) (key : Option (ℕ × ℕ)) (ss : List (Say C)) (r : Record) → SaysName is gnb key ss → Holds gnb ue key r
-        → Answers (Holds gnb ue key) (say_all way ue ss r)
-    unfolding say_all
+    say_all_names : (ue : UeId) (key : Option (ℕ × ℕ)) (ss : List (Action C)) (r : Record) → SaysName is gnb key ss → Holds gnb ue key r
+        → Answers (Holds gnb ue key) (act_all way ue ss r)
+    unfolding act_all
     say_all_names ue key [] r says p = (p, tt)
     say_all_names ue key (s ∷ ss) r says p =
-        after is (CuCp gnb) (Holds gnb ue key) (Holds gnb ue key) (say_one way ue r s) (say_all way ue ss) (say_names ue key r s says.0 p)
+        after is (CuCp gnb) (Holds gnb ue key) (Holds gnb ue key) (act_one way ue r s) (act_all way ue ss) (say_names ue key r s says.0 p)
         (λ q h. say_all_names ue key ss q says.1 h)
 
     abbrev Keeps : Answer M P Record → Type 0
-    Keeps a = Answers (CpNames is gnb) a
+    Keeps a = Answers (CuCpNames is gnb) a
 
     first_only : (ue : UeId) (key : Option (ℕ × ℕ)) (a : Answer M P Record) → Answers (Holds gnb ue key) a → Keeps a
     first_only ue key (gives os r) p = (p.0.0, p.1)
     first_only ue key (spent k) p = tt
 
-    carried_names : (ue : UeId) (r : Record) (what : Row C) → RowNames is gnb ue what → CpNames is gnb r → Keeps (carry_out way ue r what)
+    carried_names : (ue : UeId) (r : Record) (what : Row C) → RowNames is gnb ue what → CuCpNames is gnb r → Keeps (carry_out way ue r what)
     unfolding carry_out
     carried_names ue r (row says t) h p =
-        first_only ue (awaits_at t.context) (say_all way ue says (with_terminal ue r t))
+        first_only ue (awaits_at t.context) (act_all way ue says (with_terminal ue r t))
         (say_all_names ue (awaits_at t.context) says (with_terminal ue r t) h.1
-        (with_terminal_names gnb r ue t p h.0, subst (λ (x : CpTerminal). awaits_at x.context ≡ awaits_at t.context) (sym (put_terminal r ue t)) refl))
+        (with_terminal_names gnb r ue t p h.0, subst (λ (x : CuCpTerminal). awaits_at x.context ≡ awaits_at t.context) (sym (put_terminal r ue t)) refl))
     carried_names ue r (row_spent counter) h p = tt
 
     -- a row is made for the gNB of the record
-    row_names : (ue : UeId) (r s : Record) (what : Row C) → CpNames is gnb r → (CpNames is r.gnb r → RowNames is r.gnb ue what) → CpNames is gnb s
+    row_names : (ue : UeId) (r s : Record) (what : Row C) → CuCpNames is gnb r → (CuCpNames is r.gnb r → RowNames is r.gnb ue what) → CuCpNames is gnb s
         → Keeps (carry_out way ue s what)
     row_names ue r s what p each q =
-        carried_names ue s what (subst (λ (g : Gnb). RowNames is g ue what) p.own (each (subst (λ (g : Gnb). CpNames is g r) (sym p.own) p))) q
+        carried_names ue s what (subst (λ (g : Gnb). RowNames is g ue what) p.own (each (subst (λ (g : Gnb). CuCpNames is g r) (sym p.own) p))) q
 
     -- ---- replies
 
-    next_names : (ue : UeId) (ch : Channel) (r : Record) → CpNames is gnb r → Keeps (put_next way ue ch r)
+    next_names : (ue : UeId) (ch : Channel) (r : Record) → CuCpNames is gnb r → Keeps (put_next way ue ch r)
     next_names ue ch r p =
-        after is (CuCp gnb) GoodAsked (CpNames is gnb) (advance way r.transactions ch) (λ a. nothing (after_asked way ue ch.peer r a))
+        after is (CuCp gnb) GoodAsked (CuCpNames is gnb) (advance way r.transactions ch) (λ a. nothing (after_asked way ue ch.peer r a))
         (advance_names is (CuCp gnb) r.transactions ch p.kept)
         (λ a k. ((asked_after ue (awaits_at (terminal_of r ue).context) ch.peer r a (p, refl) k).0, tt))
 
-    closed_at_names : (ch : Channel) (r : Record) → CpNames is gnb r → CpNames is gnb (closed_at way ch r)
+    closed_at_names : (ch : Channel) (r : Record) → CuCpNames is gnb r → CuCpNames is gnb (closed_at way ch r)
     closed_at_names ch r p = with_kept gnb r (record r.transactions { caller = close r.transactions.caller ch }) p (closed_names is (CuCp gnb) r.transactions ch p.kept)
 
     without_release_names : (ws : List (Waiting C)) → AllByRecursion (λ (w : Waiting C). Names is.owners (CuCp gnb) w.message) ws
         → AllByRecursion (λ (w : Waiting C). Names is.owners (CuCp gnb) w.message) (without_release way ws)
     without_release_names [] all = tt
-    without_release_names (w ∷ ws) all = by (is_up_release way w.message)
+    without_release_names (w ∷ ws) all = by (is_cu_up_release way w.message)
       where
         by : (b : Bool) → AllByRecursion (λ (v : Waiting C). Names is.owners (CuCp gnb) v.message) (if b then ws else w ∷ ws)
         by true = all.1
@@ -258,34 +258,34 @@ module _ {M C P : Type 0} {way : Way M C P} (is : Property way) where
         by true = with_waiting_names is (CuCp gnb) t ch (without_release way (waits_at t ch)) p (without_release_names (waits_at t ch) (waits_name is (CuCp gnb) t ch p))
         by false = p
 
-    answered_by_names : (ue : UeId) (ch : Channel) (m : Message C) (r : Record) (a : Answered way) → CpNames is gnb r
-        → (CpNames is r.gnb r → AnsweredNames is (at_of r ue) a) → Keeps (answered_by way ue ch m r a)
+    answered_by_names : (ue : UeId) (ch : Channel) (m : Message C) (r : Record) (a : Answered way) → CuCpNames is gnb r
+        → (CuCpNames is r.gnb r → AnsweredNames is (at_of r ue) a) → Keeps (answered_by way ue ch m r a)
     answered_by_names ue ch m r answers_none p h =
         let c : Record = closed_at way ch r in
-        let q : CpNames is gnb c = closed_at_names ch r p in
+        let q : CuCpNames is gnb c = closed_at_names ch r p in
         next_names ue ch (with_transactions c (after_failed_setup way m ch c.transactions))
         (with_kept gnb c (after_failed_setup way m ch c.transactions) q (failed_names m ch c.transactions q.kept))
     answered_by_names ue ch m r (answers_with None) p h = (p, (tt, tt))
     answered_by_names ue ch m r (answers_with (Some what)) p h =
-        after is (CuCp gnb) (CpNames is gnb) (CpNames is gnb) (carry_out way ue (closed_at way ch r) what) (put_next way ue ch)
+        after is (CuCp gnb) (CuCpNames is gnb) (CuCpNames is gnb) (carry_out way ue (closed_at way ch r) what) (put_next way ue ch)
         (row_names ue r (closed_at way ch r) what p h (closed_at_names ch r p)) (λ q k. next_names ue ch q k)
 
-    reply_names : (ue : UeId) (ch : Channel) (instance : ℕ) (m : Message C) (r : Record) → NamesFor is.owners ch.peer ue m → CpNames is gnb r
-        → Keeps (reply_came way ue ch instance m r)
-    unfolding reply_came
+    reply_names : (ue : UeId) (ch : Channel) (instance : ℕ) (m : Message C) (r : Record) → NamesFor is.owners ch.peer ue m → CuCpNames is gnb r
+        → Keeps (reply_received way ue ch instance m r)
+    unfolding reply_received
     reply_names ue ch instance m r names p =
         answered_by_names ue ch m r (answer way (at_of r ue) ch.peer instance m (terminal_of r ue)) p
         (λ q. answer_names is (at_of r ue) ch.peer instance m (terminal_of r ue) names (terminal_names r.gnb r ue q))
 
     -- ---- requests and transfers
 
-    set_up_names : (from : NodeId) (m : Message C) (r : Record) → Names is.owners (CuCp gnb) m → CpNames is gnb r → Keeps (set_up way from m r)
+    set_up_names : (from : NodeId) (m : Message C) (r : Record) → Names is.owners (CuCp gnb) m → CuCpNames is gnb r → Keeps (set_up way from m r)
     set_up_names from m r names p =
-        after is (CuCp gnb) (KeptNames is (CuCp gnb)) (CpNames is gnb) (replied way r.transactions (channel 0 from) m)
+        after is (CuCp gnb) (KeptNames is (CuCp gnb)) (CuCpNames is gnb) (replied way r.transactions (channel 0 from) m)
         (λ t. nothing (with_transactions (with_unit way from r) t)) (replied_names is (CuCp gnb) r.transactions (channel 0 from) m p.kept names)
         (λ t k. (record { own = p.own; terminals = p.terminals; kept = k }, tt))
 
-    asked_names : (from : NodeId) (m : Message C) (r : Record) → Names is.owners from m → CpNames is gnb r → Keeps (asked way from m r)
+    asked_names : (from : NodeId) (m : Message C) (r : Record) → Names is.owners from m → CuCpNames is gnb r → Keeps (asked way from m r)
     unfolding kind_of
     asked_names from (f1 (f1s.F1SetupRequest instance name)) r names p = set_up_names from (f1 (f1s.F1SetupResponse instance)) r tt p
     asked_names from (e1 (e1s.E1SetupRequest instance name)) r names p = set_up_names from (e1 (e1s.E1SetupResponse instance)) r tt p
@@ -299,79 +299,79 @@ module _ {M C P : Type 0} {way : Way M C P} (is : Property way) where
         row_names ue r r _ p (λ q. xn_released_names is (at_of r ue) from instance (terminal_of r ue) (terminal_names r.gnb r ue q)) p
     asked_names from m r names p = (p, (tt, tt))
 
-    transferred_names : (from : NodeId) (m : Message C) (r : Record) → CpNames is gnb r → Keeps (transferred way from m r)
-    unfolding token_came
+    transferred_names : (from : NodeId) (m : Message C) (r : Record) → CuCpNames is gnb r → Keeps (transferred way from m r)
+    unfolding token_received
     transferred_names from (f1 (f1s.UlRrcMessageTransfer ue container)) r p =
         row_names ue r r _ p
         (λ q. container_names is (at_of r ue) from (terminal_of r ue) (terminal_of r ue).context (way.unwrap container) (terminal_names r.gnb r ue q)) p
     transferred_names from m r p = (p, (tt, tt))
 
-    by_kind_names : (from : NodeId) (m : Message C) (r : Record) (k : Kind) → NamesFor is.owners from (ue_of k) m → Names is.owners from m → CpNames is gnb r
+    by_kind_names : (from : NodeId) (m : Message C) (r : Record) (k : Kind) → NamesFor is.owners from (ue_of k) m → Names is.owners from m → CuCpNames is gnb r
         → Keeps (control_by way from m r k)
     by_kind_names from m r (request ue i) names own p =
-        on_request_names is (CuCp gnb) (CpNames is gnb) r r.transactions (channel ue from) i (λ t. asked way from m (with_transactions r t)) p p.kept
+        on_request_names is (CuCp gnb) (CuCpNames is gnb) r r.transactions (channel ue from) i (λ t. asked way from m (with_transactions r t)) p p.kept
         (λ t k. asked_names from m (with_transactions r t) own (with_kept gnb r t p k))
     by_kind_names from m r (reply ue i) names own p =
-        on_reply_names is (CuCp gnb) (CpNames is gnb) r r.transactions (channel ue from) i (reply_came way (record { 0 = ue }) (channel ue from) i m r) p
+        on_reply_names is (CuCp gnb) (CuCpNames is gnb) r r.transactions (channel ue from) i (reply_received way (record { 0 = ue }) (channel ue from) i m r) p
         (reply_names (record { 0 = ue }) (channel ue from) i m r names p)
     by_kind_names from m r (transfer ue) names own p = transferred_names from m r p
 
-    control_names : (from : NodeId) (m : Message C) (r : Record) → Names is.owners from m → CpNames is gnb r → Keeps (control_came way from m r)
-    unfolding control_came
+    control_names : (from : NodeId) (m : Message C) (r : Record) → Names is.owners from m → CuCpNames is gnb r → Keeps (control_received way from m r)
+    unfolding control_received
     control_names from m r names p =
-        either is (CuCp gnb) (CpNames is gnb) (shares_interface (CuCp r.gnb) from) (control_by way from m r (kind_of m)) (drops Unexpected r)
+        either is (CuCp gnb) (CuCpNames is gnb) (shares_interface (CuCp r.gnb) from) (control_by way from m r (kind_of m)) (drops Unexpected r)
         (by_kind_names from m r (kind_of m) names names p) (p, (tt, tt))
 
     -- ---- a tick
 
-    expired_names : (r : Record) (ue : UeId) → CpNames is r.gnb r → RowNames is r.gnb ue (expired_on way (at_of r ue) (terminal_of r ue) (terminal_of r ue).context)
+    expired_names : (r : Record) (ue : UeId) → CuCpNames is r.gnb r → RowNames is r.gnb ue (expired_on way (at_of r ue) (terminal_of r ue) (terminal_of r ue).context)
     expired_names r ue q = by (terminal_of r ue).context (terminal_names r.gnb r ue q)
       where
-        by : (o : Option CpContext) → TerminalNames is r.gnb ue o → RowNames is r.gnb ue (expired_on way (at_of r ue) (terminal_of r ue) o)
+        by : (o : Option CuCpContext) → TerminalNames is r.gnb ue o → RowNames is r.gnb ue (expired_on way (at_of r ue) (terminal_of r ue) o)
         by None n = (terminal_names r.gnb r ue q, tt)
         by (Some c) n = expires_names is (at_of r ue) (terminal_of r ue) c c.attempt n
 
-    due_one_names : (r : Record) (d : Due M) → DueNames is (CuCp gnb) d → CpNames is gnb r → Keeps (due_one way r d)
+    due_one_names : (r : Record) (d : Due M) → DueNames is (CuCp gnb) d → CuCpNames is gnb r → Keeps (due_one way r d)
     due_one_names r (repeats ch m) says p = (p, (says, tt))
     due_one_names r (expires ch) says p = row_names (record { 0 = ch.ue }) r r _ p (λ q. expired_names r (record { 0 = ch.ue }) q) p
 
-    due_each_names : (ds : List (Due M)) (r : Record) → AllByRecursion (DueNames is (CuCp gnb)) ds → CpNames is gnb r → Keeps (due_each way ds r)
+    due_each_names : (ds : List (Due M)) (r : Record) → AllByRecursion (DueNames is (CuCp gnb)) ds → CuCpNames is gnb r → Keeps (due_each way ds r)
     due_each_names [] r all p = (p, tt)
     due_each_names (d ∷ ds) r all p =
-        after is (CuCp gnb) (CpNames is gnb) (CpNames is gnb) (due_one way r d) (due_each way ds) (due_one_names r d all.0 p) (λ s q. due_each_names ds s all.1 q)
+        after is (CuCp gnb) (CuCpNames is gnb) (CuCpNames is gnb) (due_one way r d) (due_each way ds) (due_one_names r d all.0 p) (λ s q. due_each_names ds s all.1 q)
 
-    commanded_names : (r : Record) (ue : UeId) → CpNames is r.gnb r → RowNames is r.gnb ue (command_on way (at_of r ue) (terminal_of r ue) (terminal_of r ue).context)
+    commanded_names : (r : Record) (ue : UeId) → CuCpNames is r.gnb r → RowNames is r.gnb ue (command_on way (at_of r ue) (terminal_of r ue) (terminal_of r ue).context)
     commanded_names r ue q = by (terminal_of r ue).context (terminal_names r.gnb r ue q)
       where
-        in_state : (c : CpContext) (state : StateName) (o : Option Attempt) → ContextNames is r.gnb ue c o
+        in_state : (c : CuCpContext) (state : StateName) (o : Option Attempt) → ContextNames is r.gnb ue c o
             → RowNames is r.gnb ue (command_by way (at_of r ue) (terminal_of r ue) c state o)
         in_state c states.Frozen (Some a) n = command_names is (at_of r ue) (terminal_of r ue) c a n
         in_state c states.Commanded (Some a) n = command_names is (at_of r ue) (terminal_of r ue) c a n
         in_state c state o n = (terminal_names r.gnb r ue q, tt)
 
-        by : (o : Option CpContext) → TerminalNames is r.gnb ue o → RowNames is r.gnb ue (command_on way (at_of r ue) (terminal_of r ue) o)
+        by : (o : Option CuCpContext) → TerminalNames is r.gnb ue o → RowNames is r.gnb ue (command_on way (at_of r ue) (terminal_of r ue) o)
         by None n = (terminal_names r.gnb r ue q, tt)
         by (Some c) n = in_state c c.state c.attempt n
 
-    command_each_names : (ues : List UeId) (r : Record) → CpNames is gnb r → Keeps (command_each way ues r)
+    command_each_names : (ues : List UeId) (r : Record) → CuCpNames is gnb r → Keeps (command_each way ues r)
     command_each_names [] r p = (p, tt)
     command_each_names (ue ∷ ues) r p =
-        after is (CuCp gnb) (CpNames is gnb) (CpNames is gnb)
+        after is (CuCp gnb) (CuCpNames is gnb) (CuCpNames is gnb)
         (carry_out way ue r (command_on way (at_of r ue) (terminal_of r ue) (terminal_of r ue).context)) (command_each way ues)
         (row_names ue r r _ p (commanded_names r ue) p) (λ s q. command_each_names ues s q)
 
-    tick_names : (r : Record) → CpNames is gnb r → Keeps (tick way r)
+    tick_names : (r : Record) → CuCpNames is gnb r → Keeps (tick way r)
     unfolding tick
     tick_names r p =
         let on : Record = with_transactions r (record r.transactions { caller = after_tick r.transactions.caller }) in
-        after is (CuCp gnb) (CpNames is gnb) (CpNames is gnb) (due_each way (due r.transactions.caller) on) (λ s. command_each way (ues_of way s) s)
+        after is (CuCp gnb) (CuCpNames is gnb) (CuCpNames is gnb) (due_each way (due r.transactions.caller) on) (λ s. command_each way (ues_of way s) s)
         (due_each_names (due r.transactions.caller) on (due_names is (CuCp gnb) r.transactions.caller p.kept.opened)
         (with_kept gnb r (record r.transactions { caller = after_tick r.transactions.caller }) p (ticked_names is (CuCp gnb) r.transactions p.kept)))
         (λ s q. command_each_names (ues_of way s) s q)
 
     -- ---- the table
 
-    ordered_names : (order : Order) (r : Record) → OrderNames is.owners order → CpNames is gnb r → Keeps (ordered way order r)
+    ordered_names : (order : Order) (r : Record) → OrderNames is.owners order → CuCpNames is gnb r → Keeps (ordered way order r)
     ordered_names (orders.Attach plan) r names p =
         row_names plan.ue r r _ p (λ q. attach_names is (at_of r plan.ue) plan (terminal_of r plan.ue) names (terminal_names r.gnb r plan.ue q)) p
     ordered_names (orders.Handover plan) r names p =
@@ -380,7 +380,7 @@ module _ {M C P : Type 0} {way : Way M C P} (is : Property way) where
     ordered_names (orders.Release ue) r names p = row_names ue r r _ p (λ q. release_names is (at_of r ue) (terminal_of r ue) (terminal_names r.gnb r ue q)) p
     ordered_names order r names p = (p, (tt, tt))
 
-    pub cu_cp_names : (r : Record) (input : Input C P) → InputNames is input → CpNames is gnb r → Keeps (cu_cp_acts way r input)
+    pub cu_cp_names : (r : Record) (input : Input C P) → InputNames is input → CuCpNames is gnb r → Keeps (cu_cp_acts way r input)
     unfolding cu_cp_acts
     cu_cp_names r (control_input from m) names p = control_names from m r names p
     cu_cp_names r (packet_input teid item) names p = (p, (tt, tt))

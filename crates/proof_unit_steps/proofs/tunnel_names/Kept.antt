@@ -113,9 +113,9 @@ module _ {M C P : Type 0} {way : Way M C P} (is : Property way) (node : NodeId) 
   begun_names : (t : Transactions M C) (c : Channel) (w : Waiting C) (b : Begin M) → Good t → WaitNames w → BegunWell b
       → AnswerNames is GoodAsked node (begun_as way t c w b)
   begun_names t c w (begun instance after) p names all =
-      let says : is.says node (way.spell (with_instance instance w.message)) =
+      let says : is.says node (way.encode (with_instance instance w.message)) =
       is.spells node (with_instance instance w.message) (instance_names is.owners node instance w.message names) in
-      (record { opened = kept_request after c (way.spell (with_instance instance w.message)) all says; waiting = p.waiting; replies = p.replies }, (says, tt))
+      (record { opened = kept_request after c (way.encode (with_instance instance w.message)) all says; waiting = p.waiting; replies = p.replies }, (says, tt))
   begun_names t c w running p names all = (p, tt)
   begun_names t c w begins_no_more p names all = tt
 
@@ -181,18 +181,18 @@ module _ {M C P : Type 0} {way : Way M C P} (is : Property way) (node : NodeId) 
 
   pub replied_names : (t : Transactions M C) (c : Channel) (m : Message C) → Good t → Names is.owners node m → AnswerNames is Good node (replied way t c m)
   unfolding replied
-  replied_names t c m p names = let says : is.says node (way.spell m) = is.spells node m names in (kept_keeps t c (way.spell m) p says, (says, tt))
+  replied_names t c m p names = let says : is.says node (way.encode m) = is.spells node m names in (kept_keeps t c (way.encode m) p says, (says, tt))
 
   pub late_names : (t : Transactions M C) (c : Channel) (instance : ℕ) (m : Message C) → Good t → Names is.owners node m
       → AnswerNames is Good node (replied_late way t c instance m)
   unfolding replied_late keep_for
   late_names t c instance m p names = (by (is_newest (newest t.callee c) instance), (says, tt))
     where
-      says : is.says node (way.spell m)
+      says : is.says node (way.encode m)
       says = is.spells node m names
 
-      by : (b : Bool) → Good (record t { callee = if b then keep t.callee c (way.spell m) else t.callee })
-      by true = kept_keeps t c (way.spell m) p says
+      by : (b : Bool) → Good (record t { callee = if b then keep t.callee c (way.encode m) else t.callee })
+      by true = kept_keeps t c (way.encode m) p says
       by false = record { opened = p.opened; waiting = p.waiting; replies = p.replies }
 
   taken_keeps : (t : Transactions M C) (c : Channel) (instance : ℕ) → Good t → Good (record t { callee = taken t.callee c instance })

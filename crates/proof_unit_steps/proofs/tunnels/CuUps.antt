@@ -31,21 +31,21 @@ use Rattle.unit_defs.specs.Ways.{Message, e1, Taken, Output, no, closed, opened,
 use Rattle.unit_defs.specs.Messages.{cause_busy, cause_quota, mode_uplinks, mode_switch, mode_freeze, mode_status, mode_resume, channel, is_same_gnb, are_bearers, bearers_of, statuses_of, teid_of, tunnel_of}
 use Rattle.unit_defs.specs.Teids.{teids_are_left}
 use Rattle.unit_defs.specs.Transactions.{Kind, request, reply, transfer, kind_of, no_instance, Transactions, Asked, ask, advance, replied}
-use Rattle.unit_defs.specs.UpRecords.{TunnelKind, n3, f1u_uplink, forwarding_down, forwarding_up, UpBearer, UpContext, CuUp, UpTunnel, up_at}
-use Rattle.unit_defs.specs.UpBearers.{made, teids_of_bearer, teid_in, with_uplink, switched, frozen_to, with_status, resumed, released, is_over, open_teids, has_downlink, framed}
-use Rattle.unit_defs.specs.UpItems.{held_reason, took}
-use Rattle.unit_defs.specs.CuUp.{bearers_from, bearers_made, entries_of, with_context, context_of, with_transactions, up_node, UpStep, steps, stops, step_with, each_bearer, answer_with, ended, ended_if_over, end_where_over, replies, first_uplink, forward_list, new_context, opened_of, with_new, makes, fits, set_up_for, setup_response, setup_on, setup, modified, uplinks_from, teids_from, uplinks_given, add_uplinks, as_switched, switch, as_frozen, peer_node, statuses, freeze, as_known, status_each, take_status, as_resumed, resume, names, uplinks_if, switch_if, freeze_if, status_if, resume_if, modify_on, as_released, released_on, release, asked, start, set_up, control_by, ue_in, control_came, with_bearer, taken_by, taken_in, taken_of, taken_on, take, poll_bearer, poll_on, poll, due_output, tick, cu_up_acts}
+use Rattle.unit_defs.specs.CuUpRecords.{TunnelKind, n3, f1u_uplink, forwarding_down, forwarding_up, CuUpBearer, CuUpContext, CuUp, CuUpTunnel, cu_up_scope}
+use Rattle.unit_defs.specs.CuUpBearers.{made, teids_of_bearer, teid_in, with_uplink, switched, frozen_to, with_status, resumed, released, is_over, open_teids, has_downlink, framed}
+use Rattle.unit_defs.specs.CuUpItems.{held_reason, took}
+use Rattle.unit_defs.specs.CuUp.{bearers_from, bearers_made, entries_of, with_context, context_of, with_transactions, up_node, UpStep, steps, stops, step_with, each_bearer, answer_with, ended, ended_if_over, end_where_over, replies, first_uplink, forward_list, new_context, opened_of, with_new, makes, fits, set_up_for, setup_response, setup_on, setup, modified, uplinks_from, teids_from, uplinks_given, add_uplinks, as_switched, switch, as_frozen, peer_node, statuses, freeze, as_known, status_each, take_status, as_resumed, resume, names, uplinks_if, switch_if, freeze_if, status_if, resume_if, modify_on, as_released, released_on, release, asked, start, set_up, control_by, ue_in, control_received, with_bearer, taken_by, taken_in, taken_of, taken_on, take, poll_bearer, poll_on, poll, due_output, tick, cu_up_acts}
 use Rattle.intervals.proofs.Intervals.{all_append, all_filter}
 use Rattle.proof_unit_steps.proofs.packets.Answers.{all_map, all_flat}
 use Rattle.proof_unit_steps.proofs.packets.Keyed.{keyed_found, keyed_put}
-use Rattle.proof_unit_steps.specs.tunnel_names.Names.{Property, IfAny, UpList, OwnUpList, Names, SwitchNames, FreezeNames, InputNames, OutputNames, OutputsName, AnswerNames, KeptNames}
+use Rattle.proof_unit_steps.specs.tunnel_names.Names.{Property, IfAny, CuUpList, OwnUpList, Names, SwitchNames, FreezeNames, InputNames, OutputNames, OutputsName, AnswerNames, KeptNames}
 use Rattle.proof_unit_steps.proofs.tunnel_names.Kept.{either as either_way, after as after_one, closed_names, ask_names, advance_names, replied_names, on_request_with, on_reply_names, DueNames, due_names, ticked_names}
-use Rattle.proof_unit_steps.specs.tunnels.Units.{Each, BearerNames, BearerHolds, UpHolds, NoneIsFree, UpNames, AnswerIf}
+use Rattle.proof_unit_steps.specs.tunnels.Units.{Each, BearerNames, BearerHolds, CuUpHolds, NoneIsFree, CuUpNames, AnswerIf}
 use Rattle.proof_unit_steps.proofs.tunnels.Keyed.{put_found, always, if_then, either_if}
 use Rattle.proof_unit_steps.proofs.tunnels.UpBearers.{BearerAnswer, framed_fits, switched_fits, frozen_fits, status_fits, resumed_fits, item_fits}
 
 abbrev Bearers : Type 0
-Bearers = List (BearerId × UpBearer)
+Bearers = List (BearerId × CuUpBearer)
 
 same_gnb : (a b : Gnb) → is_same_gnb a b ≡ true → b ≡ a
 same_gnb A A h = refl
@@ -84,10 +84,10 @@ module _ {M C P : Type 0} {way : Way M C P} (is : Property way) (none : NoneIsFr
   Record = CuUp M C
 
   abbrev Good : Record → Type 0
-  Good r = UpNames is gnb number r
+  Good r = CuUpNames is gnb number r
 
   abbrev Holds : Record → Type 0
-  Holds r = UpHolds is.owners gnb number r
+  Holds r = CuUpHolds is.owners gnb number r
 
   abbrev Fits : Answer M P Record → Type 0
   Fits a = AnswerNames is Good (up_id gnb number) a
@@ -104,17 +104,17 @@ module _ {M C P : Type 0} {way : Way M C P} (is : Property way) (none : NoneIsFr
   abbrev Named : UeId → Bearers → Type 0
   Named ue bearers = Each (BearerNames is.owners ue) bearers
 
-  abbrev OfContext : UeId → UpContext → Type 0
+  abbrev OfContext : UeId → CuUpContext → Type 0
   OfContext ue c = Named ue c.bearers
 
-  abbrev Long : UeId → UpContext → Type 0
+  abbrev Long : UeId → CuUpContext → Type 0
   Long ue c = is.owners.length ue c.sn
 
   abbrev Held : UeId → Bearers → Type 0
   Held ue bearers = Each (BearerHolds is.owners gnb number ue) bearers
 
   abbrev Ups : TunnelKind → UeId → List Tunnel → Type 0
-  Ups kind ue tunnels = UpList is.owners gnb number kind ue tunnels
+  Ups kind ue tunnels = CuUpList is.owners gnb number kind ue tunnels
 
   either : (t : Bool) (x y : Answer M P Record) → Fits x → Fits y → Fits (if t then x else y)
   either t x y p q = either_way is (up_id gnb number) Good t x y p q
@@ -131,7 +131,7 @@ module _ {M C P : Type 0} {way : Way M C P} (is : Property way) (none : NoneIsFr
   with_kept : (r : Record) (t : Transactions M C) → Good r → Kept t → Good (with_transactions r t)
   with_kept r t p k = record { own = p.own; contexts = p.contexts; lengths = p.lengths; kept = k }
 
-  context_put : (r : Record) (ue : UeId) (c : UpContext) → Good r → Long ue c → Named ue c.bearers → Good (with_context ue r c)
+  context_put : (r : Record) (ue : UeId) (c : CuUpContext) → Good r → Long ue c → Named ue c.bearers → Good (with_context ue r c)
   context_put r ue c p long all = record {
     own = p.own;
     contexts = keyed_put ue_cmp ue_exact OfContext r.contexts ue c p.contexts all;
@@ -139,10 +139,10 @@ module _ {M C P : Type 0} {way : Way M C P} (is : Property way) (none : NoneIsFr
     kept = p.kept;
   }
 
-  found_context : (r : Record) (ue : UeId) (c : UpContext) → Good r → find ue_cmp r.contexts ue ≡ Some c → Named ue c.bearers
+  found_context : (r : Record) (ue : UeId) (c : CuUpContext) → Good r → find ue_cmp r.contexts ue ≡ Some c → Named ue c.bearers
   found_context r ue c p there = keyed_found ue_cmp ue_exact OfContext r.contexts ue c p.contexts there
 
-  found_length : (r : Record) (ue : UeId) (c : UpContext) → Good r → find ue_cmp r.contexts ue ≡ Some c → Long ue c
+  found_length : (r : Record) (ue : UeId) (c : CuUpContext) → Good r → find ue_cmp r.contexts ue ≡ Some c → Long ue c
   found_length r ue c p there = keyed_found ue_cmp ue_exact Long r.contexts ue c p.lengths there
 
   replies_name : (ch : Channel) (m : E1Message) (r : Record) → Names is.owners {C = C} (up_id gnb number) (e1 m) → Good r → Fits (replies way ch m r)
@@ -156,27 +156,27 @@ module _ {M C P : Type 0} {way : Way M C P} (is : Property way) (none : NoneIsFr
   StepNames ue (steps os bearers) = Named ue bearers × Put os
   StepNames ue (stops k) = Unit {0}
 
-  step_names : (ue : UeId) (bearer : BearerId) (a : Answer M P UpBearer) (s : UpStep way) → BearerAnswer is gnb number ue bearer a → StepNames ue s
+  step_names : (ue : UeId) (bearer : BearerId) (a : Answer M P CuUpBearer) (s : UpStep way) → BearerAnswer is gnb number ue bearer a → StepNames ue s
       → StepNames ue (step_with way bearer a s)
   step_names ue bearer (gives os c) (steps more bs) p q = ((p.0, q.0), all_append (OutputNames is (up_id gnb number)) os more p.1 q.1)
   step_names ue bearer (gives os c) (stops k) p q = tt
   step_names ue bearer (spent k) s p q = tt
 
-  each_names : (ue : UeId) (order : BearerId → UpBearer → Answer M P UpBearer)
-      → ((bearer : BearerId) (b : UpBearer) → BearerNames is.owners ue bearer b → BearerAnswer is gnb number ue bearer (order bearer b))
+  each_names : (ue : UeId) (order : BearerId → CuUpBearer → Answer M P CuUpBearer)
+      → ((bearer : BearerId) (b : CuUpBearer) → BearerNames is.owners ue bearer b → BearerAnswer is gnb number ue bearer (order bearer b))
       → (es : Bearers) → Named ue es → StepNames ue (each_bearer way order es)
   each_names ue order each [] all = (tt, tt)
   each_names ue order each (e ∷ es) all =
       step_names ue e.0 (order e.0 e.1) (each_bearer way order es) (each e.0 e.1 all.0) (each_names ue order each es all.1)
 
-  statuses_name : (ue : UeId) (c : UpContext) (ss : List SnStatus) (es : Bearers) → Long ue c → Named ue es → StepNames ue (status_each way ue c ss es)
+  statuses_name : (ue : UeId) (c : CuUpContext) (ss : List SnStatus) (es : Bearers) → Long ue c → Named ue es → StepNames ue (status_each way ue c ss es)
   statuses_name ue c [] es long all = (all, tt)
   statuses_name ue c (s ∷ ss) [] long all = (tt, tt)
   statuses_name ue c (s ∷ ss) (e ∷ es) long all =
-      step_names ue e.0 (with_status way (up_at ue c e.0) s e.1) (status_each way ue c ss es) (status_fits is gnb number (up_at ue c e.0) long s e.1 all.0)
+      step_names ue e.0 (with_status way (cu_up_scope ue c e.0) s e.1) (status_each way ue c ss es) (status_fits is gnb number (cu_up_scope ue c e.0) long s e.1 all.0)
       (statuses_name ue c ss es long all.1)
 
-  steps_name : (r : Record) (ch : Channel) (ue : UeId) (d : UpContext) (s : UpStep way) (m : E1Message) → Long ue d → Names is.owners {C = C} (up_id gnb number) (e1 m) → Good r
+  steps_name : (r : Record) (ch : Channel) (ue : UeId) (d : CuUpContext) (s : UpStep way) (m : E1Message) → Long ue d → Names is.owners {C = C} (up_id gnb number) (e1 m) → Good r
       → StepNames ue s → Fits (answer_with way r ue d s then replies way ch m)
   steps_name r ch ue d s m long named p h = after (answer_with way r ue d s) (replies way ch m) (by s h) (λ q k. replies_name ch m q named k)
     where
@@ -186,13 +186,13 @@ module _ {M C P : Type 0} {way : Way M C P} (is : Property way) (none : NoneIsFr
 
   -- ---- a context ends
 
-  ended_names : (r : Record) (ue : UeId) (c : UpContext) → Good r → Fits (ended way r ue c)
+  ended_names : (r : Record) (ue : UeId) (c : CuUpContext) → Good r → Fits (ended way r ue c)
   unfolding ended without
   ended_names r ue c p = (
     record {
       own = p.own;
-      contexts = all_filter (λ (e : UeId × UpContext). Named e.0 e.1.bearers) (λ e. not (is_at (ue_cmp ue) e.0)) r.contexts p.contexts;
-      lengths = all_filter (λ (e : UeId × UpContext). Long e.0 e.1) (λ e. not (is_at (ue_cmp ue) e.0)) r.contexts p.lengths;
+      contexts = all_filter (λ (e : UeId × CuUpContext). Named e.0 e.1.bearers) (λ e. not (is_at (ue_cmp ue) e.0)) r.contexts p.contexts;
+      lengths = all_filter (λ (e : UeId × CuUpContext). Long e.0 e.1) (λ e. not (is_at (ue_cmp ue) e.0)) r.contexts p.lengths;
       kept = p.kept;
     },
     all_flat (OutputNames is (up_id gnb number)) (λ e. map (λ teid. closed teid) (open_teids e.1))
@@ -203,7 +203,7 @@ module _ {M C P : Type 0} {way : Way M C P} (is : Property way) (none : NoneIsFr
   unfolding end_where_over
   over_names ue r p = by (context_of r ue)
     where
-      by : (o : Option UpContext) → Fits (ended_if_over way ue r o)
+      by : (o : Option CuUpContext) → Fits (ended_if_over way ue r o)
       by None = (p, tt)
       by (Some c) = either (c.flags.released && list_all (λ e. is_over c.flags e.1) c.bearers) (ended way r ue c) (nothing r) (ended_names r ue c p) (p, tt)
 
@@ -211,7 +211,7 @@ module _ {M C P : Type 0} {way : Way M C P} (is : Property way) (none : NoneIsFr
   released_name ue [] all = tt
   released_name ue (e ∷ es) all = (all.0, released_name ue es all.1)
 
-  released_fits : (ue : UeId) (is_final : Bool) (r : Record) (o : Option UpContext) → find ue_cmp r.contexts ue ≡ o → Good r → Fits (released_on way ue is_final r o)
+  released_fits : (ue : UeId) (is_final : Bool) (r : Record) (o : Option CuUpContext) → find ue_cmp r.contexts ue ≡ o → Good r → Fits (released_on way ue is_final r o)
   released_fits ue is_final r None there p = (p, tt)
   released_fits ue true r (Some c) there p = ended_names r ue c p
   released_fits ue false r (Some c) there p =
@@ -240,7 +240,7 @@ module _ {M C P : Type 0} {way : Way M C P} (is : Property way) (none : NoneIsFr
       → Fits (makes way ue sn quota target count r)
   unfolding makes
   makes_names ue sn quota target count r long p =
-      let c : UpContext = new_context way r sn quota target count in
+      let c : CuUpContext = new_context way r sn quota target count in
       either (teids_are_left r.next_teid (count * teids_of_bearer target)) (with_new way ue r (count * teids_of_bearer target) c) (spent teids_spent) (
         record {
           own = p.own;
@@ -251,8 +251,8 @@ module _ {M C P : Type 0} {way : Way M C P} (is : Property way) (none : NoneIsFr
         opened_put c.bearers,
       ) tt
 
-  lists : (kind : TunnelKind) (ue : UeId) (f : BearerId × UpBearer → List Tunnel)
-      → ((e : BearerId × UpBearer) → BearerHolds is.owners gnb number ue e.0 e.1 → Ups kind ue (f e)) → (es : Bearers) → Held ue es → Ups kind ue (flat_map f es)
+  lists : (kind : TunnelKind) (ue : UeId) (f : BearerId × CuUpBearer → List Tunnel)
+      → ((e : BearerId × CuUpBearer) → BearerHolds is.owners gnb number ue e.0 e.1 → Ups kind ue (f e)) → (es : Bearers) → Held ue es → Ups kind ue (flat_map f es)
   lists kind ue f each [] all = tt
   lists kind ue f each (e ∷ es) all =
       all_append (λ (t : Tunnel). is.owners.up gnb number kind ue t.bearer t.teid) (f e) (flat_map f es) (each e all.0) (lists kind ue f each es all.1)
@@ -282,14 +282,14 @@ module _ {M C P : Type 0} {way : Way M C P} (is : Property way) (none : NoneIsFr
   unfolding replied
   reply_if ch m s named p = λ h. replies_name ch m s (named h) p
 
-  set_up_names_for : (ch : Channel) (ue : UeId) (instance : ℕ) (forward : Bool) (s : Record) (o : Option UpContext) → find ue_cmp s.contexts ue ≡ o → Good s
+  set_up_names_for : (ch : Channel) (ue : UeId) (instance : ℕ) (forward : Bool) (s : Record) (o : Option CuUpContext) → find ue_cmp s.contexts ue ≡ o → Good s
       → FitsIf (set_up_for way ch ue instance forward s o)
   set_up_names_for ch ue instance forward s None there p = λ h. (p, tt)
   set_up_names_for ch ue instance forward s (Some c) there p =
       reply_if ch (setup_response way ue instance forward c.bearers) s (λ h. response_names ue instance forward c.bearers (h ue c there)) p
 
   setup_names : (ch : Channel) (ue : UeId) (instance count : ℕ) (sn : SnBits) (quota : ℕ) (forward : Bool) (r : Record) → is.owners.length ue sn → Good r
-      → (o : Option UpContext) → FitsIf (setup_on way ch ue instance count sn quota forward r o)
+      → (o : Option CuUpContext) → FitsIf (setup_on way ch ue instance count sn quota forward r o)
   unfolding kind_of
   setup_names ch ue instance count sn quota forward r long p (Some c) =
       simply (replies way ch (e1s.BearerContextSetupFailure ue instance cause_busy) r) (replies_name ch (e1s.BearerContextSetupFailure ue instance cause_busy) r tt p)
@@ -313,7 +313,7 @@ module _ {M C P : Type 0} {way : Way M C P} (is : Property way) (none : NoneIsFr
   StepTells ue next es (steps os bearers) = Held ue bearers → Ups f1u_uplink ue (teids_from way next es)
   StepTells ue next es (stops k) = Unit {0}
 
-  one_tells : (ue : UeId) (next : ℕ) (e : BearerId × UpBearer) (es : Bearers) (s : UpStep way) → StepTells ue (next + 1) es s
+  one_tells : (ue : UeId) (next : ℕ) (e : BearerId × CuUpBearer) (es : Bearers) (s : UpStep way) → StepTells ue (next + 1) es s
       → StepTells ue next (e ∷ es) (step_with way e.0 (with_uplink way next e.1) s)
   unfolding with_uplink
   one_tells ue next e es (steps os bearers) q = λ h. (all_last (is.owners.up gnb number f1u_uplink ue e.0) e.1.uplinks next h.0.uplinks, q h.1)
@@ -327,7 +327,7 @@ module _ {M C P : Type 0} {way : Way M C P} (is : Property way) (none : NoneIsFr
     abbrev Added : List Tunnel → Record → Type 0
     Added tunnels s = Good s × (Holds s → Ups f1u_uplink ue tunnels)
 
-    added : (c : UpContext) (tunnels : List Tunnel) (s : UpStep way) → Long ue c → StepNames ue s
+    added : (c : CuUpContext) (tunnels : List Tunnel) (s : UpStep way) → Long ue c → StepNames ue s
         → StepTells ue r.next_teid c.bearers s → tunnels ≡ teids_from way r.next_teid c.bearers
         → AnswerNames is (Added tunnels) (up_id gnb number) (answer_with way (uplinks_given way ue r c tunnels) ue c s)
     added c tunnels (steps os bearers) long q tells same = (
@@ -345,7 +345,7 @@ module _ {M C P : Type 0} {way : Way M C P} (is : Property way) (none : NoneIsFr
     )
     added c tunnels (stops k) long q tells same = tt
 
-    add_names : (c : UpContext) → Long ue c → Named ue c.bearers → FitsIf (add_uplinks way ch ue instance c r)
+    add_names : (c : CuUpContext) → Long ue c → Named ue c.bearers → FitsIf (add_uplinks way ch ue instance c r)
     unfolding add_uplinks kind_of
     add_names c long all =
         let tunnels : List Tunnel = teids_from way r.next_teid c.bearers in
@@ -355,20 +355,20 @@ module _ {M C P : Type 0} {way : Way M C P} (is : Property way) (none : NoneIsFr
         (added c tunnels (uplinks_from way r.next_teid c.bearers) long (uplinks_name ue r.next_teid c.bearers all) (uplinks_tell ue r.next_teid c.bearers) refl)
         (λ s q. reply_if ch (modified way ue instance (Some tunnels) None) s q.1 q.0))
 
-    switch_names : (du : Option ℕ) (list : Option (List Tunnel)) (c : UpContext) → SwitchNames is.owners (CuCp r.gnb) ue list du → Long ue c → Named ue c.bearers
+    switch_names : (du : Option ℕ) (list : Option (List Tunnel)) (c : CuUpContext) → SwitchNames is.owners (CuCp r.gnb) ue list du → Long ue c → Named ue c.bearers
         → Fits (switch_if way ch ue instance du list c r)
     unfolding switch kind_of
     switch_names (Some d) (Some list) c named long all =
         either (c.flags.released || not (are_bearers (names way c) (bearers_of list))) (drops Unexpected r) _ (p, (tt, tt))
-        (steps_name r ch ue (as_switched way c) (each_bearer way (λ b. switched way (up_at ue (as_switched way c) b) (du_id r.gnb d) (teid_of list b)) c.bearers)
+        (steps_name r ch ue (as_switched way c) (each_bearer way (λ b. switched way (cu_up_scope ue (as_switched way c) b) (du_id r.gnb d) (teid_of list b)) c.bearers)
         (modified way ue instance None None) long tt p
-        (each_names ue (λ b. switched way (up_at ue (as_switched way c) b) (du_id r.gnb d) (teid_of list b))
-        (λ b x h. switched_fits is gnb number (up_at ue (as_switched way c) b) long (du_id r.gnb d) (teid_of list b) x
+        (each_names ue (λ b. switched way (cu_up_scope ue (as_switched way c) b) (du_id r.gnb d) (teid_of list b))
+        (λ b x h. switched_fits is gnb number (cu_up_scope ue (as_switched way c) b) long (du_id r.gnb d) (teid_of list b) x
         (named_teid (is.owners.du r.gnb d ue) list b named (none.du r.gnb d ue b)) h) c.bearers all))
     switch_names (Some d) None c named long all = (p, (tt, tt))
     switch_names None list c named long all = (p, (tt, tt))
 
-    freeze_names : (peer : Option Peer) (a b : Option (List Tunnel)) (c : UpContext) → FreezeNames is.owners ue peer a b → Long ue c → Named ue c.bearers
+    freeze_names : (peer : Option Peer) (a b : Option (List Tunnel)) (c : CuUpContext) → FreezeNames is.owners ue peer a b → Long ue c → Named ue c.bearers
         → Fits (freeze_if way ch ue instance peer a b c r)
     unfolding freeze kind_of
     freeze_names (Some peer) (Some a) (Some b) c named long all =
@@ -377,17 +377,17 @@ module _ {M C P : Type 0} {way : Way M C P} (is : Property way) (none : NoneIsFr
         (either (not c.flags.may_serve) (replies way ch (e1s.BearerContextModificationFailure ue instance cause_busy) r) _
         (replies_name ch (e1s.BearerContextModificationFailure ue instance cause_busy) r tt p)
         (steps_name r ch ue (as_frozen way c)
-        (each_bearer way (λ x. frozen_to way (up_at ue (as_frozen way c) x) (peer_node way peer) (teid_of a x) (teid_of b x)) c.bearers)
+        (each_bearer way (λ x. frozen_to way (cu_up_scope ue (as_frozen way c) x) (peer_node way peer) (teid_of a x) (teid_of b x)) c.bearers)
         (modified way ue instance None (Some (statuses way c))) long tt p
-        (each_names ue (λ x. frozen_to way (up_at ue (as_frozen way c) x) (peer_node way peer) (teid_of a x) (teid_of b x))
-        (λ x y h. frozen_fits is gnb number (up_at ue (as_frozen way c) x) long (peer_node way peer) (teid_of a x) (teid_of b x) y
+        (each_names ue (λ x. frozen_to way (cu_up_scope ue (as_frozen way c) x) (peer_node way peer) (teid_of a x) (teid_of b x))
+        (λ x y h. frozen_fits is gnb number (cu_up_scope ue (as_frozen way c) x) long (peer_node way peer) (teid_of a x) (teid_of b x) y
         (named_teid (is.owners.up peer.gnb peer.up forwarding_down ue) a x named.0 (none.up peer.gnb peer.up forwarding_down ue x))
         (named_teid (is.owners.up peer.gnb peer.up forwarding_up ue) b x named.1 (none.up peer.gnb peer.up forwarding_up ue x)) h) c.bearers all)))
     freeze_names (Some peer) (Some a) None c named long all = (p, (tt, tt))
     freeze_names (Some peer) None b c named long all = (p, (tt, tt))
     freeze_names None a b c named long all = (p, (tt, tt))
 
-    known_names : (list : Option (List SnStatus)) (c : UpContext) → Long ue c → Named ue c.bearers → Fits (status_if way ch ue instance list c r)
+    known_names : (list : Option (List SnStatus)) (c : CuUpContext) → Long ue c → Named ue c.bearers → Fits (status_if way ch ue instance list c r)
     unfolding take_status kind_of
     known_names (Some list) c long all =
         either (c.flags.may_serve || not (are_bearers (names way c) (statuses_of list))) (drops Unexpected r) _ (p, (tt, tt))
@@ -395,16 +395,16 @@ module _ {M C P : Type 0} {way : Way M C P} (is : Property way) (none : NoneIsFr
         (statuses_name ue (as_known way c) list c.bearers long all))
     known_names None c long all = (p, (tt, tt))
 
-    resume_names : (c : UpContext) → Long ue c → Named ue c.bearers → Fits (resume_if way ch ue instance c r)
+    resume_names : (c : CuUpContext) → Long ue c → Named ue c.bearers → Fits (resume_if way ch ue instance c r)
     unfolding resume kind_of
     resume_names c long all =
         either (c.flags.frozen && not c.flags.released) _ (drops Unexpected r)
-        (steps_name r ch ue (as_resumed way c) (each_bearer way (λ b. resumed way (up_at ue (as_resumed way c) b)) c.bearers) (modified way ue instance None None) long tt p
-        (each_names ue (λ b. resumed way (up_at ue (as_resumed way c) b)) (λ b x h. resumed_fits is gnb number (up_at ue (as_resumed way c) b) long x h) c.bearers all))
+        (steps_name r ch ue (as_resumed way c) (each_bearer way (λ b. resumed way (cu_up_scope ue (as_resumed way c) b)) c.bearers) (modified way ue instance None None) long tt p
+        (each_names ue (λ b. resumed way (cu_up_scope ue (as_resumed way c) b)) (λ b x h. resumed_fits is gnb number (cu_up_scope ue (as_resumed way c) b) long x h) c.bearers all))
         (p, (tt, tt))
 
     modify_names : (downlinks : Option (List Tunnel)) (mode : ℕ) (peer : Option Peer) (down up : Option (List Tunnel)) (ss : Option (List SnStatus)) (du : Option ℕ)
-        → SwitchNames is.owners (CuCp r.gnb) ue downlinks du → FreezeNames is.owners ue peer down up → (o : Option UpContext) → find ue_cmp r.contexts ue ≡ o
+        → SwitchNames is.owners (CuCp r.gnb) ue downlinks du → FreezeNames is.owners ue peer down up → (o : Option CuUpContext) → find ue_cmp r.contexts ue ≡ o
         → FitsIf (modify_on way ch (e1s.BearerContextModificationRequest ue instance downlinks mode peer down up ss du) r o)
     modify_names downlinks mode peer down up ss du a b None there = λ h. (p, (tt, tt))
     modify_names downlinks mode peer down up ss du a b (Some c) there =
@@ -450,8 +450,8 @@ module _ {M C P : Type 0} {way : Way M C P} (is : Property way) (none : NoneIsFr
       simply (control_by way ch m r (reply ue i)) (on_reply_names is (up_id gnb number) Good r r.transactions ch i (set_up way ch r) p (is_set_up_names ch r p))
   control_by_names ch m r (transfer ue) named p = λ h. (p, (tt, tt))
 
-  control_names : (from : NodeId) (m : Message C) (r : Record) → Names is.owners from m → Good r → FitsIf (control_came way from m r)
-  unfolding control_came
+  control_names : (from : NodeId) (m : Message C) (r : Record) → Names is.owners from m → Good r → FitsIf (control_received way from m r)
+  unfolding control_received
   control_names (CuCp g) m r named p = by (is_same_gnb r.gnb g) refl
     where
       by : (b : Bool) → is_same_gnb r.gnb g ≡ b
@@ -467,7 +467,7 @@ module _ {M C P : Type 0} {way : Way M C P} (is : Property way) (none : NoneIsFr
 
   -- ---- items, polls, ticks
 
-  bearer_names : (r : Record) (ue : UeId) (c : UpContext) (bearer : BearerId) (a : Answer M P UpBearer) → Good r → Long ue c → Named ue c.bearers
+  bearer_names : (r : Record) (ue : UeId) (c : CuUpContext) (bearer : BearerId) (a : Answer M P CuUpBearer) → Good r → Long ue c → Named ue c.bearers
       → BearerAnswer is gnb number ue bearer a → Fits (with_bearer way r ue c bearer a)
   bearer_names r ue c bearer (gives os b) p long all h = (
     record {
@@ -482,33 +482,33 @@ module _ {M C P : Type 0} {way : Way M C P} (is : Property way) (none : NoneIsFr
   bearer_names r ue c bearer (spent k) p long all h = tt
 
   module _ (r : Record) (p : Good r) where
-    found_bearer : (ue : UeId) (c : UpContext) (bearer : BearerId) (b : UpBearer) → Named ue c.bearers → find bearer_cmp c.bearers bearer ≡ Some b
+    found_bearer : (ue : UeId) (c : CuUpContext) (bearer : BearerId) (b : CuUpBearer) → Named ue c.bearers → find bearer_cmp c.bearers bearer ≡ Some b
         → BearerNames is.owners ue bearer b
     found_bearer ue c bearer b all there = keyed_found bearer_cmp bearer_exact (BearerNames is.owners ue) c.bearers bearer b all there
 
-    taken_names : (t : UpTunnel) (teid : ℕ) (item : Taken P) (c : UpContext) (b : UpBearer) → Long t.ue c → Named t.ue c.bearers → BearerNames is.owners t.ue t.bearer b
+    taken_names : (t : CuUpTunnel) (teid : ℕ) (item : Taken P) (c : CuUpContext) (b : CuUpBearer) → Long t.ue c → Named t.ue c.bearers → BearerNames is.owners t.ue t.bearer b
         → (reason : Option HeldReason) → Fits (taken_by way r t teid item c b reason)
     taken_names t teid item c b long all h (Some reason) = (p, (tt, tt))
     taken_names t teid item c b long all h None =
-        after (with_bearer way r t.ue c t.bearer (took way (up_at t.ue c t.bearer) t.kind teid item b)) (end_where_over way t.ue)
-        (bearer_names r t.ue c t.bearer (took way (up_at t.ue c t.bearer) t.kind teid item b) p long all (item_fits is gnb number (up_at t.ue c t.bearer) long t.kind teid item b h))
+        after (with_bearer way r t.ue c t.bearer (took way (cu_up_scope t.ue c t.bearer) t.kind teid item b)) (end_where_over way t.ue)
+        (bearer_names r t.ue c t.bearer (took way (cu_up_scope t.ue c t.bearer) t.kind teid item b) p long all (item_fits is gnb number (cu_up_scope t.ue c t.bearer) long t.kind teid item b h))
         (over_names t.ue)
 
     take_names : (teid : ℕ) (item : Taken P) → Fits (take way teid item r)
     unfolding take
     take_names teid item = by (find nat_cmp r.tunnels teid)
       where
-        in_bearer : (t : UpTunnel) (c : UpContext) → Long t.ue c → Named t.ue c.bearers → (o : Option UpBearer) → find bearer_cmp c.bearers t.bearer ≡ o
+        in_bearer : (t : CuUpTunnel) (c : CuUpContext) → Long t.ue c → Named t.ue c.bearers → (o : Option CuUpBearer) → find bearer_cmp c.bearers t.bearer ≡ o
             → Fits (taken_in way r t teid item c o)
         in_bearer t c long all None there = (p, (tt, tt))
         in_bearer t c long all (Some b) there =
-            taken_names t teid item c b long all (found_bearer t.ue c t.bearer b all there) (held_reason (up_at t.ue c t.bearer) b t.kind item)
+            taken_names t teid item c b long all (found_bearer t.ue c t.bearer b all there) (held_reason (cu_up_scope t.ue c t.bearer) b t.kind item)
 
-        in_context : (t : UpTunnel) (o : Option UpContext) → find ue_cmp r.contexts t.ue ≡ o → Fits (taken_of way r t teid item o)
+        in_context : (t : CuUpTunnel) (o : Option CuUpContext) → find ue_cmp r.contexts t.ue ≡ o → Fits (taken_of way r t teid item o)
         in_context t None there = (p, (tt, tt))
         in_context t (Some c) there = in_bearer t c (found_length r t.ue c p there) (found_context r t.ue c p there) (find bearer_cmp c.bearers t.bearer) refl
 
-        by : (t : Option UpTunnel) → Fits (taken_on way r teid item t)
+        by : (t : Option CuUpTunnel) → Fits (taken_on way r teid item t)
         by None = (p, (tt, tt))
         by (Some t) = in_context t (context_of r t.ue) refl
 
@@ -516,15 +516,15 @@ module _ {M C P : Type 0} {way : Way M C P} (is : Property way) (none : NoneIsFr
     unfolding poll
     poll_names ue bearer = by (context_of r ue) refl
       where
-        in_bearer : (c : UpContext) → Long ue c → Named ue c.bearers → (o : Option UpBearer) → find bearer_cmp c.bearers bearer ≡ o → Fits (poll_bearer way r ue c bearer o)
+        in_bearer : (c : CuUpContext) → Long ue c → Named ue c.bearers → (o : Option CuUpBearer) → find bearer_cmp c.bearers bearer ≡ o → Fits (poll_bearer way r ue c bearer o)
         in_bearer c long all None there = (p, (tt, tt))
         in_bearer c long all (Some b) there =
             either (length b.sender.unconfirmed == 0) (puts (no Empty) r) _ (p, (tt, tt))
             (either (c.flags.frozen || not (has_downlink b.downlink)) (puts (no NoRadio) r) _ (p, (tt, tt))
-            (bearer_names r ue c bearer (framed way (up_at ue c bearer) true false None Absent b) p long all
-            (framed_fits is gnb number (up_at ue c bearer) long true false None Absent b (found_bearer ue c bearer b all there))))
+            (bearer_names r ue c bearer (framed way (cu_up_scope ue c bearer) true false None Absent b) p long all
+            (framed_fits is gnb number (cu_up_scope ue c bearer) long true false None Absent b (found_bearer ue c bearer b all there))))
 
-        by : (o : Option UpContext) → find ue_cmp r.contexts ue ≡ o → Fits (poll_on way r ue bearer o)
+        by : (o : Option CuUpContext) → find ue_cmp r.contexts ue ≡ o → Fits (poll_on way r ue bearer o)
         by None there = (p, (tt, tt))
         by (Some c) there = in_bearer c (found_length r ue c p there) (found_context r ue c p there) (find bearer_cmp c.bearers bearer) refl
 

@@ -30,14 +30,14 @@ use Rattle.unit_defs.specs.Ways.{Message, f1, rrc, uplink, status, end_marker, T
 use Rattle.unit_defs.specs.Messages.{channel, is_same_gnb, bearers_of, are_first_bearers}
 use Rattle.unit_defs.specs.Teids.{teids_are_left}
 use Rattle.unit_defs.specs.Transactions.{Kind, request, reply, transfer, kind_of, no_instance, Transactions, Asked, ask, advance, replied}
-use Rattle.unit_defs.specs.UpRecords.{f1u_uplink}
-use Rattle.unit_defs.specs.Du.{DuBearer, DuContext, DuTunnel, Du, du_node, context_of, with_transactions, downlinks_of, downlink_list, bearers_made, bearers_anew, replies, closings, openings, old_downlinks, replaced, replaces, context_with, setup, context_anew, modify_on, modify, end_markers, released_on, release, relayed_down, relay_down, relayed_up, relay_up, token_ue, start, set_up, asked, transferred, of_cp, of_terminal, control_came, missing, is_missing, told, gap_after, carried, with_bearer, frame_came, taken_in, taken_of, taken_on, take, of_bearer, of_context, pass_up, confirmed, confirm, due_output, tick, du_acts}
+use Rattle.unit_defs.specs.CuUpRecords.{f1u_uplink}
+use Rattle.unit_defs.specs.Du.{DuBearer, DuContext, DuTunnel, Du, du_node, context_of, with_transactions, downlinks_of, downlink_list, bearers_made, bearers_anew, replies, closings, openings, old_downlinks, replaced, replaces, context_with, setup, context_anew, modify_on, modify, end_markers, released_on, release, relayed_down, relay_down, relayed_up, relay_up, token_ue, start, set_up, asked, transferred, of_cu_cp, of_terminal, control_received, missing, is_missing, told, gap_after, carried, with_bearer, frame_received, taken_in, taken_of, taken_on, take, of_bearer, of_context, pass_up, confirmed, confirm, due_output, tick, du_acts}
 use Rattle.intervals.proofs.Intervals.{all_append, all_filter}
 use Rattle.proof_unit_steps.proofs.packets.Answers.{all_map}
 use Rattle.proof_unit_steps.proofs.packets.Keyed.{keyed_found, keyed_put}
 use Rattle.proof_unit_steps.specs.tunnel_names.Names.{Property, Names, PeerList, DuList, InputNames, PutOn, OutputNames, OutputsName, AnswerNames, KeptNames}
 use Rattle.proof_unit_steps.proofs.tunnel_names.Kept.{either as either_way, after as after_one, closed_names, ask_names, advance_names, replied_names, on_request_with, on_reply_names, DueNames, due_names, ticked_names}
-use Rattle.proof_unit_steps.specs.tunnels.Units.{Each, UpTeid, UplinkNames, DownlinkHolds, DuHolds, DuNames, AnswerIf}
+use Rattle.proof_unit_steps.specs.tunnels.Units.{Each, CuUpTeid, UplinkNames, DownlinkHolds, DuHolds, DuNames, AnswerIf}
 use Rattle.proof_unit_steps.proofs.tunnels.Keyed.{put_found, always, if_then, either_if}
 
 module _ {M C P : Type 0} {way : Way M C P} (is : Property way) (gnb : Gnb) (number : ℕ) where
@@ -160,7 +160,7 @@ module _ {M C P : Type 0} {way : Way M C P} (is : Property way) (gnb : Gnb) (num
       (λ s q. reply_if ch ue c (f1s.UeContextModificationResponse ue instance (downlink_list c)) s (λ h. h) q)
 
   -- what goes up a bearer's uplink
-  put_up : (up : NodeId) (ue : UeId) (bearer : BearerId) (teid : ℕ) (dir : Dir) → UpTeid is.owners up f1u_uplink ue bearer teid
+  put_up : (up : NodeId) (ue : UeId) (bearer : BearerId) (teid : ℕ) (dir : Dir) → CuUpTeid is.owners up f1u_uplink ue bearer teid
       → PutOn is (du_id gnb number) up teid ue bearer dir
   put_up (CuUp g n) ue bearer teid dir p = p
   put_up (CuCp g) ue bearer teid dir p = absurd p
@@ -234,19 +234,19 @@ module _ {M C P : Type 0} {way : Way M C P} (is : Property way) (gnb : Gnb) (num
       (advance_names is (du_id gnb number) (record r.transactions { caller = close r.transactions.caller ch }) ch
       (closed_names is (du_id gnb number) r.transactions ch p.kept)) (λ a k. (record { own = p.own; uplinks = p.uplinks; lengths = p.lengths; kept = k }, tt))
 
-  of_cp_names : (from : NodeId) (m : Message C) (r : Record) (k : Kind) → Names is.owners from m → Good r → FitsIf (of_cp way from m r k)
+  of_cp_names : (from : NodeId) (m : Message C) (r : Record) (k : Kind) → Names is.owners from m → Good r → FitsIf (of_cu_cp way from m r k)
   of_cp_names from m r (request ue i) names p =
       on_request_with is (du_id gnb number) Good FitsIf simply r r.transactions (channel ue from) i
       (λ t. asked way (channel ue from) m (with_transactions r t)) p p.kept (λ t k. asked_names (channel ue from) from m (with_transactions r t) names (with_kept r t p k))
   of_cp_names from m r (reply ue i) names p =
-      simply (of_cp way from m r (reply ue i))
+      simply (of_cu_cp way from m r (reply ue i))
       (on_reply_names is (du_id gnb number) Good r r.transactions (channel ue from) i (set_up way (channel ue from) r) p (set_up_names (channel ue from) r p))
   of_cp_names from m r (transfer ue) names p = simply (transferred way m r) (transferred_names m r p)
 
-  control_names : (from : NodeId) (m : Message C) (r : Record) → Names is.owners from m → Good r → FitsIf (control_came way from m r)
-  unfolding control_came
+  control_names : (from : NodeId) (m : Message C) (r : Record) → Names is.owners from m → Good r → FitsIf (control_received way from m r)
+  unfolding control_received
   control_names (CuCp g) m r names p =
-      either_if is (du_id gnb number) (DuHolds is.owners gnb number) Good (is_same_gnb g r.gnb) (of_cp way (CuCp g) m r (kind_of m)) (drops Unexpected r)
+      either_if is (du_id gnb number) (DuHolds is.owners gnb number) Good (is_same_gnb g r.gnb) (of_cu_cp way (CuCp g) m r (kind_of m)) (drops Unexpected r)
       (of_cp_names (CuCp g) m r (kind_of m) names p) (λ h. (p, (tt, tt)))
   control_names (Ue ue) m r names p = simply (of_terminal way ue m r) (of_terminal_names ue m r p)
   control_names from m r names p = λ h. (p, (tt, tt))
@@ -267,7 +267,7 @@ module _ {M C P : Type 0} {way : Way M C P} (is : Property way) (gnb : Gnb) (num
   carried_names ue bearer c false (Some pdu) r long p = (p, ((c.sn, long), tt))
 
   frame_names : (ue : UeId) (bearer : BearerId) (c : DuContext) (b : DuBearer) (item : Taken P) (r : Record) → Long ue c → Uplinks ue c.bearers
-      → UplinkNames is.owners ue bearer b → Good r → Fits (frame_came way ue bearer c b item r)
+      → UplinkNames is.owners ue bearer b → Good r → Fits (frame_received way ue bearer c b item r)
   frame_names ue bearer c b (frame_item poll restart n pdu) r long ups names p =
       let on : DuBearer = record b { awaited = n + 1; gap = gap_after way b n restart pdu } in
       after_one is (du_id gnb number) Good Good (gives (told way ue bearer b poll n) (with_bearer way ue bearer c on r))

@@ -4,7 +4,7 @@ use Rattle.std.specs.List.{range_with_len}
 use Rattle.gnb_types.specs.declared.names.SnBits.{SnBits}
 use Rattle.pdcp_defs.specs.Senders.{Sender, window}
 use Rattle.unit_defs.specs.Ways.{Answer, gives, spent}
-use Rattle.unit_defs.specs.UpRecords.{UpBearer, UpAt}
+use Rattle.unit_defs.specs.CuUpRecords.{CuUpBearer, CuUpScope}
 
 pub record InWindow {X : Type 0} (sn : SnBits) (quota : ℕ) (s : Sender X) : Type 0 where
   pub first : ℕ
@@ -13,6 +13,6 @@ pub record InWindow {X : Type 0} (sn : SnBits) (quota : ℕ) (s : Sender X) : Ty
   pub below : s.next ≡ first + many
   pub few : many ≤ window sn quota
 
-abbrev pub EndsInWindow : {M P : Type 0} → UpAt → Answer M P UpBearer → Type 0
+abbrev pub EndsInWindow : {M P : Type 0} → CuUpScope → Answer M P CuUpBearer → Type 0
 EndsInWindow at (gives outputs b) = InWindow at.sn at.quota b.sender
 EndsInWindow at (spent counter) = Unit {0}

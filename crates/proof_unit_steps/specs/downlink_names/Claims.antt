@@ -12,7 +12,7 @@ use Rattle.unit_defs.specs.declared.StateName.{StateName}
 use Rattle.unit_defs.specs.declared.StateName.TheVariants as states
 use Rattle.unit_defs.specs.Ways.{Message, Input, control_input, Output, control, Answer, gives, spent}
 use Rattle.unit_defs.specs.Transactions.{Waiting, Transactions, waits_at}
-use Rattle.unit_defs.specs.CpRecords.{Attempt, CpContext, CuCpRecord, terminal_of}
+use Rattle.unit_defs.specs.CuCpRecords.{Attempt, CuCpContext, CuCpRecord, terminal_of}
 use Rattle.proof_unit_steps.specs.downlink_names.Places.{DownlinkTeid, du_of_teid, Grant, Place, away, known, waits, Story, Gives, OnSwitch, NoSwitch, SwitchIs, AnswerIs, GoesTo}
 
 -- an instance that was given on a channel, and isn't open any more
@@ -71,17 +71,17 @@ module _ (t : DownlinkTeid) where
   HeldIn p ue state None = Unit {0}
   HeldIn p ue state (Some a) = is_used state ≡ false → a.du ≡ t.du → Gives t.teid p (known ue.0) a.downlinks
 
-  abbrev pub HeldBy : Place → UeId → Option CpContext → Type 0
+  abbrev pub HeldBy : Place → UeId → Option CuCpContext → Type 0
   HeldBy p ue None = Unit {0}
   HeldBy p ue (Some c) = HeldIn p ue c.state c.attempt
 
   -- with marks below this one
-  pub record CpIs {C : Type 0} (g : Option Grant) (p : Place) (high : ℕ) (r : CuCpRecord (Message C) C) : Type 0 where
+  pub record CuCpIs {C : Type 0} (g : Option Grant) (p : Place) (high : ℕ) (r : CuCpRecord (Message C) C) : Type 0 where
     pub transactions : TransactionsAre g p high r.transactions
     pub contexts : (ue : UeId) → HeldBy p ue (terminal_of r ue).context
 
-  abbrev pub CpHas : {C : Type 0} → Story → CuCpRecord (Message C) C → Type 0
-  CpHas s r = (high : ℕ) × CpIs s.grant s.place high r
+  abbrev pub CuCpHas : {C : Type 0} → Story → CuCpRecord (Message C) C → Type 0
+  CuCpHas s r = (high : ℕ) × CuCpIs s.grant s.place high r
 
   -- ---- what it is given: what comes from the DU is as it was given; and what it answers: what was given is as it was, the TEID is
   -- there wherever the CU-CP names it then, and one that was never given stays away
@@ -90,8 +90,8 @@ module _ (t : DownlinkTeid) where
   InputIs s (control_input from message) = from ≡ du_of_teid t → AnswerIs t s.grant from message
   InputIs s input = Unit {0}
 
-  abbrev pub CpGoes : {C P : Type 0} → Story → Answer (Message C) P (CuCpRecord (Message C) C) → Type 0
-  CpGoes s (gives outputs after) =
+  abbrev pub CuCpGoes : {C P : Type 0} → Story → Answer (Message C) P (CuCpRecord (Message C) C) → Type 0
+  CuCpGoes s (gives outputs after) =
       (p : Place) × GoesTo s (record s { place = p }) × (s.grant ≡ None → s.place ≡ away → p ≡ away)
-      × AllByRecursion (PutIs p) outputs × CpHas (record s { place = p }) after
-  CpGoes s (spent counter) = Unit {0}
+      × AllByRecursion (PutIs p) outputs × CuCpHas (record s { place = p }) after
+  CuCpGoes s (spent counter) = Unit {0}

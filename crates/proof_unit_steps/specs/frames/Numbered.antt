@@ -3,7 +3,7 @@ use Rattle.std.specs.Prelude.{ℕ, ◌≡◌, zero, suc, ◌+◌, List, [], ◌�
 use Rattle.std.specs.List.{flat_map}
 use Rattle.gnb_types.specs.declared.names.NodeId.{NodeId}
 use Rattle.unit_defs.specs.Ways.{Load, frame, Output, packet, Answer, gives, spent}
-use Rattle.unit_defs.specs.UpRecords.{Downlink, UpBearer}
+use Rattle.unit_defs.specs.CuUpRecords.{DownlinkTunnel, CuUpBearer}
 
 -- where a frame goes, and its number
 pub record Frame : Type 0 where
@@ -28,11 +28,11 @@ frames_from du teid number zero = []
 frames_from du teid number (suc more) = record { to = du; teid = teid; number = number } ∷ frames_from du teid (number + 1) more
 
 -- frames go on where the downlink stands, and it stands after them then; without a downlink there are none
-abbrev pub GoOn : Option Downlink → List Frame → Option Downlink → Type 0
+abbrev pub GoOn : Option DownlinkTunnel → List Frame → Option DownlinkTunnel → Type 0
 GoOn None frames after = (frames ≡ []) × (after ≡ None)
 GoOn (Some d) frames after =
     (frames ≡ frames_from d.du d.teid d.next (length frames)) × (after ≡ Some (record d { next = d.next + length frames }))
 
-abbrev pub NumbersFrom : {M P : Type 0} → Option Downlink → Answer M P UpBearer → Type 0
+abbrev pub NumbersFrom : {M P : Type 0} → Option DownlinkTunnel → Answer M P CuUpBearer → Type 0
 NumbersFrom downlink (gives outputs b) = GoOn downlink (frames_by outputs) b.downlink
 NumbersFrom downlink (spent counter) = Unit {0}

@@ -13,7 +13,7 @@ use Rattle.tables.specs.Tables.{find}
 use Rattle.pdcp_defs.specs.Senders.{Sender}
 use Rattle.pdcp_defs.specs.Receivers.{Receiver}
 use Rattle.unit_defs.specs.Ways.{packet_pdu, report_pdu, Content, packet_content, report_content, Load, fresh, numbered, frame, uplink, status, end_marker, Taken, fresh_item, numbered_item, frame_item, uplink_item, status_item, end_item, Input, packet_input, radio_input, offer_input, Output, packet, radio, deliver, Way, Answer, gives, spent}
-use Rattle.unit_defs.specs.UpRecords.{TunnelKind, n3, f1u_uplink, forwarding_down, forwarding_up, UpBearer, UpContext, UpTunnel, CuUp}
+use Rattle.unit_defs.specs.CuUpRecords.{TunnelKind, n3, f1u_uplink, forwarding_down, forwarding_up, CuUpBearer, CuUpContext, CuUpTunnel, CuUp}
 use Rattle.unit_defs.specs.Du.{DuTunnel, Du}
 use Rattle.unit_defs.specs.Ue.{UeBearer, UeNode}
 
@@ -72,7 +72,7 @@ module _ {M C P : Type 0} {way : Way M C P} (has : Property way) where
   -- a tunnel's item brings what is its owner's; a radio's is of the bearer that it says, at a terminal of its own
   abbrev pub UpInputHas : CuUp M C → Input C P → Type 0
   UpInputHas r (packet_input teid item) =
-      (owner : UpTunnel) → find nat_cmp r.tunnels teid ≡ Some owner → TakenHas (of owner.ue owner.bearer (dir_of owner.kind)) item
+      (owner : CuUpTunnel) → find nat_cmp r.tunnels teid ≡ Some owner → TakenHas (of owner.ue owner.bearer (dir_of owner.kind)) item
   UpInputHas r input = Unit {0}
 
   abbrev pub DuInputHas : Du M C → Input C P → Type 0
@@ -113,12 +113,12 @@ module _ {M C P : Type 0} {way : Way M C P} (has : Property way) where
     pub waiting : AllByRecursion (has.packet out) ps
     pub stored : CountedHave back r.stored
 
-  abbrev pub BearersHave : UeId → List (BearerId × UpBearer) → Type 0
+  abbrev pub BearersHave : UeId → List (BearerId × CuUpBearer) → Type 0
   BearersHave ue bearers =
-      AllByRecursion (λ (e : BearerId × UpBearer). BearerHas (of ue e.0 Dl) (of ue e.0 Ul) e.1.sender e.1.waiting e.1.receiver) bearers
+      AllByRecursion (λ (e : BearerId × CuUpBearer). BearerHas (of ue e.0 Dl) (of ue e.0 Ul) e.1.sender e.1.waiting e.1.receiver) bearers
 
-  abbrev pub UpHas : CuUp M C → Type 0
-  UpHas r = AllByRecursion (λ (e : UeId × UpContext). BearersHave e.0 e.1.bearers) r.contexts
+  abbrev pub CuUpHas : CuUp M C → Type 0
+  CuUpHas r = AllByRecursion (λ (e : UeId × CuUpContext). BearersHave e.0 e.1.bearers) r.contexts
 
   -- the record of a terminal, which is of its plan
   abbrev pub UeHas : UeId → UeNode → Type 0

@@ -6,7 +6,7 @@ use Rattle.gnb_types.specs.declared.names.BearerId.{BearerId}
 use Rattle.gnb_types.specs.Orders.{ue_cmp}
 use Rattle.tables.specs.Tables.{find}
 use Rattle.pdcp_defs.specs.Receivers.{Receiver}
-use Rattle.unit_defs.specs.UpRecords.{UpBearer, UpFlags, UpContext, CuUp}
+use Rattle.unit_defs.specs.CuUpRecords.{CuUpBearer, CuUpFlags, CuUpContext, CuUp}
 use Rattle.unit_defs.specs.Ue.{UeBearer, UeNode}
 
 -- COUNTs from this one on, ascending
@@ -20,19 +20,19 @@ StoresAbove r = Ascends (r.deliv + 1) r.stored
 
 -- At a CU-UP that holds of a context that isn't frozen; a frozen one delivers nothing, and may store what it awaits. Nothing is
 -- stored before the context has its SN status and its terminal.
-pub record UpStores (flags : UpFlags) (r : Receiver (List ℕ)) : Type 0 where
+pub record CuUpStores (flags : CuUpFlags) (r : Receiver (List ℕ)) : Type 0 where
   pub from : Ascends r.deliv r.stored
   pub above : flags.frozen ≡ false → StoresAbove r
   pub none : flags.may_serve && flags.arrived ≡ false → r.stored ≡ []
 
-abbrev pub BearersStore : UpFlags → List (BearerId × UpBearer) → Type 0
-BearersStore flags bearers = AllByRecursion (λ (e : BearerId × UpBearer). UpStores flags e.1.receiver) bearers
+abbrev pub BearersStore : CuUpFlags → List (BearerId × CuUpBearer) → Type 0
+BearersStore flags bearers = AllByRecursion (λ (e : BearerId × CuUpBearer). CuUpStores flags e.1.receiver) bearers
 
-abbrev pub ContextsStore : List (UeId × UpContext) → Type 0
-ContextsStore contexts = (ue : UeId) (c : UpContext) → find ue_cmp contexts ue ≡ Some c → BearersStore c.flags c.bearers
+abbrev pub ContextsStore : List (UeId × CuUpContext) → Type 0
+ContextsStore contexts = (ue : UeId) (c : CuUpContext) → find ue_cmp contexts ue ≡ Some c → BearersStore c.flags c.bearers
 
-abbrev pub UpReady : {M C : Type 0} → CuUp M C → Type 0
-UpReady r = ContextsStore r.contexts
+abbrev pub CuUpReady : {M C : Type 0} → CuUp M C → Type 0
+CuUpReady r = ContextsStore r.contexts
 
 abbrev pub UeReady : UeNode → Type 0
 UeReady u = AllByRecursion (λ (e : BearerId × UeBearer). StoresAbove e.1.receiver) u.bearers

@@ -15,7 +15,7 @@ use Rattle.transaction_defs.specs.Callees.{new, verdict}
 use Rattle.message_types.specs.declared.e1.E1Message.TheVariants as e1s
 use Rattle.unit_defs.specs.Ways.{e1, Input, control_input, Answer, gives, spent}
 use Rattle.unit_defs.specs.Messages.{mode_switch, channel}
-use Rattle.unit_defs.specs.UpRecords.{Downlink, UpBearer, UpContext, CuUp}
+use Rattle.unit_defs.specs.CuUpRecords.{DownlinkTunnel, CuUpBearer, CuUpContext, CuUp}
 use Rattle.proof_unit_steps.specs.frames.Numbered.{Frame, frames_by}
 
 -- a tunnel, the bearer of a CU-UP to which it was given, if it was, and the gNB of this CU-UP
@@ -41,26 +41,26 @@ CountTo before (n ∷ ns) after = (n ≡ before) × CountTo (before + 1) ns afte
 
 -- ---- what a CU-UP keeps: only the owner's downlink leads there, and its next number is how many were put
 
-abbrev pub Leads : TunnelEnd → Option Downlink → Type 0
+abbrev pub Leads : TunnelEnd → Option DownlinkTunnel → Type 0
 Leads end None = ⊥
 Leads end (Some d) = is_tunnel end d.du d.teid ≡ true
 
-abbrev pub NextIs : ℕ → Option Downlink → Type 0
+abbrev pub NextIs : ℕ → Option DownlinkTunnel → Type 0
 NextIs count None = Unit {0}
 NextIs count (Some d) = d.next ≡ count
 
-abbrev pub BearerCounts : OwnedTunnel → ℕ → UeId → BearerId → Option Downlink → Type 0
+abbrev pub BearerCounts : OwnedTunnel → ℕ → UeId → BearerId → Option DownlinkTunnel → Type 0
 BearerCounts t count ue bearer d = Leads t.end d → (t.owner ≡ Some (ue, bearer)) × NextIs count d
 
-abbrev pub UpCounts : {M C : Type 0} → OwnedTunnel → ℕ → CuUp M C → Type 0
-UpCounts t count r =
+abbrev pub CuUpCounts : {M C : Type 0} → OwnedTunnel → ℕ → CuUp M C → Type 0
+CuUpCounts t count r =
     (r.gnb ≡ t.gnb)
-    × ((ue : UeId) (c : UpContext) (bearer : BearerId) (b : UpBearer) → find ue_cmp r.contexts ue ≡ Some c
+    × ((ue : UeId) (c : CuUpContext) (bearer : BearerId) (b : CuUpBearer) → find ue_cmp r.contexts ue ≡ Some c
     → find bearer_cmp c.bearers bearer ≡ Some b → BearerCounts t count ue bearer b.downlink)
 
 -- the bearers of each context are in ascending order
 abbrev pub BearersInOrder : {M C : Type 0} → CuUp M C → Type 0
-BearersInOrder r = (ue : UeId) (c : UpContext) → find ue_cmp r.contexts ue ≡ Some c → IsSorted bearer_cmp c.bearers
+BearersInOrder r = (ue : UeId) (c : CuUpContext) → find ue_cmp r.contexts ue ≡ Some c → IsSorted bearer_cmp c.bearers
 
 -- ---- a new request that switches a bearer to the tunnel switches the owner, and is the first one: nothing was put there
 
@@ -77,5 +77,5 @@ SwitchesFirst t count r input = Unit {0}
 
 abbrev pub NumbersTunnel : {M C P : Type 0} → OwnedTunnel → ℕ → Answer M P (CuUp M C) → Type 0
 NumbersTunnel t count (gives outputs after) =
-    (more : ℕ) × CountTo count (numbers_on t.end (frames_by outputs)) more × UpCounts t more after × (t.owner ≡ None → more ≡ count)
+    (more : ℕ) × CountTo count (numbers_on t.end (frames_by outputs)) more × CuUpCounts t more after × (t.owner ≡ None → more ≡ count)
 NumbersTunnel t count (spent counter) = Unit {0}

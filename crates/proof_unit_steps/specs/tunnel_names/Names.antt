@@ -24,7 +24,7 @@ use Rattle.transaction_defs.specs.Callers.{Opened}
 use Rattle.transaction_defs.specs.Callees.{Kept}
 use Rattle.unit_defs.specs.Ways.{Message, f1, e1, xn, core, Load, numbered, frame, uplink, status, Input, control_input, order_input, Output, control, packet, radio, Way, Answer, gives, spent}
 use Rattle.unit_defs.specs.Transactions.{Kind, request, reply, transfer, kind_of, Waiting, Transactions}
-use Rattle.unit_defs.specs.UpRecords.{TunnelKind, n3, f1u_uplink, forwarding_down, forwarding_up}
+use Rattle.unit_defs.specs.CuUpRecords.{TunnelKind, n3, f1u_uplink, forwarding_down, forwarding_up}
 
 -- ---- a TEID of a CU-UP may be named for a tunnel of this kind, of this terminal and bearer; one of a DU for its downlink; and the numbers
 -- of a terminal may have this length
@@ -54,14 +54,14 @@ ue_of (transfer ue) = record { 0 = ue }
 module _ (owners : Owners) where
   -- ---- lists of tunnels: at this CU-UP, at this DU, at the node that this is
 
-  abbrev pub UpList : Gnb → ℕ → TunnelKind → UeId → List Tunnel → Type 0
-  UpList gnb number kind ue tunnels = AllByRecursion (λ t. owners.up gnb number kind ue t.bearer t.teid) tunnels
+  abbrev pub CuUpList : Gnb → ℕ → TunnelKind → UeId → List Tunnel → Type 0
+  CuUpList gnb number kind ue tunnels = AllByRecursion (λ t. owners.up gnb number kind ue t.bearer t.teid) tunnels
 
   abbrev pub DuList : Gnb → ℕ → UeId → List Tunnel → Type 0
   DuList gnb number ue tunnels = AllByRecursion (λ t. owners.du gnb number ue t.bearer t.teid) tunnels
 
   abbrev pub OwnUpList : NodeId → TunnelKind → UeId → List Tunnel → Type 0
-  OwnUpList (CuUp gnb number) kind ue tunnels = UpList gnb number kind ue tunnels
+  OwnUpList (CuUp gnb number) kind ue tunnels = CuUpList gnb number kind ue tunnels
   OwnUpList node kind ue tunnels = ⊥
 
   abbrev pub OwnDuList : NodeId → UeId → List Tunnel → Type 0
@@ -69,7 +69,7 @@ module _ (owners : Owners) where
   OwnDuList node ue tunnels = ⊥
 
   abbrev pub PeerList : Peer → TunnelKind → UeId → List Tunnel → Type 0
-  PeerList peer kind ue tunnels = UpList peer.gnb peer.up kind ue tunnels
+  PeerList peer kind ue tunnels = CuUpList peer.gnb peer.up kind ue tunnels
 
   -- ---- messages: a response names tunnels of its sender; an uplink, a hop and a path are those of the CU-UP that is named beside them,
   -- and a switch those of a DU of the sender's gNB; a request for a context, or for a handover, says the length of the terminal's numbers
@@ -123,7 +123,7 @@ module _ (owners : Owners) where
 pub record Property {M C P : Type 0} (way : Way M C P) : Type 1 where
   pub owners : Owners
   pub says : NodeId → M → Type 0
-  pub spells : (from : NodeId) (message : Message C) → Names owners from message → says from (way.spell message)
+  pub spells : (from : NodeId) (message : Message C) → Names owners from message → says from (way.encode message)
   pub passes : (from : NodeId) (container : C) → says from (way.pass container)
 
 -- as a test, so that a law may speak of all of them
@@ -142,7 +142,7 @@ by_book book = record {
 pub record Test {M C P : Type 0} (way : Way M C P) : Type 0 where
   pub book : Book
   pub says : NodeId → M → Bool
-  pub spells : (from : NodeId) (message : Message C) → Names (by_book book) from message → says from (way.spell message) ≡ true
+  pub spells : (from : NodeId) (message : Message C) → Names (by_book book) from message → says from (way.encode message) ≡ true
   pub passes : (from : NodeId) (container : C) → says from (way.pass container) ≡ true
 
 abbrev pub by_test : {M C P : Type 0} {way : Way M C P} → Test way → Property way

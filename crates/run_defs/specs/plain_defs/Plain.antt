@@ -11,10 +11,10 @@ use Rattle.scenario_text.specs.script_words.Ranges.{IsPacket}
 use Rattle.scenario_text.specs.script_words.Places.{InPlaces}
 use Rattle.scenario_text.specs.Grammar.{plan_places}
 use Rattle.scenario_text.specs.Texts.{plan_values}
-use Rattle.unit_defs.specs.Static.{up_has_room, up_has_teids, du_has_teids}
+use Rattle.unit_defs.specs.Static.{cu_up_has_room, cu_up_has_teids, du_has_teids}
 use Rattle.unit_defs.specs.Ue.{UeNode, new_ue}
 use Rattle.unit_defs.specs.octet_defs.Codec.{Codec}
-use Rattle.run_defs.specs.Units.{new_units, up_of, du_of, ue_of, with_ue}
+use Rattle.run_defs.specs.Units.{new_units, cu_up_of, du_of, ue_of, with_ue}
 use Rattle.run_defs.specs.Conditions.{is_held_by_units, units_placed, all_set_up}
 use Rattle.run_defs.specs.UnitRuns.{Meaning, Records, unit_gives, tables}
 
@@ -32,8 +32,8 @@ pub record KeepRange (answer : Meaning) (in_range : Records → Type 0) : Type 0
   pub begins : in_range new_units
   pub comes : (r : Records) (plan : Plan) → IsPlanned plan → in_range r → in_range (with_ue r plan.ue (new_ue plan))
   pub places : (r : Records) (plan : Plan) → IsPlanned plan → is_held_by_units plan r ≡ false
-      → up_has_room (up_of r plan.gnb plan.up) plan ≡ true
-      → up_has_teids (up_of r plan.gnb plan.up) plan && du_has_teids (du_of r plan.gnb plan.du) plan ≡ true
+      → cu_up_has_room (cu_up_of r plan.gnb plan.up) plan ≡ true
+      → cu_up_has_teids (cu_up_of r plan.gnb plan.up) plan && du_has_teids (du_of r plan.gnb plan.du) plan ≡ true
       → in_range r → in_range (all_set_up (units_placed plan r))
   pub answers : (r after : Records) (node : NodeId) (input : Input) (outputs : List Output) → in_range r → IsGiven input
       → answer r node input ≡ unit_gives outputs after → in_range after

@@ -7,7 +7,7 @@ use Rattle.gnb_types.specs.declared.names.NodeId.TheVariants.{CuUp}
 use Rattle.gnb_types.specs.declared.plans.Plan.{Plan}
 use Rattle.gnb_types.specs.Orders.{node_cmp}
 use Rattle.tables.specs.Tables.{at, put}
-use Rattle.unit_defs.specs.Static.{up_has_room, up_set_up}
+use Rattle.unit_defs.specs.Static.{cu_up_has_room, cu_up_set_up}
 use Rattle.cu_user.specs.Users.{User, new_user}
 use Rattle.cu_up_contexts.specs.contexts.Tables.{OctetUp}
 use Rattle.cu_up_contexts.specs.contexts.Placing.{IsPlaced}
@@ -36,9 +36,9 @@ PlacesUser plan downlink old new (Ok done) =
     (u : User) × (u.failure ≡ None) × IsPlaced (user_at old plan.gnb plan.up).up plan downlink u.up (Ok done)
     × (new ≡ put node_cmp old (CuUp plan.gnb plan.up) u)
 PlacesUser plan downlink old new (Err places.NoQuota) =
-    (up_has_room (user_at old plan.gnb plan.up).up plan ≡ false) × (new ≡ old)
+    (cu_up_has_room (user_at old plan.gnb plan.up).up plan ≡ false) × (new ≡ old)
 PlacesUser plan downlink old new (Err (places.Step error)) =
     IsPlaced (user_at old plan.gnb plan.up).up plan downlink (user_at old plan.gnb plan.up).up (Err (places.Step error))
 
 abbrev pub as_set_up : User → User
-as_set_up u = record u { up = up_set_up u.up }
+as_set_up u = record u { up = cu_up_set_up u.up }

@@ -5,7 +5,7 @@ ghost use Rattle.std.specs.List.{list_all};
 ghost use Rattle.gnb_types.specs.Orders.{node_cmp, ue_cmp};
 ghost use Rattle.gnb_types.specs.declared.names.NodeId.TheVariants.{CuUp};
 ghost use Rattle.tables.specs.Tables.{find, put, map_values};
-ghost use Rattle.unit_defs.specs.Accessors.{up_rests};
+ghost use Rattle.unit_defs.specs.Accessors.{cu_up_rests};
 ghost use Rattle.unit_defs.specs.octet_defs.Units.{cu_up_steps};
 ghost use Rattle.unit_messages.specs.steps.Steps.{step_after};
 ghost use Rattle.unit_messages.specs.declared.steps.StepError.TheVariants as step_errors;
@@ -187,7 +187,7 @@ fn mark(users: &mut Users, name: NodeId)
 
 /// Whether all CU-UPs are at rest as far as this bearer goes.
 pub fn rest(users: &Users, ue: UeId, bearer: BearerId) -> bool
-    ensures { result ≡ list_all (λ e. up_rests e.1.up ue bearer) users.now }
+    ensures { result ≡ list_all (λ e. cu_up_rests e.1.up ue bearer) users.now }
 {
     for (_, user) in users.iter() {
         if !user.rests(ue, bearer) {

@@ -99,7 +99,7 @@ const ROWS: [Row; 9] = [
 ];
 
 fn has_octets(alloc: Global, codec: &ProfileCodec, message: &Message, octets: &[u8]) -> bool {
-    match codec.spell(alloc, message) {
+    match codec.encode(alloc, message) {
         Ok(spelled) => spelled.as_slice() == octets,
         Err(_) => false,
     }

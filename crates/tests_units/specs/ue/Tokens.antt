@@ -16,20 +16,20 @@ spelled (rrc (Reestablish ue epoch)) = 64 ∷ 0 ∷ epoch % 256 ∷ []
 spelled message = []
 
 -- what it hears
-abbrev pub heard_mark : ℕ → ℕ → Result (Message (List ℕ)) DropReason
-heard_mark kind epoch =
+abbrev pub received_mark : ℕ → ℕ → Result (Message (List ℕ)) DropReason
+received_mark kind epoch =
     if kind == 96 then Ok (rrc (Accepted (record { 0 = 1 }) epoch)) else (if kind == 32 then Ok (rrc (Complete (record { 0 = 1 }) epoch)) else Err Undecodable)
 
 abbrev pub heard : List ℕ → Result (Message (List ℕ)) DropReason
 heard (octet ∷ []) = Err Criticality
 heard (first ∷ second ∷ []) = Ok (f1 (F1SetupResponse 1))
-heard (kind ∷ gap ∷ epoch ∷ []) = heard_mark kind epoch
+heard (kind ∷ gap ∷ epoch ∷ []) = received_mark kind epoch
 heard (ue ∷ gap ∷ epoch ∷ place ∷ []) = Ok (rrc (Command (record { 0 = ue % 16 + 1 }) epoch A (place / 64 % 2 + 1)))
 heard octets = Err Undecodable
 
 abbrev pub tokens : Codec
 tokens = record {
-  spell = spelled;
+  encode = spelled;
   read = λ from to octets. heard octets;
   read_token = λ octets. None;
   read_item = λ link sn octets. None;

@@ -2,7 +2,7 @@
 
 ghost use Rattle.std.specs.Prelude.{◌≡◌, IfOk};
 ghost use Rattle.unit_messages.specs.Messages.{answer_as};
-ghost use Rattle.tests_units.specs.tests_cu_control.FewMessages.{marked, numbered, spelled_f1, spelled_e1, spelled_xn, spelled_core, spelled_token, tunnel, status, heard_f1, heard_e1, heard_xn, heard_mark, heard_token};
+ghost use Rattle.tests_units.specs.tests_cu_control.FewMessages.{marked, numbered, encoded_f1, encoded_e1, encoded_xn, encoded_core, encoded_token, tunnel, status, received_f1, received_e1, received_xn, received_mark, received_token};
 
 use gnb_types::items::{Items, Memory};
 use gnb_types::names::{BearerId, Gnb, NodeId, UeId};
@@ -22,13 +22,13 @@ impl MessageCodec for FewMessages {
 
     ghost codec = { few_messages };
 
-    fn spell(&self, alloc: Global, message: &Message) -> Result<Octets, Memory> {
+    fn encode(&self, alloc: Global, message: &Message) -> Result<Octets, Memory> {
         match message {
-            Message::F1(message) => spelled_f1(alloc, message),
-            Message::E1(message) => spelled_e1(alloc, message),
-            Message::Xn(message) => spelled_xn(alloc, message),
-            Message::Core(message) => spelled_core(alloc, message),
-            Message::Rrc(token) => spelled_token(alloc, token),
+            Message::F1(message) => encoded_f1(alloc, message),
+            Message::E1(message) => encoded_e1(alloc, message),
+            Message::Xn(message) => encoded_xn(alloc, message),
+            Message::Core(message) => encoded_core(alloc, message),
+            Message::Rrc(token) => encoded_token(alloc, token),
         }
     }
 
@@ -41,7 +41,7 @@ impl MessageCodec for FewMessages {
     ) -> Result<Result<Message, DropReason>, Memory> {
         match octets {
             [_] => Ok(Err(DropReason::Criticality)),
-            [kind, ue, instance] => heard_mark(alloc, *kind, UeId(*ue), u32::from(*instance)),
+            [kind, ue, instance] => received_mark(alloc, *kind, UeId(*ue), u32::from(*instance)),
             [ue, token, whose, epoch] => {
                 let container = Octets::from_slice(alloc, &[*token, *whose, *epoch])?;
                 let ue = UeId(*ue);
@@ -52,7 +52,7 @@ impl MessageCodec for FewMessages {
     }
 
     fn read_token(&self, _alloc: Global, container: &[u8]) -> Result<Option<Token>, Memory> {
-        Ok(heard_token(container))
+        Ok(received_token(container))
     }
 }
 
@@ -72,8 +72,8 @@ fn numbered(alloc: Global, kind: u8, ue: UeId, instance: u32, number: u32) -> Re
 
 // ---- what a CU-CP says
 
-fn spelled_token(alloc: Global, token: &Token) -> Result<Octets, Memory>
-    ensures { IfOk result (λ octets. octets ≡ spelled_token token.now) }
+fn encoded_token(alloc: Global, token: &Token) -> Result<Octets, Memory>
+    ensures { IfOk result (λ octets. octets ≡ encoded_token token.now) }
 {
     match token {
         Token::Command { ue, epoch, .. } => marked(alloc, 1, *ue, *epoch),
@@ -83,8 +83,8 @@ fn spelled_token(alloc: Global, token: &Token) -> Result<Octets, Memory>
     }
 }
 
-fn spelled_f1(alloc: Global, message: &F1Message) -> Result<Octets, Memory>
-    ensures { IfOk result (λ octets. octets ≡ spelled_f1 message.now) }
+fn encoded_f1(alloc: Global, message: &F1Message) -> Result<Octets, Memory>
+    ensures { IfOk result (λ octets. octets ≡ encoded_f1 message.now) }
 {
     match message {
         F1::F1SetupResponse { instance } => marked(alloc, 0x11, UeId(0), *instance),
@@ -113,8 +113,8 @@ fn spelled_f1(alloc: Global, message: &F1Message) -> Result<Octets, Memory>
     }
 }
 
-fn spelled_e1(alloc: Global, message: &E1Message) -> Result<Octets, Memory>
-    ensures { IfOk result (λ octets. octets ≡ spelled_e1 message.now) }
+fn encoded_e1(alloc: Global, message: &E1Message) -> Result<Octets, Memory>
+    ensures { IfOk result (λ octets. octets ≡ encoded_e1 message.now) }
 {
     match message {
         E1Message::E1SetupResponse { instance } => marked(alloc, 0x21, UeId(0), *instance),
@@ -139,8 +139,8 @@ fn spelled_e1(alloc: Global, message: &E1Message) -> Result<Octets, Memory>
     }
 }
 
-fn spelled_xn(alloc: Global, message: &XnMessage) -> Result<Octets, Memory>
-    ensures { IfOk result (λ octets. octets ≡ spelled_xn message.now) }
+fn encoded_xn(alloc: Global, message: &XnMessage) -> Result<Octets, Memory>
+    ensures { IfOk result (λ octets. octets ≡ encoded_xn message.now) }
 {
     match message {
         XnMessage::HandoverRequest {
@@ -158,8 +158,8 @@ fn spelled_xn(alloc: Global, message: &XnMessage) -> Result<Octets, Memory>
     }
 }
 
-fn spelled_core(alloc: Global, message: &CoreMessage) -> Result<Octets, Memory>
-    ensures { IfOk result (λ octets. octets ≡ spelled_core message.now) }
+fn encoded_core(alloc: Global, message: &CoreMessage) -> Result<Octets, Memory>
+    ensures { IfOk result (λ octets. octets ≡ encoded_core message.now) }
 {
     match message {
         CoreMessage::PathSwitchRequest { ue, instance, .. } => marked(alloc, 0x41, *ue, *instance),
@@ -188,13 +188,13 @@ fn status(alloc: Global) -> Result<StatusList, Memory>
     Items::one(alloc, status)
 }
 
-fn heard_f1(
+fn received_f1(
     alloc: Global,
     kind: u8,
     ue: UeId,
     instance: u32,
 ) -> Result<Result<Message, DropReason>, Memory>
-    ensures { IfOk result (λ answer. answer_as answer ≡ heard_f1 kind ue instance) }
+    ensures { IfOk result (λ answer. answer_as answer ≡ received_f1 kind ue instance) }
 {
     if kind == 0x11 {
         let name = Octets::new(alloc);
@@ -222,13 +222,13 @@ fn heard_f1(
     Ok(Err(DropReason::Undecodable))
 }
 
-fn heard_e1(
+fn received_e1(
     alloc: Global,
     kind: u8,
     ue: UeId,
     instance: u32,
 ) -> Result<Result<Message, DropReason>, Memory>
-    ensures { IfOk result (λ answer. answer_as answer ≡ heard_e1 kind ue instance) }
+    ensures { IfOk result (λ answer. answer_as answer ≡ received_e1 kind ue instance) }
 {
     if kind == 0x21 {
         let name = Octets::new(alloc);
@@ -258,13 +258,13 @@ fn heard_e1(
     Ok(Err(DropReason::Undecodable))
 }
 
-fn heard_xn(
+fn received_xn(
     alloc: Global,
     kind: u8,
     ue: UeId,
     instance: u32,
 ) -> Result<Result<Message, DropReason>, Memory>
-    ensures { IfOk result (λ answer. answer_as answer ≡ heard_xn kind ue instance) }
+    ensures { IfOk result (λ answer. answer_as answer ≡ received_xn kind ue instance) }
 {
     if kind == 0x32 {
         return Ok(Ok(Message::Xn(XnMessage::HandoverRequestAcknowledge {
@@ -294,25 +294,25 @@ fn heard_xn(
     Ok(Err(DropReason::Undecodable))
 }
 
-fn heard_mark(
+fn received_mark(
     alloc: Global,
     kind: u8,
     ue: UeId,
     instance: u32,
 ) -> Result<Result<Message, DropReason>, Memory>
-    ensures { IfOk result (λ answer. answer_as answer ≡ heard_mark kind ue instance) }
+    ensures { IfOk result (λ answer. answer_as answer ≡ received_mark kind ue instance) }
 {
     if kind < 0x20 {
-        return heard_f1(alloc, kind, ue, instance);
+        return received_f1(alloc, kind, ue, instance);
     }
     if kind < 0x30 {
-        return heard_e1(alloc, kind, ue, instance);
+        return received_e1(alloc, kind, ue, instance);
     }
-    heard_xn(alloc, kind, ue, instance)
+    received_xn(alloc, kind, ue, instance)
 }
 
-fn heard_token(container: &[u8]) -> Option<Token>
-    ensures { result ≡ heard_token container.now }
+fn received_token(container: &[u8]) -> Option<Token>
+    ensures { result ≡ received_token container.now }
 {
     let [kind, ue, epoch] = container else {
         return None;

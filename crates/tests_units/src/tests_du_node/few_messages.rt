@@ -2,7 +2,7 @@
 
 ghost use Rattle.std.specs.Prelude.{◌≡◌, ◌∷◌, ◌++◌, [], IfOk, Ok};
 ghost use Rattle.unit_messages.specs.Messages.{answer_as};
-ghost use Rattle.tests_units.specs.tests_du_node.FewMessages.{heard_token, heard_mark, spelled_f1, spelled_reply, spelled_token};
+ghost use Rattle.tests_units.specs.tests_du_node.FewMessages.{received_token, received_mark, encoded_f1, encoded_reply, encoded_token};
 ghost use Rattle.unit_defs.specs.Ways.{f1};
 ghost use Rattle.message_types.specs.declared.f1.F1.TheVariants as f1s;
 ghost use Rattle.gnb_types.specs.declared.names.SnBits.TheVariants as sizes;
@@ -26,10 +26,10 @@ impl MessageCodec for FewMessages {
 
     ghost codec = { few_messages };
 
-    fn spell(&self, alloc: Global, message: &Message) -> Result<Octets, Memory> {
+    fn encode(&self, alloc: Global, message: &Message) -> Result<Octets, Memory> {
         match message {
-            Message::F1(message) => spelled_f1(alloc, message),
-            Message::Rrc(token) => spelled_token(alloc, token),
+            Message::F1(message) => encoded_f1(alloc, message),
+            Message::Rrc(token) => encoded_token(alloc, token),
             Message::E1(_) | Message::Xn(_) | Message::Core(_) => Ok(Octets::new(alloc)),
         }
     }
@@ -50,7 +50,7 @@ impl MessageCodec for FewMessages {
                 ue: UeId(*ue),
                 instance: u32::from(*instance),
             }))),
-            [kind, ue, number, epoch] => Ok(heard_mark(*kind, UeId(*ue), *number, *epoch)),
+            [kind, ue, number, epoch] => Ok(received_mark(*kind, UeId(*ue), *number, *epoch)),
             [_, ue, instance, epoch, bearer, teid] => {
                 let tunnel = Tunnel {
                     bearer: BearerId(*bearer),
@@ -74,8 +74,8 @@ impl MessageCodec for FewMessages {
     }
 }
 
-fn spelled_f1(alloc: Global, message: &F1Message) -> Result<Octets, Memory>
-    ensures { IfOk result (λ octets. octets ≡ spelled_f1 message.now) }
+fn encoded_f1(alloc: Global, message: &F1Message) -> Result<Octets, Memory>
+    ensures { IfOk result (λ octets. octets ≡ encoded_f1 message.now) }
 {
     match message {
         F1::F1SetupRequest { instance, name } => {
@@ -85,14 +85,14 @@ fn spelled_f1(alloc: Global, message: &F1Message) -> Result<Octets, Memory>
             ue,
             instance,
             downlinks,
-        } => spelled_reply(alloc, 18, *ue, *instance, downlinks.as_slice()),
+        } => encoded_reply(alloc, 18, *ue, *instance, downlinks.as_slice()),
         F1::UeContextModificationResponse {
             ue,
             instance,
             downlinks,
-        } => spelled_reply(alloc, 19, *ue, *instance, downlinks.as_slice()),
+        } => encoded_reply(alloc, 19, *ue, *instance, downlinks.as_slice()),
         F1::UeContextReleaseComplete { ue, instance } => {
-            spelled_reply(alloc, 20, *ue, *instance, &[])
+            encoded_reply(alloc, 20, *ue, *instance, &[])
         }
         F1::UlRrcMessageTransfer { ue, container } => {
             spelled_with(alloc, &[6, ue.0], container.as_slice())
@@ -114,14 +114,14 @@ fn spelled_with(alloc: Global, head: &[u8], rest: &[u8]) -> Result<Octets, Memor
 }
 
 /// A reply with the TEID of the one bearer, if there is one.
-fn spelled_reply(
+fn encoded_reply(
     alloc: Global,
     kind: u8,
     ue: UeId,
     instance: u32,
     tunnels: &[Tunnel],
 ) -> Result<Octets, Memory>
-    ensures { IfOk result (λ octets. octets ≡ spelled_reply kind ue instance tunnels.now) }
+    ensures { IfOk result (λ octets. octets ≡ encoded_reply kind ue instance tunnels.now) }
 {
     let number = (instance % 256) as u8;
     match tunnels {
@@ -133,8 +133,8 @@ fn spelled_reply(
     }
 }
 
-fn spelled_token(alloc: Global, token: &Token) -> Result<Octets, Memory>
-    ensures { IfOk result (λ octets. octets ≡ spelled_token token.now) }
+fn encoded_token(alloc: Global, token: &Token) -> Result<Octets, Memory>
+    ensures { IfOk result (λ octets. octets ≡ encoded_token token.now) }
 {
     match token {
         Token::Command { ue, epoch, du, .. } => {
@@ -152,8 +152,8 @@ fn spelled_token(alloc: Global, token: &Token) -> Result<Octets, Memory>
     }
 }
 
-fn heard_token(kind: u8, ue: UeId, epoch: u32, du: u8) -> Option<Token>
-    ensures { result ≡ heard_token kind ue epoch du }
+fn received_token(kind: u8, ue: UeId, epoch: u32, du: u8) -> Option<Token>
+    ensures { result ≡ received_token kind ue epoch du }
 {
     if kind == 0 {
         let gnb = Gnb::A;
@@ -172,8 +172,8 @@ fn heard_token(kind: u8, ue: UeId, epoch: u32, du: u8) -> Option<Token>
 }
 
 /// What four octets say: a modification request, or a token.
-fn heard_mark(kind: u8, ue: UeId, number: u8, epoch: u8) -> Result<Message, DropReason>
-    ensures { answer_as result ≡ heard_mark kind ue number epoch }
+fn received_mark(kind: u8, ue: UeId, number: u8, epoch: u8) -> Result<Message, DropReason>
+    ensures { answer_as result ≡ received_mark kind ue number epoch }
 {
     if kind == 3 {
         return Ok(Message::F1(F1::UeContextModificationRequest {
@@ -182,7 +182,7 @@ fn heard_mark(kind: u8, ue: UeId, number: u8, epoch: u8) -> Result<Message, Drop
             epoch: u32::from(epoch),
         }));
     }
-    match heard_token(kind, ue, u32::from(number), epoch) {
+    match received_token(kind, ue, u32::from(number), epoch) {
         Some(token) => Ok(Message::Rrc(token)),
         None => Err(DropReason::Undecodable),
     }

@@ -4,7 +4,7 @@ use gnb_types::items::Memory;
 use gnb_types::keys::EntityKey;
 use gnb_types::names::{BearerId, Dir, SnBits, UeId};
 use gnb_types::octets::Octets;
-use pdcp_bearers::ue_bearers::{Downlink, Reception, Uplink};
+use pdcp_bearers::ue_bearers::{Receiver, Reception, Sender};
 use std::alloc::Global;
 use unit_messages::steps::StepError;
 
@@ -17,14 +17,14 @@ fn key(dir: Dir) -> EntityKey {
 }
 
 /// An uplink of at most 4 packets, with one of one octet that waits.
-fn uplink_with_one(alloc: Global) -> Result<Uplink, Memory> {
-    let mut uplink = Uplink::new(alloc, key(Dir::Ul), SnBits::Len12, 4)?;
+fn uplink_with_one(alloc: Global) -> Result<Sender, Memory> {
+    let mut uplink = Sender::new(alloc, key(Dir::Ul), SnBits::Len12, 4)?;
     uplink.offer(Octets::from_slice(alloc, &[7])?)?;
     Ok(uplink)
 }
 
 /// Whether the next packet gets this COUNT and this PDU.
-fn numbers(alloc: Global, uplink: &mut Uplink, count: u32, pdu: &[u8]) -> Result<bool, StepError> {
+fn numbers(alloc: Global, uplink: &mut Sender, count: u32, pdu: &[u8]) -> Result<bool, StepError> {
     match uplink.number(alloc)? {
         Some(numbered) => Ok(numbered.count == count && numbered.pdu.as_slice() == pdu),
         None => Ok(false),
@@ -32,7 +32,7 @@ fn numbers(alloc: Global, uplink: &mut Uplink, count: u32, pdu: &[u8]) -> Result
 }
 
 /// Whether the packet that waits is the only one that is numbered, and is then held unconfirmed.
-fn numbers_one(alloc: Global, uplink: &mut Uplink) -> Result<bool, StepError> {
+fn numbers_one(alloc: Global, uplink: &mut Sender) -> Result<bool, StepError> {
     let was_used = uplink.used() == 1;
     let is_numbered = numbers(alloc, uplink, 0, &[0x80, 0, 7])?;
     let is_alone = !numbers(alloc, uplink, 1, &[])?;
@@ -65,7 +65,7 @@ fn a_report_confirms(rt: HostRuntime) -> Result<(), Memory> {
 }
 
 /// Whether the packet of this COUNT and octet is delivered next.
-fn delivers(alloc: Global, downlink: &mut Downlink, count: u32, octet: u8) -> Result<bool, Memory> {
+fn delivers(alloc: Global, downlink: &mut Receiver, count: u32, octet: u8) -> Result<bool, Memory> {
     match downlink.deliver(alloc)? {
         Some(delivered) => {
             Ok(delivered.count == count && delivered.packet.as_slice() == [octet].as_slice())
@@ -77,7 +77,7 @@ fn delivers(alloc: Global, downlink: &mut Downlink, count: u32, octet: u8) -> Re
 /// Whether the report begins with this COUNT, and has these bits.
 fn reports(
     alloc: Global,
-    downlink: &Downlink,
+    downlink: &Receiver,
     first: u32,
     received: &[bool],
 ) -> Result<bool, Memory> {
@@ -86,21 +86,21 @@ fn reports(
 }
 
 /// Whether what comes ahead is stored once, and what is past the quota isn't.
-fn takes_ahead(downlink: &mut Downlink) -> bool {
+fn takes_ahead(downlink: &mut Receiver) -> bool {
     let is_stored = downlink.take(1, &[8]) == Reception::Stored;
     let is_again = downlink.take(1, &[8]) == Reception::Duplicate;
     is_stored && is_again && downlink.take(4, &[9]) == Reception::Ahead
 }
 
 /// Whether what came is delivered in order, once what was missing is there.
-fn delivers_both(alloc: Global, downlink: &mut Downlink) -> Result<bool, Memory> {
+fn delivers_both(alloc: Global, downlink: &mut Receiver) -> Result<bool, Memory> {
     let is_stored = downlink.take(0, &[7]) == Reception::Stored;
     let is_first = delivers(alloc, downlink, 0, 7)?;
     let is_next = delivers(alloc, downlink, 1, 8)?;
     Ok(is_stored && is_first && is_next && !delivers(alloc, downlink, 2, 9)?)
 }
 
-fn comes_down(alloc: Global, downlink: &mut Downlink) -> Result<bool, Memory> {
+fn comes_down(alloc: Global, downlink: &mut Receiver) -> Result<bool, Memory> {
     let is_ahead = takes_ahead(downlink);
     let is_reported = reports(alloc, downlink, 0, &[true])?;
     Ok(is_ahead && is_reported && delivers_both(alloc, downlink)?)
@@ -109,7 +109,7 @@ fn comes_down(alloc: Global, downlink: &mut Downlink) -> Result<bool, Memory> {
 #[test]
 fn packets_come_down(rt: HostRuntime) -> Result<(), Memory> {
     let alloc = rt.alloc();
-    let mut downlink = Downlink::new(alloc, key(Dir::Dl), SnBits::Len12, 4)?;
+    let mut downlink = Receiver::new(alloc, key(Dir::Dl), SnBits::Len12, 4)?;
     let came = comes_down(alloc, &mut downlink);
     drop(downlink);
     assert!(rt; came == Ok(true));

@@ -2,7 +2,7 @@
 
 ghost use Rattle.std.specs.Prelude.{◌≡◌};
 ghost use Rattle.unit_messages.specs.Messages.{answer_as};
-ghost use Rattle.tests_units.specs.ue.Tokens.{heard_mark};
+ghost use Rattle.tests_units.specs.ue.Tokens.{received_mark};
 
 use gnb_types::items::Memory;
 use gnb_types::names::{Gnb, NodeId, UeId};
@@ -20,7 +20,7 @@ impl MessageCodec for Tokens {
 
     ghost codec = { tokens };
 
-    fn spell(&self, alloc: Global, message: &Message) -> Result<Octets, Memory> {
+    fn encode(&self, alloc: Global, message: &Message) -> Result<Octets, Memory> {
         match message {
             Message::Rrc(Token::Complete { epoch, .. }) => {
                 Octets::from_slice(alloc, &[0x20, 0, (*epoch % 256) as u8])
@@ -42,7 +42,7 @@ impl MessageCodec for Tokens {
         match octets {
             [_] => Ok(Err(DropReason::Criticality)),
             [_, _] => Ok(Ok(Message::F1(F1::F1SetupResponse { instance: 1 }))),
-            [kind, _, epoch] => Ok(heard_mark(*kind, u32::from(*epoch))),
+            [kind, _, epoch] => Ok(received_mark(*kind, u32::from(*epoch))),
             [ue, _, epoch, place] => Ok(Ok(Message::Rrc(Token::Command {
                 ue: UeId(*ue % 16 + 1),
                 epoch: u32::from(*epoch),
@@ -58,8 +58,8 @@ impl MessageCodec for Tokens {
     }
 }
 
-fn heard_mark(kind: u8, epoch: u32) -> Result<Message, DropReason>
-    ensures { answer_as result ≡ heard_mark kind epoch }
+fn received_mark(kind: u8, epoch: u32) -> Result<Message, DropReason>
+    ensures { answer_as result ≡ received_mark kind epoch }
 {
     let ue = UeId(1);
     if kind == 0x60 {

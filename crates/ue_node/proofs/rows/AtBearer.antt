@@ -23,7 +23,7 @@ use Rattle.unit_defs.specs.octet_defs.Units.{OctetAnswer}
 use Rattle.unit_messages.specs.declared.steps.StepError.{StepError}
 use Rattle.unit_messages.specs.declared.steps.StepError.TheVariants as errors
 use Rattle.unit_messages.specs.steps.Steps.{stepped, step_after, IsStep}
-use Rattle.pdcp_bearers.specs.ue_bearers.Uplinks.{used}
+use Rattle.pdcp_bearers.specs.ue_bearers.Senders.{used}
 use Rattle.pdcp_bearers.specs.ue_packets.Bearers.{kept, terminal_of, offered_at, IsOf}
 use Rattle.pdcp_bearers.specs.declared.ue_packets.bearer.Bearer.{Bearer}
 use Rattle.pdcp_bearers.specs.declared.ue_packets.terminal.Terminal.{Terminal}

@@ -16,7 +16,7 @@ use message_types::Token;
 use std::alloc::Global;
 use unit_defs::TokenKind;
 use unit_messages::steps::StepError;
-use unit_messages::{Message, MessageCodec, spelled};
+use unit_messages::{Message, MessageCodec, encoded};
 
 /// The input is ignored for this reason.
 pub fn drop_input(out: &mut Outputs, reason: DropReason) -> Result<(), StepError>
@@ -63,7 +63,7 @@ impl UeRecord {
             return Ok(());
         };
         let message = Message::Rrc(self.token_of(codec, kind));
-        let bytes = spelled(alloc, codec, message)?;
+        let bytes = encoded(alloc, codec, message)?;
         out.push(Output::Control {
             to: home,
             ue: self.plan.ue.0,

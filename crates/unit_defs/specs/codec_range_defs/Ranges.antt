@@ -7,7 +7,7 @@ use Rattle.gnb_types.specs.declared.plans.SnStatus.{SnStatus}
 use Rattle.message_types.specs.declared.e1.E1Message.{E1Message}
 use Rattle.message_types.specs.declared.e1.E1Message.TheVariants as e1s
 use Rattle.unit_defs.specs.Ways.{Message, e1}
-use Rattle.unit_defs.specs.UpBearers.{bits_in}
+use Rattle.unit_defs.specs.CuUpBearers.{bits_in}
 use Rattle.unit_defs.specs.octet_defs.Codec.{Codec}
 
 -- INTEGER (1..8) bearers, and INTEGER (4..4096) blocks of each

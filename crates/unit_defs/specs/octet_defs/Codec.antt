@@ -10,7 +10,7 @@ use Rattle.unit_defs.specs.Ways.{Message, rrc, Way}
 use Rattle.unit_defs.specs.octet_defs.Writing.{pdu_octets}
 
 pub record Codec : Type 0 where
-  pub spell : Message (List ℕ) → List ℕ
+  pub encode : Message (List ℕ) → List ℕ
   -- a message from one node to another, of the interface between them; or why its octets are dropped
   pub read : NodeId → NodeId → List ℕ → Result (Message (List ℕ)) DropReason
   -- the token in a container
@@ -28,8 +28,8 @@ number_in (Some (status_report fmc bitmap)) = None
 -- messages, containers and PDUs are octets
 abbrev pub octet_way : Codec → Way (List ℕ) (List ℕ) (List ℕ)
 octet_way codec = record {
-  spell = codec.spell;
-  wrap = λ token. codec.spell (rrc token);
+  encode = codec.encode;
+  wrap = λ token. codec.encode (rrc token);
   unwrap = codec.read_token;
   pass = λ octets. octets;
   write = pdu_octets;

@@ -26,11 +26,11 @@ use Rattle.pdcp_defs.specs.Counts.{near_count, count_below}
 use Rattle.link_defs.specs.Decoding.{Link, n3 as on_n3, f1u_downlink as on_f1u_downlink, f1u_uplink as on_f1u_uplink, forwarding_down as on_forwarding_down, forwarding_up as on_forwarding_up, Item, fresh, numbered, pdu, framed, poll, status, end_of_tunnel}
 use Rattle.unit_defs.specs.Ways.{Message, Content, packet_content, report_content, Taken, fresh_item, numbered_item, frame_item, uplink_item, status_item, end_item, Input, control_input, packet_input, radio_input, confirm_input, offer_input, tick_input, order_input}
 use Rattle.unit_defs.specs.Messages.{shares_interface}
-use Rattle.unit_defs.specs.UpRecords.{UpBearer, UpContext, TunnelKind, n3, f1u_uplink, forwarding_down, forwarding_up, UpTunnel, CuUp}
+use Rattle.unit_defs.specs.CuUpRecords.{CuUpBearer, CuUpContext, TunnelKind, n3, f1u_uplink, forwarding_down, forwarding_up, CuUpTunnel, CuUp}
 use Rattle.unit_defs.specs.CuUp.{up_node, context_of as up_context_of}
 use Rattle.unit_defs.specs.Du.{DuContext, DuTunnel, Du, du_node, context_of as du_context_of}
 use Rattle.unit_defs.specs.Ue.{UeBearer, UeNode}
-use Rattle.unit_defs.specs.CpRecords.{CuCpRecord}
+use Rattle.unit_defs.specs.CuCpRecords.{CuCpRecord}
 use Rattle.unit_defs.specs.octet_defs.Codec.{Codec}
 
 -- an input of the rows whose messages, containers and PDUs are octets; or why it is dropped
@@ -48,11 +48,11 @@ content_by find_count (status_report fmc bitmap) = report_content fmc (bits_of b
 
 -- ---- the COUNTs that a CU-UP finds, and those that a terminal finds
 
-abbrev pub count_confirmed : SnBits → UpBearer → Option ℕ → Option ℕ
+abbrev pub count_confirmed : SnBits → CuUpBearer → Option ℕ → Option ℕ
 count_confirmed sn b None = None
 count_confirmed sn b (Some number) = count_below sn b.sender.next number
 
-abbrev pub count_forwarded : SnBits → UpBearer → Link → ℕ → Option ℕ
+abbrev pub count_forwarded : SnBits → CuUpBearer → Link → ℕ → Option ℕ
 count_forwarded sn b on_forwarding_down number = count_below sn b.dl_next number
 count_forwarded sn b link number = near_count sn b.receiver.deliv number
 
@@ -66,7 +66,7 @@ count_confirmed_in sn (Some b) number = count_below sn b.sender.next number
 
 -- ---- an item of a tunnel of a CU-UP, and of a DU, which finds no COUNT
 
-abbrev pub up_item : SnBits → UpBearer → Link → Item → Taken (List ℕ)
+abbrev pub up_item : SnBits → CuUpBearer → Link → Item → Taken (List ℕ)
 up_item sn b link (fresh packet) = fresh_item packet
 up_item sn b link (numbered number packet) = numbered_item (count_forwarded sn b link number) packet
 up_item sn b link (pdu content octets) = uplink_item (content_by (near_count sn b.receiver.deliv) content)
@@ -95,11 +95,11 @@ link_of forwarding_up = on_forwarding_up
 
 -- ---- the tunnel of a TEID: its link, and the length of its numbers
 
-abbrev pub up_sn : UpTunnel → Option UpContext → Option (Link × SnBits)
+abbrev pub up_sn : CuUpTunnel → Option CuUpContext → Option (Link × SnBits)
 up_sn t None = None
 up_sn t (Some c) = Some (link_of t.kind, c.sn)
 
-abbrev pub up_link_of : {M C : Type 0} → CuUp M C → Option UpTunnel → Option (Link × SnBits)
+abbrev pub up_link_of : {M C : Type 0} → CuUp M C → Option CuUpTunnel → Option (Link × SnBits)
 up_link_of r None = None
 up_link_of r (Some t) = up_sn t (up_context_of r t.ue)
 
@@ -138,19 +138,19 @@ module _ (codec : Codec) where
 
   -- ---- a CU-UP
 
-  abbrev pub up_item_read : ℕ → SnBits → UpBearer → Link → Option Item → ReadInput
+  abbrev pub up_item_read : ℕ → SnBits → CuUpBearer → Link → Option Item → ReadInput
   up_item_read teid sn b link None = Err Undecodable
   up_item_read teid sn b link (Some item) = Ok (packet_input teid (up_item sn b link item))
 
-  abbrev pub read_up_bearer : ℕ → List ℕ → UpTunnel → UpContext → Option UpBearer → ReadInput
+  abbrev pub read_up_bearer : ℕ → List ℕ → CuUpTunnel → CuUpContext → Option CuUpBearer → ReadInput
   read_up_bearer teid octets t c None = Err NoContext
   read_up_bearer teid octets t c (Some b) = up_item_read teid c.sn b (link_of t.kind) (codec.read_item (link_of t.kind) c.sn octets)
 
-  abbrev pub read_up_context : ℕ → List ℕ → UpTunnel → Option UpContext → ReadInput
+  abbrev pub read_up_context : ℕ → List ℕ → CuUpTunnel → Option CuUpContext → ReadInput
   read_up_context teid octets t None = Err NoContext
   read_up_context teid octets t (Some c) = read_up_bearer teid octets t c (find bearer_cmp c.bearers t.bearer)
 
-  abbrev pub read_up_item : {M C : Type 0} → CuUp M C → ℕ → List ℕ → Option UpTunnel → ReadInput
+  abbrev pub read_up_item : {M C : Type 0} → CuUp M C → ℕ → List ℕ → Option CuUpTunnel → ReadInput
   read_up_item r teid octets None = Err NoTunnel
   read_up_item r teid octets (Some t) = read_up_context teid octets t (up_context_of r t.ue)
 

@@ -28,4 +28,4 @@ with_containers f (rrc token) = rrc token
 
 -- its octets
 abbrev pub spelled : Codec → Message Token → List ℕ
-spelled codec message = codec.spell (with_containers (λ token. codec.spell (rrc token)) message)
+spelled codec message = codec.encode (with_containers (λ token. codec.encode (rrc token)) message)

@@ -5,9 +5,9 @@ use Rattle.gnb_types.specs.declared.names.NodeId.TheVariants.{Core}
 use Rattle.gnb_types.specs.declared.inputs.Input.{Input as OctetInput}
 use Rattle.gnb_types.specs.declared.reasons.DropReason.TheVariants.{Unexpected}
 use Rattle.unit_defs.specs.Ways.{Input, control_input, Answer, drops}
-use Rattle.unit_defs.specs.CpRecords.{CuCpRecord}
+use Rattle.unit_defs.specs.CuCpRecords.{CuCpRecord}
 use Rattle.unit_defs.specs.CuCp.{cu_cp_acts}
-use Rattle.unit_defs.specs.UpRecords.{CuUp}
+use Rattle.unit_defs.specs.CuUpRecords.{CuUp}
 use Rattle.unit_defs.specs.CuUp.{cu_up_acts}
 use Rattle.unit_defs.specs.Du.{Du, du_acts}
 use Rattle.unit_defs.specs.Ue.{UeNode, ue_acts}

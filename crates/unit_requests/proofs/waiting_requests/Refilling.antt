@@ -17,7 +17,7 @@ use Rattle.gnb_types.specs.declared.names.UeId.{UeId}
 use Rattle.tables.specs.Queues.{TakesFirst}
 use Rattle.tables.specs.Tables.{find, put, without, first_entry, IsSorted}
 use Rattle.unit_defs.specs.Transactions.{Waiting}
-use Rattle.unit_defs.specs.CpRecords.{not_awaited, unawaited}
+use Rattle.unit_defs.specs.CuCpRecords.{not_awaited, unawaited}
 use Rattle.unit_defs.specs.octet_defs.Codec.{Codec, octet_way}
 
 abbrev pub Waits : Type 0

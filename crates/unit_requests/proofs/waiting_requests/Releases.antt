@@ -12,7 +12,7 @@ use Rattle.tables.specs.Tables.{find, put, without}
 use Rattle.transaction_defs.specs.Callers.{Caller}
 use Rattle.transaction_defs.specs.Callees.{Callee}
 use Rattle.unit_defs.specs.Transactions.{Waiting, waits_at, with_waiting}
-use Rattle.unit_defs.specs.CuCp.{is_up_release, without_release}
+use Rattle.unit_defs.specs.CuCp.{is_cu_up_release, without_release}
 use Rattle.unit_defs.specs.octet_defs.Codec.{Codec, octet_way}
 use Rattle.unit_requests.specs.Requests.{Kept}
 use Rattle.unit_requests.proofs.Waits.{length_empty, waiting_then-put, without-put}
@@ -26,22 +26,22 @@ module _ (codec : Codec) where
   none_is_first [] none = refl
   none_is_first (w ∷ ws) none = cc
 
-  pub other_is_first : (queue : Waits) (w : Waiting (List ℕ)) → Some w ≡ first_item queue → is_up_release (octet_way codec) w.message ≡ false
+  pub other_is_first : (queue : Waits) (w : Waiting (List ℕ)) → Some w ≡ first_item queue → is_cu_up_release (octet_way codec) w.message ≡ false
       → queue ≡ without_release (octet_way codec) queue
   other_is_first [] w first other = refl
   other_is_first (v ∷ vs) w first other =
       let same : w ≡ v = cc in
-      sym (ap (λ (b : Bool). cond b vs (v ∷ vs)) (ap (λ (u : Waiting (List ℕ)). is_up_release (octet_way codec) u.message) (sym same) ∙ other))
+      sym (ap (λ (b : Bool). cond b vs (v ∷ vs)) (ap (λ (u : Waiting (List ℕ)). is_cu_up_release (octet_way codec) u.message) (sym same) ∙ other))
 
   pub release_is_first : (queue rest : Waits) (w : Waiting (List ℕ)) (taken : Option (Waiting (List ℕ))) → Some w ≡ first_item queue
-      → is_up_release (octet_way codec) w.message ≡ true → TakesFirst queue rest taken → rest ≡ without_release (octet_way codec) queue
+      → is_cu_up_release (octet_way codec) w.message ≡ true → TakesFirst queue rest taken → rest ≡ without_release (octet_way codec) queue
   release_is_first [] rest w taken first release takes = cc
   release_is_first (v ∷ vs) rest w None first release takes = let e = takes.0 in cc
   release_is_first (v ∷ vs) rest w (Some x) first release takes =
       let same : w ≡ v = cc in
       let rest_is : vs ≡ rest = cc in
       sym rest_is
-      ∙ sym (ap (λ (b : Bool). cond b vs (v ∷ vs)) (ap (λ (u : Waiting (List ℕ)). is_up_release (octet_way codec) u.message) (sym same) ∙ release))
+      ∙ sym (ap (λ (b : Bool). cond b vs (v ∷ vs)) (ap (λ (u : Waiting (List ℕ)). is_cu_up_release (octet_way codec) u.message) (sym same) ∙ release))
 
 module _ {K X : Type 0} (R : K → K → Ordering) (k : K) where
   absent_one : (b : Bool) (e : K × X) (es : List (K × X)) → None ≡ cond b (Some e.1) (lookup (is_at (R k)) es)

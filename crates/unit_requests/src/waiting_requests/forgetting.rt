@@ -2,7 +2,7 @@
 
 ghost use Rattle.std.specs.Prelude.{◌≡◌, map, IfOk, OnOk};
 ghost use Rattle.tables.specs.Queues.{TakesFirst};
-ghost use Rattle.unit_defs.specs.CpRecords.{not_awaited, unawaited, forgotten};
+ghost use Rattle.unit_defs.specs.CuCpRecords.{not_awaited, unawaited, forgotten};
 ghost use Rattle.unit_defs.specs.octet_defs.Codec.{Codec, octet_way};
 
 use crate::{Requests, Waiting};

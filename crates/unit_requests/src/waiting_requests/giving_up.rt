@@ -2,7 +2,7 @@
 
 ghost use Rattle.std.specs.Prelude.{◌≡◌};
 ghost use Rattle.unit_defs.specs.Transactions.{waits_at, with_waiting};
-ghost use Rattle.unit_defs.specs.CuCp.{is_up_release, without_release};
+ghost use Rattle.unit_defs.specs.CuCp.{is_cu_up_release, without_release};
 ghost use Rattle.unit_defs.specs.octet_defs.Codec.{Codec, octet_way};
 ghost use Rattle.unit_messages.specs.Messages.{message_as};
 
@@ -12,9 +12,9 @@ use message_types::E1Message;
 use tables::queue::Queue;
 use unit_messages::Message;
 
-fn is_up_release(message: &Message) -> bool
+fn is_cu_up_release(message: &Message) -> bool
     ensures { (codec : Codec) → result
-        ≡ is_up_release (octet_way codec) (message_as message.now) }
+        ≡ is_cu_up_release (octet_way codec) (message_as message.now) }
 {
     match message {
         Message::E1(E1Message::BearerContextReleaseCommand { .. }) => true,
@@ -37,9 +37,9 @@ fn is_up_release(message: &Message) -> bool
 }
 
 fn is_release(waiting: &Waiting) -> bool
-    ensures { (codec : Codec) → result ≡ is_up_release (octet_way codec) waiting.now.message }
+    ensures { (codec : Codec) → result ≡ is_cu_up_release (octet_way codec) waiting.now.message }
 {
-    is_up_release(&waiting.message)
+    is_cu_up_release(&waiting.message)
 }
 
 /// The release that waits first, if one does, is given up.

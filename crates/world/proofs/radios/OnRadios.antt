@@ -15,12 +15,12 @@ use Rattle.run_defs.specs.Steps.{is_done, is_held, is_refused}
 use Rattle.run_defs.specs.Conditions.{epoch_of, ready_home, receiver_of}
 use Rattle.run_defs.specs.Events.{carry_done, confirm_done}
 use Rattle.run_defs.specs.Settling.{Turn, to_acks, to_airs, after_air, after_ack, aired_by, air_next, acked_by, turn_over, ack_next, turn_at, turn_step}
-use Rattle.run_links.specs.Grounds.{Octets, OctetState, OctetWorld, OctetOutcome}
+use Rattle.run_links.specs.Networks.{Octets, OctetState, OctetWorld, OctetOutcome}
 use Rattle.world_steps.specs.declared.cause.Cause.{Cause}
 use Rattle.world_steps.specs.declared.asked.Moved.TheVariants as moves
 use Rattle.world_steps.specs.declared.asked.Moved.{Moved}
 use Rattle.world_steps.specs.Gives.{EventGives, stop_by}
-use Rattle.world_steps.specs.Moves.{OctetDone, Moves, DoneGives}
+use Rattle.world_steps.specs.Moves.{OctetDone, Moves, StepOutcome}
 use Rattle.world_steps.proofs.Following.{first_stops, nothing_more}
 use Rattle.world_steps.proofs.Shown.{shows_held}
 use Rattle.world.specs.turns.Turns.{Continues, quiet_lines}
@@ -60,7 +60,7 @@ module _ (world : OctetWorld) (again : Turn → OctetState → OctetOutcome) (tu
   aired_so (is_refused reason) (moves.Holds r) before middle lines h e = absurd h
 
   aired_stops : (done : OctetDone) (cause : Cause) (before lines : List OutLine)
-      → DoneGives done (record { state = s; lines = before }) (record { state = t; lines = lines }) (Err cause)
+      → StepOutcome done (record { state = s; lines = before }) (record { state = t; lines = lines }) (Err cause)
       → EventGives before (aired_by world again turn home s done) lines t (Err cause)
   aired_stops (is_done o) cause before lines h =
       first_stops o (again (after_air turn)) before lines t t cause (made_stops o s t (stop_by cause) before lines h)
@@ -85,7 +85,7 @@ module _ (world : OctetWorld) (again : Turn → OctetState → OctetOutcome) (tu
 
   abbrev pub AirsOldest : Option (Item Octets) → List OutLine → List OutLine → Result Moved Cause → Type 0
   AirsOldest there before lines result = (item : Item Octets) → there ≡ Some item
-      → DoneGives (carry_done world turn.key home item s) (record { state = s; lines = before }) (record { state = t; lines = lines }) result
+      → StepOutcome (carry_done world turn.key home item s) (record { state = s; lines = before }) (record { state = t; lines = lines }) result
 
   -- of a relation of what the turn makes of the item that stands there
   airs_on : (P : OctetOutcome → Type 0) (there : Option (Item Octets)) (shown : Item Octets) → Some shown ≡ there → (turn.airs == 0) ≡ false
@@ -127,7 +127,7 @@ module _ (world : OctetWorld) (again : Turn → OctetState → OctetOutcome) (tu
   acked_goes (is_refused reason) (moves.Holds r) before lines h = absurd h
 
   acked_stops : (done : OctetDone) (cause : Cause) (before lines : List OutLine)
-      → DoneGives done (record { state = s; lines = before }) (record { state = t; lines = lines }) (Err cause)
+      → StepOutcome done (record { state = s; lines = before }) (record { state = t; lines = lines }) (Err cause)
       → EventGives before (acked_by world again turn s done) lines t (Err cause)
   acked_stops (is_done o) cause before lines h =
       first_stops o (again (after_ack turn)) before lines t t cause (made_stops o s t (stop_by cause) before lines h)
@@ -179,7 +179,7 @@ module _ (world : OctetWorld) (again : Turn → OctetState → OctetOutcome) (tu
 
   abbrev pub AcksOldest : List (Item Octets) → ℕ → List OutLine → List OutLine → Result Moved Cause → Type 0
   AcksOldest items carried before lines result = (item : Item Octets) (rest : List (Item Octets)) → items ≡ item ∷ rest → (carried == 0) ≡ false
-      → DoneGives (confirm_done world turn.key home item rest s) (record { state = s; lines = before }) (record { state = t; lines = lines }) result
+      → StepOutcome (confirm_done world turn.key home item rest s) (record { state = s; lines = before }) (record { state = t; lines = lines }) result
 
   acks_on : (P : OctetOutcome → Type 0) (items : List (Item Octets)) (carried : ℕ) (shown : Item Octets) → Some shown ≡ oldest_of items carried
       → (turn.acks == 0) ≡ false

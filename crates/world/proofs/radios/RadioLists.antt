@@ -11,7 +11,7 @@ use Rattle.gnb_types.specs.declared.plans.Plan.{Plan}
 use Rattle.run_defs.specs.States.{entity}
 use Rattle.run_defs.specs.Steps.{bearer_numbers, entities_of}
 use Rattle.run_defs.specs.Settling.{bearers_of, radio_turn, all_radios}
-use Rattle.run_links.specs.Grounds.{OctetState, OctetWorld}
+use Rattle.run_links.specs.Networks.{OctetState, OctetWorld}
 use Rattle.run_links.specs.Spans.{both_of}
 use Rattle.world.proofs.turns.Lists.{next_same, next_next}
 use Rattle.world.specs.radios.RadioTurns.{turned, both_turns, bearer_turns}

@@ -7,7 +7,7 @@ use Rattle.run_defs.specs.Lines.{RunLine, has_not_settled}
 use Rattle.run_defs.specs.Printing.{out_line}
 use Rattle.run_defs.specs.States.{◌next◌, prints}
 use Rattle.run_defs.specs.Settling.{all_quiet, ask_lines, settled, round, rounds_from}
-use Rattle.run_links.specs.Grounds.{Octets, OctetState, OctetWorld, OctetOutcome}
+use Rattle.run_links.specs.Networks.{Octets, OctetState, OctetWorld, OctetOutcome}
 use Rattle.run_links.specs.Told.{printed, EndsAt}
 use Rattle.world_steps.specs.declared.cause.Cause.{Cause}
 use Rattle.world_steps.specs.Gives.{EventGives}

@@ -10,7 +10,7 @@ use Rattle.gnb_types.specs.declared.plans.Plan.{Plan}
 use Rattle.run_defs.specs.States.{entity}
 use Rattle.run_defs.specs.Steps.{entities_of}
 use Rattle.run_defs.specs.Settling.{bearers_of, undelivered}
-use Rattle.run_links.specs.Grounds.{OctetState, OctetWorld}
+use Rattle.run_links.specs.Networks.{OctetState, OctetWorld}
 use Rattle.world.proofs.radios.RadioLists.{entities, entities_are}
 use Rattle.world.specs.settling.Bearers.{undelivered_of}
 

@@ -8,7 +8,7 @@ use Rattle.run_defs.specs.Printing.{out_line}
 use Rattle.run_defs.specs.States.{entity}
 use Rattle.run_defs.specs.Conditions.{rests, ask_line}
 use Rattle.run_defs.specs.Settling.{undelivered}
-use Rattle.run_links.specs.Grounds.{OctetState, OctetWorld}
+use Rattle.run_links.specs.Networks.{OctetState, OctetWorld}
 use Rattle.run_links.specs.Told.{printed}
 use Rattle.world.specs.settling.Bearers.{are_quiet, lines_of, undelivered_of}
 

@@ -3,7 +3,7 @@ use Rattle.std.proofs.Common.{List}
 use Rattle.std.specs.Prelude.{Result, Ok, Err}
 use Rattle.scenario_text.specs.declared.line.OutLine.{OutLine}
 use Rattle.run_defs.specs.States.{◌next◌}
-use Rattle.run_links.specs.Grounds.{OctetState, OctetOutcome}
+use Rattle.run_links.specs.Networks.{OctetState, OctetOutcome}
 use Rattle.run_links.specs.Told.{EndsAt}
 use Rattle.world_steps.specs.declared.cause.Cause.{Cause}
 use Rattle.world_steps.specs.Gives.{EventGives}

@@ -8,7 +8,7 @@ use Rattle.run_defs.specs.States.{Ending, goes, stops, told_before, ◌next◌}
 use Rattle.run_defs.specs.Steps.{bearer_numbers}
 use Rattle.run_defs.specs.Conditions.{state_at}
 use Rattle.run_defs.specs.Settling.{bearers_of, move_by, move_each}
-use Rattle.run_links.specs.Grounds.{OctetState, OctetWorld}
+use Rattle.run_links.specs.Networks.{OctetState, OctetWorld}
 use Rattle.world.specs.turns.Turns.{bearers_to, bearers_there, terminals_there, move_terminals}
 
 -- ---- one part after another

@@ -14,13 +14,13 @@ use Rattle.run_defs.specs.States.{goes_on}
 use Rattle.run_defs.specs.Steps.{is_done, is_held, is_refused}
 use Rattle.run_defs.specs.Events.{get_done}
 use Rattle.run_defs.specs.Settling.{got_in_turn, get_items, tunnel_turn, tunnels_from}
-use Rattle.run_links.specs.Grounds.{Octets, OctetState, OctetWorld, OctetOutcome}
+use Rattle.run_links.specs.Networks.{Octets, OctetState, OctetWorld, OctetOutcome}
 use Rattle.run_links.specs.Told.{oldest_in, EndsAt}
 use Rattle.world_steps.specs.declared.cause.Cause.{Cause}
 use Rattle.world_steps.specs.declared.asked.Moved.TheVariants as moves
 use Rattle.world_steps.specs.declared.asked.Moved.{Moved}
 use Rattle.world_steps.specs.Gives.{EventGives, stop_by}
-use Rattle.world_steps.specs.Moves.{OctetDone, Moves, DoneGives}
+use Rattle.world_steps.specs.Moves.{OctetDone, Moves, StepOutcome}
 use Rattle.world_steps.proofs.Following.{first_stops, nothing_more}
 use Rattle.world_steps.proofs.Shown.{shows_held}
 use Rattle.world.specs.turns.Turns.{Continues, PartGives, is_made, quiet_lines}
@@ -46,7 +46,7 @@ module _ (world : OctetWorld) (end : TunnelEnd) (more : OctetState → OctetOutc
   got_so (is_refused reason) (moves.Holds r) before middle lines h e = absurd h
 
   got_stops : (done : OctetDone) (cause : Cause) (before lines : List OutLine)
-      → DoneGives done (record { state = s; lines = before }) (record { state = t; lines = lines }) (Err cause)
+      → StepOutcome done (record { state = s; lines = before }) (record { state = t; lines = lines }) (Err cause)
       → EventGives before (got_in_turn world end more s done) lines t (Err cause)
   got_stops (is_done o) cause before lines h = first_stops o more before lines t t cause (made_stops o s t (stop_by cause) before lines h)
   got_stops (is_held reason) cause before lines h =
@@ -58,7 +58,7 @@ module _ (world : OctetWorld) (end : TunnelEnd) (more : OctetState → OctetOutc
 
   abbrev pub GetsOldest : List OutLine → List OutLine → Result Moved Cause → Type 0
   GetsOldest before lines result = (item : Item Octets) (rest : List (Item Octets)) → find tunnel_cmp s.tunnels end ≡ Some (item ∷ rest)
-      → DoneGives (get_done world end item rest s) (record { state = s; lines = before }) (record { state = t; lines = lines }) result
+      → StepOutcome (get_done world end item rest s) (record { state = s; lines = before }) (record { state = t; lines = lines }) result
 
   -- of a relation of what the turn makes of the items that stand there
   module _ (P : OctetOutcome → Type 0) where

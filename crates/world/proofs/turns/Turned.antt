@@ -9,13 +9,13 @@ use Rattle.scenario_text.specs.declared.line.OutLine.{OutLine}
 use Rattle.run_defs.specs.States.{Stop, ◌next◌, goes_on}
 use Rattle.run_defs.specs.Steps.{is_done, is_held, is_refused}
 use Rattle.run_defs.specs.Settling.{quietly_by}
-use Rattle.run_links.specs.Grounds.{OctetState, OctetWorld, OctetOutcome}
+use Rattle.run_links.specs.Networks.{OctetState, OctetWorld, OctetOutcome}
 use Rattle.run_links.specs.Told.{EndsAt}
 use Rattle.world_steps.specs.declared.cause.Cause.{Cause}
 use Rattle.world_steps.specs.declared.asked.Moved.{Moved}
 use Rattle.world_steps.specs.declared.asked.Moved.TheVariants as moves
 use Rattle.world_steps.specs.Gives.{EventStops, EventGives, stop_by}
-use Rattle.world_steps.specs.Moves.{OctetDone, At, Moves, DoneStops, DoneGives}
+use Rattle.world_steps.specs.Moves.{OctetDone, RunPoint, Moves, DoneStops, StepOutcome}
 use Rattle.world_steps.proofs.Following.{then_event, first_stops, nothing_more}
 use Rattle.world.specs.turns.Turns.{Continues}
 
@@ -56,16 +56,16 @@ module _ {X : Type 0} (f : X → OctetState → OctetOutcome) (each : List X →
 
 -- ---- a step that was made, held or refused
 
-abbrev pub stands_at : OctetState → List OutLine → At
+abbrev pub stands_at : OctetState → List OutLine → RunPoint
 stands_at s lines = record { state = s; lines = lines }
 
 pub is_same : (P : List OutLine → OctetState → Type 0) (s t : OctetState) (before lines : List OutLine)
     → stands_at t lines ≡ stands_at s before → P before s → P lines t
-is_same P s t before lines e p = subst (λ (a : At). P a.lines a.state) (sym e) p
+is_same P s t before lines e p = subst (λ (a : RunPoint). P a.lines a.state) (sym e) p
 
 pub same_from : (P : List OutLine → OctetState → Type 0) (s t : OctetState) (before lines : List OutLine)
     → stands_at t lines ≡ stands_at s before → P lines t → P before s
-same_from P s t before lines e p = subst (λ (a : At). P a.lines a.state) e p
+same_from P s t before lines e p = subst (λ (a : RunPoint). P a.lines a.state) e p
 
 pub made_stops : (o : OctetOutcome) (s t : OctetState) (why : Option Stop) (before lines : List OutLine)
     → DoneStops (is_done o) (record { state = s; lines = before }) (record { state = t; lines = lines }) why → EventStops before o lines why
@@ -107,7 +107,7 @@ quietly_moves world s t (is_refused reason) moves.Done before lines h = absurd h
 quietly_moves world s t (is_refused reason) (moves.Holds r) before lines h = absurd h
 
 pub quietly_stops : (world : OctetWorld) (s t : OctetState) (done : OctetDone) (cause : Cause) (before lines : List OutLine)
-    → DoneGives done (record { state = s; lines = before }) (record { state = t; lines = lines }) (Err cause)
+    → StepOutcome done (record { state = s; lines = before }) (record { state = t; lines = lines }) (Err cause)
     → EventGives before (quietly_by world s done) lines t (Err cause)
 quietly_stops world s t (is_done o) cause before lines h = made_stops o s t (stop_by cause) before lines h
 quietly_stops world s t (is_held reason) cause before lines h = held_never_stops reason (goes_on s) s t (stop_by cause) before lines h

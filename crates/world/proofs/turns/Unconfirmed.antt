@@ -7,15 +7,15 @@ use Rattle.gnb_types.specs.declared.names.UeId.{UeId}
 use Rattle.gnb_types.specs.declared.names.BearerId.{BearerId}
 use Rattle.gnb_types.specs.Orders.{node_cmp}
 use Rattle.tables.specs.Tables.{find, at}
-use Rattle.unit_defs.specs.UpRecords.{CuUp as CuUpRecord}
+use Rattle.unit_defs.specs.CuUpRecords.{CuUp as CuUpRecord}
 use Rattle.unit_defs.specs.CuUp.{new_cu_up}
 use Rattle.unit_defs.specs.Accessors.{is_unconfirmed}
-use Rattle.run_defs.specs.Units.{up_of}
+use Rattle.run_defs.specs.Units.{cu_up_of}
 use Rattle.run_defs.specs.UnitRuns.{Records}
-use Rattle.run_links.specs.Grounds.{Octets}
+use Rattle.run_links.specs.Networks.{Octets}
 
 pub unconfirmed_there : (r : Records) (gnb : Gnb) (number : ℕ) (ue : UeId) (bearer : BearerId)
-    → true ≡ is_unconfirmed (up_of r gnb number) ue bearer → is_some (find node_cmp r.ups (CuUp gnb number)) ≡ true
+    → true ≡ is_unconfirmed (cu_up_of r gnb number) ue bearer → is_some (find node_cmp r.ups (CuUp gnb number)) ≡ true
 unfolding at find
 unconfirmed_there r gnb number ue bearer h = by (find node_cmp r.ups (CuUp gnb number)) h
   where

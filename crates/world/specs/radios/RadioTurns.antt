@@ -8,7 +8,7 @@ use Rattle.gnb_types.specs.declared.keys.EntityKey.{EntityKey}
 use Rattle.scenario_text.specs.declared.line.OutLine.{OutLine}
 use Rattle.run_defs.specs.States.{◌next◌, goes_on, entity}
 use Rattle.run_defs.specs.Settling.{Turn, to_acks, to_airs, after_air, radio_turn}
-use Rattle.run_links.specs.Grounds.{OctetState, OctetWorld, OctetOutcome}
+use Rattle.run_links.specs.Networks.{OctetState, OctetWorld, OctetOutcome}
 use Rattle.world_steps.specs.declared.cause.Cause.{Cause}
 use Rattle.world_steps.specs.declared.asked.Moved.{Moved}
 use Rattle.world_steps.specs.Gives.{EventGives}

@@ -8,7 +8,7 @@ use Rattle.run_defs.specs.Lines.{RunLine}
 use Rattle.run_defs.specs.States.{entity}
 use Rattle.run_defs.specs.Conditions.{rests, ask_line}
 use Rattle.run_defs.specs.Settling.{undelivered}
-use Rattle.run_links.specs.Grounds.{Octets, OctetState, OctetWorld}
+use Rattle.run_links.specs.Networks.{Octets, OctetState, OctetWorld}
 
 abbrev pub are_quiet : OctetState → List (UeId × BearerId) → Bool
 are_quiet s bearers = list_all (λ e. rests s e.0 e.1) bearers

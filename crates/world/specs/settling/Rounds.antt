@@ -4,7 +4,7 @@ use Rattle.run_defs.specs.Lines.{RunLine, has_settled, has_not_settled}
 use Rattle.run_defs.specs.States.{◌next◌, prints}
 use Rattle.run_defs.specs.Events.{pump}
 use Rattle.run_defs.specs.Settling.{attached_plans, attached_entities, attached_bearers, move_each, all_tunnels, all_radios, poll_each, ask_lines}
-use Rattle.run_links.specs.Grounds.{Octets, OctetState, OctetWorld, OctetOutcome}
+use Rattle.run_links.specs.Networks.{Octets, OctetState, OctetWorld, OctetOutcome}
 
 abbrev pub opening : OctetWorld → OctetState → OctetOutcome
 opening world s = move_each world (attached_plans s) s next pump world next all_tunnels world

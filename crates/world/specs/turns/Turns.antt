@@ -10,7 +10,7 @@ use Rattle.run_defs.specs.States.{◌next◌, goes_on}
 use Rattle.run_defs.specs.Steps.{bearer_numbers}
 use Rattle.run_defs.specs.Conditions.{state_at}
 use Rattle.run_defs.specs.Settling.{move_by}
-use Rattle.run_links.specs.Grounds.{OctetState, OctetWorld, OctetOutcome}
+use Rattle.run_links.specs.Networks.{OctetState, OctetWorld, OctetOutcome}
 use Rattle.world_steps.specs.declared.cause.Cause.{Cause}
 use Rattle.world_steps.specs.declared.asked.Moved.{Moved}
 use Rattle.world_steps.specs.declared.asked.Moved.TheVariants as moves

@@ -7,7 +7,7 @@ ghost use Rattle.tables.specs.Tables.{at};
 ghost use Rattle.transport_defs.specs.Links.{nth, silent};
 ghost use Rattle.run_defs.specs.Settling.{Turn as RunTurn, air_next, ack_next, turn_step, turn_times, all_radios, attached_entities};
 ghost use Rattle.run_defs.specs.UnitRuns.{unit_world};
-ghost use Rattle.run_links.specs.Grounds.{OctetState, OctetOutcome, state_of};
+ghost use Rattle.run_links.specs.Networks.{OctetState, OctetOutcome, state_of};
 ghost use Rattle.world_steps.specs.Gives.{EventGives};
 ghost use Rattle.world.specs.radios.RadioTurns.{TurnGives, turn_of, left_of, turned, both_turns, bearer_turns};
 
@@ -22,34 +22,34 @@ use unit_messages::MessageCodec;
 use world_steps::Units;
 use world_steps::cause::Cause;
 use world_steps::packets::radio::{ack_item, air_item};
-use world_steps::parts::Parts;
+use world_steps::run_state::RunState;
 
 /// How much more often than items stood on it a radio may be aired, and acknowledged.
 const FURTHER_TURNS: u64 = 4096;
 
 /// An item of a radio's turn is carried, where one can be. The answer is what is left of the turn, if anything.
 fn air_next<U: Units<C> + Drop, C: MessageCodec + Drop>(
-    parts: &mut Parts<U, C>,
+    run_state: &mut RunState<U, C>,
     turn: Turn,
     home: NodeId,
     lines: &mut Lines,
 ) -> Result<Option<Turn>, Cause>
-    requires { U.ready parts.old.units }
-    ensures ready { OnOk result (U.ready parts.new.units) }
+    requires { U.ready run_state.old.units }
+    ensures ready { OnOk result (U.ready run_state.new.units) }
     ensures gives { (again : RunTurn → OctetState → OctetOutcome) → TurnGives lines.old
-        (air_next (unit_world C.codec U.answer) again (turn_of turn) home (state_of (U.records parts.old.units) parts.old.core parts.old.ground)
-        (nth (at entity_cmp silent parts.old.ground.radios.radios turn.key).items (at entity_cmp silent parts.old.ground.radios.radios turn.key).carried))
-        again lines.new (state_of (U.records parts.new.units) parts.new.core parts.new.ground) (left_of result) }
+        (air_next (unit_world C.codec U.answer) again (turn_of turn) home (state_of (U.records run_state.old.units) run_state.old.core run_state.old.network)
+        (nth (at entity_cmp silent run_state.old.network.radios.radios turn.key).items (at entity_cmp silent run_state.old.network.radios.radios turn.key).carried))
+        again lines.new (state_of (U.records run_state.new.units) run_state.new.core run_state.new.network) (left_of result) }
 {
     let left = turn.to_acks();
     if turn.airs == 0 {
         return Ok(Some(left));
     }
-    if let None = parts.ground.uncarried(turn.key) {
+    if let None = run_state.network.uncarried(turn.key) {
         return Ok(Some(left));
     }
-    let link = radio_link(turn.key, parts.ground.shown_epoch(turn.key.ue));
-    let moved = match air_item(parts, turn.key, home, lines) {
+    let link = radio_link(turn.key, run_state.network.shown_epoch(turn.key.ue));
+    let moved = match air_item(run_state, turn.key, home, lines) {
         Ok(moved) => moved,
         Err(cause) => return Err(cause),
     };
@@ -59,30 +59,30 @@ fn air_next<U: Units<C> + Drop, C: MessageCodec + Drop>(
 
 /// An item of a radio's turn is confirmed, where one can be. The answer is what is left of the turn, if anything.
 fn ack_next<U: Units<C> + Drop, C: MessageCodec + Drop>(
-    parts: &mut Parts<U, C>,
+    run_state: &mut RunState<U, C>,
     turn: Turn,
     home: NodeId,
     lines: &mut Lines,
 ) -> Result<Option<Turn>, Cause>
-    requires { U.ready parts.old.units }
-    ensures ready { OnOk result (U.ready parts.new.units) }
+    requires { U.ready run_state.old.units }
+    ensures ready { OnOk result (U.ready run_state.new.units) }
     ensures gives { (again : RunTurn → OctetState → OctetOutcome) → TurnGives lines.old
-        (ack_next (unit_world C.codec U.answer) again (turn_of turn) home (state_of (U.records parts.old.units) parts.old.core parts.old.ground)
-        (at entity_cmp silent parts.old.ground.radios.radios turn.key).items (at entity_cmp silent parts.old.ground.radios.radios turn.key).carried)
-        again lines.new (state_of (U.records parts.new.units) parts.new.core parts.new.ground) (left_of result) }
+        (ack_next (unit_world C.codec U.answer) again (turn_of turn) home (state_of (U.records run_state.old.units) run_state.old.core run_state.old.network)
+        (at entity_cmp silent run_state.old.network.radios.radios turn.key).items (at entity_cmp silent run_state.old.network.radios.radios turn.key).carried)
+        again lines.new (state_of (U.records run_state.new.units) run_state.new.core run_state.new.network) (left_of result) }
 {
     let EntityKey { ue, bearer, dir } = turn.key;
-    if parts.ground.radios.length(ue, bearer, dir) == 0 {
+    if run_state.network.radios.length(ue, bearer, dir) == 0 {
         return Ok(None);
     }
     let left = turn.over();
     if turn.acks == 0 {
         return Ok(left);
     }
-    if let None = parts.ground.carried(turn.key) {
+    if let None = run_state.network.carried(turn.key) {
         return Ok(left);
     }
-    match ack_item(parts, turn.key, home, lines) {
+    match ack_item(run_state, turn.key, home, lines) {
         Ok(_) => Ok(Some(turn.after_ack())),
         Err(cause) => Err(cause),
     }
@@ -90,42 +90,42 @@ fn ack_next<U: Units<C> + Drop, C: MessageCodec + Drop>(
 
 /// One part of a radio's turn. A radio that is no longer ready has had its turn.
 fn turn_step<U: Units<C> + Drop, C: MessageCodec + Drop>(
-    parts: &mut Parts<U, C>,
+    run_state: &mut RunState<U, C>,
     turn: Turn,
     lines: &mut Lines,
 ) -> Result<Option<Turn>, Cause>
-    requires { U.ready parts.old.units }
-    ensures ready { OnOk result (U.ready parts.new.units) }
+    requires { U.ready run_state.old.units }
+    ensures ready { OnOk result (U.ready run_state.new.units) }
     ensures gives { (again : RunTurn → OctetState → OctetOutcome) → TurnGives lines.old
-        (turn_step (unit_world C.codec U.answer) again (turn_of turn) (state_of (U.records parts.old.units) parts.old.core parts.old.ground))
-        again lines.new (state_of (U.records parts.new.units) parts.new.core parts.new.ground) (left_of result) }
+        (turn_step (unit_world C.codec U.answer) again (turn_of turn) (state_of (U.records run_state.old.units) run_state.old.core run_state.old.network))
+        again lines.new (state_of (U.records run_state.new.units) run_state.new.core run_state.new.network) (left_of result) }
 {
-    let Some(home) = parts.ready_home(turn.key.ue) else {
+    let Some(home) = run_state.ready_home(turn.key.ue) else {
         return Ok(None);
     };
     if turn.airing {
-        air_next(parts, turn, home, lines)
+        air_next(run_state, turn, home, lines)
     } else {
-        ack_next(parts, turn, home, lines)
+        ack_next(run_state, turn, home, lines)
     }
 }
 
 /// At most so many parts of a radio's turn.
 fn turn_times<U: Units<C> + Drop, C: MessageCodec + Drop>(
-    parts: &mut Parts<U, C>,
+    run_state: &mut RunState<U, C>,
     turn: Turn,
     times: u64,
     lines: &mut Lines,
 ) -> Result<(), Cause>
-    requires { U.ready parts.old.units }
-    ensures ready { OnOk result (U.ready parts.new.units) }
+    requires { U.ready run_state.old.units }
+    ensures ready { OnOk result (U.ready run_state.new.units) }
     ensures gives { EventGives lines.old
-        (turn_times (unit_world C.codec U.answer) times (turn_of turn) (state_of (U.records parts.old.units) parts.old.core parts.old.ground))
-        lines.new (state_of (U.records parts.new.units) parts.new.core parts.new.ground) result }
+        (turn_times (unit_world C.codec U.answer) times (turn_of turn) (state_of (U.records run_state.old.units) run_state.old.core run_state.old.network))
+        lines.new (state_of (U.records run_state.new.units) run_state.new.core run_state.new.network) result }
 {
     let mut left = turn;
     for _ in 0..times {
-        match turn_step(parts, left, lines) {
+        match turn_step(run_state, left, lines) {
             Ok(Some(next)) => left = next,
             Ok(None) => return Ok(()),
             Err(cause) => return Err(cause),
@@ -141,24 +141,24 @@ fn radio_parts(items: u64) -> Result<(u64, u64), Memory>
 {
     // So many items don't fit the memory.
     let most = items.checked_add(FURTHER_TURNS).ok_or(Memory::too_many())?;
-    let parts = most.checked_mul(6).ok_or(Memory::too_many())?;
-    let parts = parts.checked_add(2).ok_or(Memory::too_many())?;
-    Ok((most, parts))
+    let run_state = most.checked_mul(6).ok_or(Memory::too_many())?;
+    let run_state = run_state.checked_add(2).ok_or(Memory::too_many())?;
+    Ok((most, run_state))
 }
 
 /// The turn of a radio.
 fn radio_turn<U: Units<C> + Drop, C: MessageCodec + Drop>(
-    parts: &mut Parts<U, C>,
+    run_state: &mut RunState<U, C>,
     key: EntityKey,
     lines: &mut Lines,
 ) -> Result<(), Cause>
-    requires { U.ready parts.old.units }
-    ensures ready { OnOk result (U.ready parts.new.units) }
+    requires { U.ready run_state.old.units }
+    ensures ready { OnOk result (U.ready run_state.new.units) }
     ensures gives { EventGives lines.old
-        (turned (unit_world C.codec U.answer) key (state_of (U.records parts.old.units) parts.old.core parts.old.ground))
-        lines.new (state_of (U.records parts.new.units) parts.new.core parts.new.ground) result }
+        (turned (unit_world C.codec U.answer) key (state_of (U.records run_state.old.units) run_state.old.core run_state.old.network))
+        lines.new (state_of (U.records run_state.new.units) run_state.new.core run_state.new.network) result }
 {
-    let (most, times) = radio_parts(parts.ground.radios.length(key.ue, key.bearer, key.dir))?;
+    let (most, times) = radio_parts(run_state.network.radios.length(key.ue, key.bearer, key.dir))?;
     let turn = Turn {
         key,
         airs: most,
@@ -166,21 +166,21 @@ fn radio_turn<U: Units<C> + Drop, C: MessageCodec + Drop>(
         airing: true,
         moved: false,
     };
-    turn_times(parts, turn, times, lines)
+    turn_times(run_state, turn, times, lines)
 }
 
 /// The turns of the radios of a bearer: downlink, and uplink.
 fn both_turns<U: Units<C> + Drop, C: MessageCodec + Drop>(
-    parts: &mut Parts<U, C>,
+    run_state: &mut RunState<U, C>,
     ue: UeId,
     bearer: BearerId,
     lines: &mut Lines,
 ) -> Result<(), Cause>
-    requires { U.ready parts.old.units }
-    ensures ready { OnOk result (U.ready parts.new.units) }
+    requires { U.ready run_state.old.units }
+    ensures ready { OnOk result (U.ready run_state.new.units) }
     ensures gives { EventGives lines.old
-        (both_turns (unit_world C.codec U.answer) ue bearer (state_of (U.records parts.old.units) parts.old.core parts.old.ground))
-        lines.new (state_of (U.records parts.new.units) parts.new.core parts.new.ground) result }
+        (both_turns (unit_world C.codec U.answer) ue bearer (state_of (U.records run_state.old.units) run_state.old.core run_state.old.network))
+        lines.new (state_of (U.records run_state.new.units) run_state.new.core run_state.new.network) result }
 {
     let downlink = EntityKey {
         ue,
@@ -192,26 +192,26 @@ fn both_turns<U: Units<C> + Drop, C: MessageCodec + Drop>(
         bearer,
         dir: Dir::Ul,
     };
-    match radio_turn(parts, downlink, lines) {
-        Ok(()) => radio_turn(parts, uplink, lines),
+    match radio_turn(run_state, downlink, lines) {
+        Ok(()) => radio_turn(run_state, uplink, lines),
         Err(cause) => Err(cause),
     }
 }
 
 /// The same of each of these bearers, in order.
 fn bearer_turns<U: Units<C> + Drop, C: MessageCodec + Drop>(
-    parts: &mut Parts<U, C>,
+    run_state: &mut RunState<U, C>,
     bearers: &[(UeId, BearerId)],
     lines: &mut Lines,
 ) -> Result<(), Cause>
-    requires { U.ready parts.old.units }
-    ensures ready { OnOk result (U.ready parts.new.units) }
+    requires { U.ready run_state.old.units }
+    ensures ready { OnOk result (U.ready run_state.new.units) }
     ensures gives { EventGives lines.old
-        (bearer_turns (unit_world C.codec U.answer) bearers.now (state_of (U.records parts.old.units) parts.old.core parts.old.ground))
-        lines.new (state_of (U.records parts.new.units) parts.new.core parts.new.ground) result }
+        (bearer_turns (unit_world C.codec U.answer) bearers.now (state_of (U.records run_state.old.units) run_state.old.core run_state.old.network))
+        lines.new (state_of (U.records run_state.new.units) run_state.new.core run_state.new.network) result }
 {
     for (ue, bearer) in bearers {
-        match both_turns(parts, *ue, *bearer, lines) {
+        match both_turns(run_state, *ue, *bearer, lines) {
             Ok(()) => {}
             Err(cause) => return Err(cause),
         }
@@ -221,16 +221,16 @@ fn bearer_turns<U: Units<C> + Drop, C: MessageCodec + Drop>(
 
 /// Each radio of an attached terminal has its turn.
 pub fn all_radios<U: Units<C> + Drop, C: MessageCodec + Drop>(
-    parts: &mut Parts<U, C>,
+    run_state: &mut RunState<U, C>,
     lines: &mut Lines,
 ) -> Result<(), Cause>
-    requires { U.ready parts.old.units }
-    ensures ready { OnOk result (U.ready parts.new.units) }
+    requires { U.ready run_state.old.units }
+    ensures ready { OnOk result (U.ready run_state.new.units) }
     ensures gives { EventGives lines.old
-        (all_radios (unit_world C.codec U.answer) (attached_entities (state_of (U.records parts.old.units) parts.old.core parts.old.ground))
-        (state_of (U.records parts.old.units) parts.old.core parts.old.ground))
-        lines.new (state_of (U.records parts.new.units) parts.new.core parts.new.ground) result }
+        (all_radios (unit_world C.codec U.answer) (attached_entities (state_of (U.records run_state.old.units) run_state.old.core run_state.old.network))
+        (state_of (U.records run_state.old.units) run_state.old.core run_state.old.network))
+        lines.new (state_of (U.records run_state.new.units) run_state.new.core run_state.new.network) result }
 {
-    let bearers = attached_bearers(parts.alloc, &parts.ground)?;
-    bearer_turns(parts, bearers.as_slice(), lines)
+    let bearers = attached_bearers(run_state.alloc, &run_state.network)?;
+    bearer_turns(run_state, bearers.as_slice(), lines)
 }

@@ -12,11 +12,11 @@ use Rattle.run_defs.specs.States.{order_for, refused, was_attached}
 use Rattle.run_defs.specs.Steps.{does, ordered_by}
 use Rattle.run_defs.specs.Conditions.{has_started}
 use Rattle.run_defs.specs.Events.{with_terminal, attach}
-use Rattle.run_links.specs.Grounds.{OctetWorld, OctetState, OctetOutcome}
+use Rattle.run_links.specs.Networks.{OctetWorld, OctetState, OctetOutcome}
 use Rattle.world_steps.specs.declared.asked.Moved.{Moved}
 use Rattle.world_steps.specs.declared.cause.Cause.{Cause}
 use Rattle.world_steps.specs.Gives.{EventGives, stop_by}
-use Rattle.world_steps.specs.Moves.{OctetDone, DoneGives, refused_lines}
+use Rattle.world_steps.specs.Moves.{OctetDone, StepOutcome, refused_lines}
 use Rattle.world_steps.proofs.Shown.{shows_refused, refused_stops}
 use Rattle.world_events.specs.attaches.Comings.{attach_refusal}
 
@@ -50,7 +50,7 @@ attach_refuses world plan s reason before lines h told =
 
 pub attach_moves : (world : OctetWorld) (plan : Plan) (s t : OctetState) (moved : Moved) (before middle lines : List OutLine)
     → None ≡ attach_refusal plan s
-    → DoneGives (begun world plan s) (record { state = s; lines = before }) (record { state = t; lines = middle }) (Ok moved)
+    → StepOutcome (begun world plan s) (record { state = s; lines = before }) (record { state = t; lines = middle }) (Ok moved)
     → lines ≡ middle ++ refused_lines moved → EventGives before (attach world plan s) lines t (Ok tt)
 attach_moves world plan s t moved before middle lines h gives told =
     subst (λ (o : OctetOutcome). EventGives before o lines t (Ok tt)) (sym (attach_by world plan s None h))
@@ -58,7 +58,7 @@ attach_moves world plan s t moved before middle lines h gives told =
 
 pub attach_stops : (world : OctetWorld) (plan : Plan) (s t : OctetState) (cause : Cause) (before lines : List OutLine)
     → None ≡ attach_refusal plan s
-    → DoneGives (begun world plan s) (record { state = s; lines = before }) (record { state = t; lines = lines }) (Err cause)
+    → StepOutcome (begun world plan s) (record { state = s; lines = before }) (record { state = t; lines = lines }) (Err cause)
     → EventGives before (attach world plan s) lines t (Err cause)
 attach_stops world plan s t cause before lines h gives =
     subst (λ (o : OctetOutcome). EventGives before o lines t (Err cause)) (sym (attach_by world plan s None h))

@@ -14,8 +14,8 @@ use Rattle.scenario_text.specs.declared.line.OutLine.{OutLine}
 use Rattle.unit_defs.specs.Teids.{teids_are_left}
 use Rattle.run_defs.specs.Conditions.{n3_from, tunnels_from, seated}
 use Rattle.run_defs.specs.Steps.{opens}
-use Rattle.run_links.specs.declared.ground.Ground.{Ground}
-use Rattle.run_links.specs.Grounds.{OctetState, state_of}
+use Rattle.run_links.specs.declared.network.Network.{Network}
+use Rattle.run_links.specs.Networks.{OctetState, state_of}
 use Rattle.run_links.specs.Told.{Makes}
 use Rattle.world_events.specs.attaches.Comings.{opens_from, keeps}
 
@@ -48,17 +48,17 @@ n3_ends first bearers n3 h =
 
 -- ---- tunnels, opened one by one
 
-abbrev pub Opens : NodeId → ℕ → ℕ → Ground → Ground → List OutLine → Type 0
+abbrev pub Opens : NodeId → ℕ → ℕ → Network → Network → List OutLine → Type 0
 Opens node first count old new lines = Makes (opens_from node first count) old new lines lines
 
-pub open_begins : (node : NodeId) (first count : ℕ) (old new : Ground) (lines : List OutLine) → Opens node (first + 0) (count - 0) old new lines
+pub open_begins : (node : NodeId) (first count : ℕ) (old new : Network) (lines : List OutLine) → Opens node (first + 0) (count - 0) old new lines
     → Opens node first count old new lines
 open_begins node first count old new lines h =
     let same : first + 0 ≡ first = omega arith in
     let all : count - 0 ≡ count = omega arith in
     subst (λ (k : ℕ). Opens node first k old new lines) all (subst (λ (m : ℕ). Opens node m (count - 0) old new lines) same h)
 
-pub open_turn : (node : NodeId) (first count i : ℕ) (old middle new : Ground) (lines : List OutLine) → i < count
+pub open_turn : (node : NodeId) (first count i : ℕ) (old middle new : Network) (lines : List OutLine) → i < count
     → Makes (λ world. opens world (record { node = node; teid = first + i })) old middle lines lines
     → Opens node (first + (i + 1)) (count - (i + 1)) middle new lines → Opens node (first + i) (count - i) old new lines
 unfolding opens
@@ -76,7 +76,7 @@ open_turn node first count i old middle new lines some one rest codec answer uni
           ∙ r.1,
     )
 
-pub open_ends : (node : NodeId) (first count : ℕ) (old : Ground) (lines : List OutLine) → Opens node (first + count) (count - count) old old lines
+pub open_ends : (node : NodeId) (first count : ℕ) (old : Network) (lines : List OutLine) → Opens node (first + count) (count - count) old old lines
 open_ends node first count old lines codec answer units core =
     let none : count - count ≡ 0 = omega arith in
     let s = state_of units core old in (
@@ -86,7 +86,7 @@ open_ends node first count old lines codec answer units core =
 
 -- ---- all that is kept
 
-pub keeps_so : (plan : Plan) (up du : ℕ) (old first second new : Ground) (lines : List OutLine)
+pub keeps_so : (plan : Plan) (up du : ℕ) (old first second new : Network) (lines : List OutLine)
     → Opens (CuUp plan.gnb plan.up) up (2 * plan.bearers) old first lines → Opens (Du plan.gnb plan.du) du plan.bearers first second lines
     → new ≡ record second { radios = connected_in second.radios plan.ue (Some 1); plans = put ue_cmp second.plans plan.ue plan }
     → Makes (keeps plan up du) old new lines lines
@@ -99,7 +99,7 @@ keeps_so plan up du old first second new lines ups dus same codec answer units c
         connected = put ue_cmp x.connected plan.ue 1;
       }) u.1
           ∙ ap (λ (x : OctetState). record (seated plan x) { connected = put ue_cmp x.connected plan.ue 1 }) d.1
-          ∙ ap (λ (g : Ground). state_of units core g) (sym same),
+          ∙ ap (λ (g : Network). state_of units core g) (sym same),
     )
 
 -- ---- TEIDs that are left are of 32 bits

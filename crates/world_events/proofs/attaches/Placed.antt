@@ -9,16 +9,16 @@ use Rattle.scenario_text.specs.declared.line.OutLine.{OutLine}
 use Rattle.scenario_text.specs.declared.line.OutLine.TheVariants as outs
 use Rattle.unit_messages.specs.declared.steps.StepError.{StepError}
 use Rattle.unit_messages.specs.declared.steps.StepError.TheVariants as errors
-use Rattle.unit_defs.specs.Static.{up_has_teids, du_has_teids}
+use Rattle.unit_defs.specs.Static.{cu_up_has_teids, du_has_teids}
 use Rattle.unit_defs.specs.Ways.{teids_spent}
 use Rattle.unit_defs.specs.octet_defs.Codec.{Codec}
-use Rattle.run_defs.specs.Units.{up_of, du_of}
+use Rattle.run_defs.specs.Units.{cu_up_of, du_of}
 use Rattle.run_defs.specs.States.{goes_on, spent_counter, stops, refused, was_attached}
 use Rattle.run_defs.specs.Conditions.{is_held_by_units, units_placed, all_set_up, statically}
 use Rattle.run_defs.specs.Events.{static}
 use Rattle.run_defs.specs.UnitRuns.{Records, Meaning}
-use Rattle.run_links.specs.declared.ground.Ground.{Ground}
-use Rattle.run_links.specs.Grounds.{OctetWorld, OctetCore, OctetState, OctetOutcome, state_of}
+use Rattle.run_links.specs.declared.network.Network.{Network}
+use Rattle.run_links.specs.Networks.{OctetWorld, OctetCore, OctetState, OctetOutcome, state_of}
 use Rattle.run_links.specs.Told.{Makes}
 use Rattle.run_units.specs.Steps.{has_room, has_teids, PlacingGives}
 use Rattle.world_steps.specs.declared.cause.Cause.TheVariants as causes
@@ -73,8 +73,8 @@ static_stops world plan s t after (errors.Spent counter) before known h =
 -- ---- the state with the terminal
 
 pub keeps_all : (codec : Codec) (answer : Meaning) (plan : Plan) (up du : ℕ) (units after : Records) (core core_after : OctetCore)
-    (old new : Ground) (lines : List OutLine)
-    → up ≡ (up_of units plan.gnb plan.up).next_teid → du ≡ (du_of units plan.gnb plan.du).next_teid
+    (old new : Network) (lines : List OutLine)
+    → up ≡ (cu_up_of units plan.gnb plan.up).next_teid → du ≡ (du_of units plan.gnb plan.du).next_teid
     → after ≡ all_set_up (units_placed plan units) → core_after ≡ with_path plan up core → Makes (keeps plan up du) old new lines lines
     → statically plan (state_of units core old) ≡ state_of after core_after new
 keeps_all codec answer plan up du units after core core_after old new lines up_is du_is units_are core_is makes =
@@ -88,19 +88,19 @@ keeps_all codec answer plan up du units after core core_after old new lines up_i
 
 -- ---- there are TEIDs for it
 
-pub up_fits : (plan : Plan) (r : Records) (up : ℕ) → up ≡ (up_of r plan.gnb plan.up).next_teid → has_teids plan r ≡ true
+pub up_fits : (plan : Plan) (r : Records) (up : ℕ) → up ≡ (cu_up_of r plan.gnb plan.up).next_teid → has_teids plan r ≡ true
     → up + 2 * plan.bearers ≤ 2 ^ 32
 up_fits plan r up is h =
     subst (λ (n : ℕ). n + 2 * plan.bearers ≤ 2 ^ 32) (sym is)
-    (teids_fit (up_of r plan.gnb plan.up).next_teid (2 * plan.bearers)
-    (both (up_has_teids (up_of r plan.gnb plan.up) plan) (du_has_teids (du_of r plan.gnb plan.du) plan) h).0)
+    (teids_fit (cu_up_of r plan.gnb plan.up).next_teid (2 * plan.bearers)
+    (both (cu_up_has_teids (cu_up_of r plan.gnb plan.up) plan) (du_has_teids (du_of r plan.gnb plan.du) plan) h).0)
 
 pub du_fits : (plan : Plan) (r : Records) (du : ℕ) → du ≡ (du_of r plan.gnb plan.du).next_teid → has_teids plan r ≡ true
     → du + plan.bearers ≤ 2 ^ 32
 du_fits plan r du is h =
     subst (λ (n : ℕ). n + plan.bearers ≤ 2 ^ 32) (sym is)
     (teids_fit (du_of r plan.gnb plan.du).next_teid plan.bearers
-    (both (up_has_teids (up_of r plan.gnb plan.up) plan) (du_has_teids (du_of r plan.gnb plan.du) plan) h).1)
+    (both (cu_up_has_teids (cu_up_of r plan.gnb plan.up) plan) (du_has_teids (du_of r plan.gnb plan.du) plan) h).1)
 
 -- a terminal that isn't known is held by no unit
 pub not_held : (plan : Plan) (s : OctetState) → is_known plan s ≡ false → is_held_by_units plan s.units ≡ false

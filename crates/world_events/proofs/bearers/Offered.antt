@@ -19,7 +19,7 @@ use Rattle.unit_defs.specs.octet_defs.Codec.{Codec}
 use Rattle.run_defs.specs.States.{refused, as_step}
 use Rattle.run_defs.specs.Events.{offer_down, offer_on_path}
 use Rattle.run_defs.specs.UnitRuns.{Meaning, unit_world}
-use Rattle.run_links.specs.Grounds.{Octets, OctetWorld, OctetState, OctetOutcome}
+use Rattle.run_links.specs.Networks.{Octets, OctetWorld, OctetState, OctetOutcome}
 use Rattle.world_steps.specs.declared.cause.Cause.{Cause}
 use Rattle.world_steps.specs.Gives.{Gives, EventGives}
 use Rattle.world_steps.proofs.Carried.{as_event}

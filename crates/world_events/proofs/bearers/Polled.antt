@@ -13,15 +13,15 @@ use Rattle.gnb_types.specs.Orders.{node_cmp}
 use Rattle.tables.specs.Tables.{find, at}
 use Rattle.scenario_text.specs.declared.line.OutLine.{OutLine}
 use Rattle.scenario_text.specs.declared.line.OutLine.TheVariants as outs
-use Rattle.unit_defs.specs.UpRecords.{CuUp as CuUpRecord}
+use Rattle.unit_defs.specs.CuUpRecords.{CuUp as CuUpRecord}
 use Rattle.unit_defs.specs.CuUp.{new_cu_up}
 use Rattle.unit_defs.specs.Accessors.{is_unconfirmed}
-use Rattle.run_defs.specs.Units.{up_of}
+use Rattle.run_defs.specs.Units.{cu_up_of}
 use Rattle.run_defs.specs.States.{has_bearer, order_for, refused}
 use Rattle.run_defs.specs.Steps.{step}
 use Rattle.run_defs.specs.Conditions.{serving_gnb, serving_place}
 use Rattle.run_defs.specs.Events.{poll, poll_at as polls_at}
-use Rattle.run_links.specs.Grounds.{Octets, OctetWorld, OctetState, OctetOutcome}
+use Rattle.run_links.specs.Networks.{Octets, OctetWorld, OctetState, OctetOutcome}
 use Rattle.world_steps.specs.declared.cause.Cause.{Cause}
 use Rattle.world_steps.specs.Gives.{EventGives}
 use Rattle.run_units.specs.Steps.{IsAsked}
@@ -46,7 +46,7 @@ module _ (world : OctetWorld) (ue : UeId) (bearer : BearerId) (s : OctetState) w
           ≡ by_node (if b then poll_at s ue bearer o else Err NoBearer)
       by false o = refl
       by true None = refl
-      by true (Some place) = asked place.0 (is_unconfirmed (up_of s.units (serving_gnb s ue) place.0) ue bearer)
+      by true (Some place) = asked place.0 (is_unconfirmed (cu_up_of s.units (serving_gnb s ue) place.0) ue bearer)
 
   pub polls : (node : NodeId) (t : OctetState) (before lines : List OutLine) (result : Result (Unit {0}) Cause) → Ok node ≡ poll_node s ue bearer
       → EventGives before (step world node (order_for (orders.Poll ue bearer)) s) lines t result → EventGives before (poll world ue bearer s) lines t result
@@ -60,7 +60,7 @@ module _ (world : OctetWorld) (ue : UeId) (bearer : BearerId) (s : OctetState) w
 
   -- ---- the CU-UP that polls is there
 
-  unconfirmed_is_there : (up : ℕ) → is_unconfirmed (up_of s.units (serving_gnb s ue) up) ue bearer ≡ true
+  unconfirmed_is_there : (up : ℕ) → is_unconfirmed (cu_up_of s.units (serving_gnb s ue) up) ue bearer ≡ true
       → is_some (find node_cmp s.units.ups (CuUp (serving_gnb s ue) up)) ≡ true
   unfolding at find
   unconfirmed_is_there up h = by (find node_cmp s.units.ups (CuUp (serving_gnb s ue) up)) h
@@ -72,7 +72,7 @@ module _ (world : OctetWorld) (ue : UeId) (bearer : BearerId) (s : OctetState) w
   pub is_asked_there : (node : NodeId) → Ok node ≡ poll_node s ue bearer → IsAsked s.units node (ins.Order (orders.Poll ue bearer))
   is_asked_there node h = by (has_bearer s ue bearer) (serving_place s ue) h
     where
-      asked : (up : ℕ) (b : Bool) → is_unconfirmed (up_of s.units (serving_gnb s ue) up) ue bearer ≡ b
+      asked : (up : ℕ) (b : Bool) → is_unconfirmed (cu_up_of s.units (serving_gnb s ue) up) ue bearer ≡ b
           → Ok node ≡ (if b then Ok (CuUp (serving_gnb s ue) up) else Err Empty) → IsAsked s.units node (ins.Order (orders.Poll ue bearer))
       asked up true e h =
           let same : CuUp (serving_gnb s ue) up ≡ node = cc in
@@ -83,4 +83,4 @@ module _ (world : OctetWorld) (ue : UeId) (bearer : BearerId) (s : OctetState) w
           → IsAsked s.units node (ins.Order (orders.Poll ue bearer))
       by false o h = absurd cc
       by true None h = absurd cc
-      by true (Some place) h = asked place.0 (is_unconfirmed (up_of s.units (serving_gnb s ue) place.0) ue bearer) refl h
+      by true (Some place) h = asked place.0 (is_unconfirmed (cu_up_of s.units (serving_gnb s ue) place.0) ue bearer) refl h

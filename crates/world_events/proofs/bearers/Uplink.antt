@@ -14,20 +14,20 @@ use Rattle.gnb_types.specs.declared.outputs.Output.{Output}
 use Rattle.gnb_types.specs.declared.reasons.HeldReason.{HeldReason}
 use Rattle.gnb_types.specs.declared.reasons.RefuseReason.{RefuseReason}
 use Rattle.scenario_text.specs.declared.line.OutLine.{OutLine}
-use Rattle.transport_defs.specs.Links.{Bag, most_letters}
+use Rattle.transport_defs.specs.Links.{Bag, most_control_messages}
 use Rattle.unit_defs.specs.octet_defs.Codec.{Codec}
 use Rattle.run_defs.specs.States.{entity, offer_for, goes_on}
 use Rattle.run_defs.specs.Events.{offered}
 use Rattle.run_defs.specs.UnitRuns.{Records, Meaning, OctetGiven, unit_world, input_of, stepped_by, put_of}
-use Rattle.run_links.specs.declared.ground.Ground.{Ground}
-use Rattle.run_links.specs.Grounds.{Octets, OctetCore, OctetState, OctetWorld, OctetWithin, state_of, letters_in, offered_in}
+use Rattle.run_links.specs.declared.network.Network.{Network}
+use Rattle.run_links.specs.Networks.{Octets, OctetCore, OctetState, OctetWorld, OctetWithin, state_of, control_messages_in, offered_in}
 use Rattle.world_steps.specs.declared.asked.Asked.{Asked}
 use Rattle.world_steps.specs.declared.asked.Asked.TheVariants as kinds
 use Rattle.world_steps.specs.declared.asked.Moved.TheVariants as moves
 use Rattle.world_steps.specs.declared.cause.Cause.{Cause}
 use Rattle.world_steps.specs.Asks.{Asking, ComesOf}
 use Rattle.world_steps.specs.Gives.{Gives, finished}
-use Rattle.world_steps.specs.Moves.{DoneGives, moved_by}
+use Rattle.world_steps.specs.Moves.{StepOutcome, moved_by}
 use Rattle.world_steps.proofs.Does.{does_step, does_hold, does_refuse, does_fail}
 use Rattle.world_events.specs.bearers.Places.{offer_done}
 
@@ -55,41 +55,41 @@ module _ (codec : Codec) (answer : Meaning) (ue : UeId) (bearer : BearerId) (pac
   came_so r came = subst (λ (i : Input). ComesOf (asks i) after r) is came
 
   pub offer_fails : (t : OctetState) (lines : List OutLine) (cause : Cause) → ComesOf (asks input) after (Err cause)
-      → DoneGives (offer_done world ue bearer packet s) (record { state = s; lines = lines }) (record { state = t; lines = lines }) (Err cause)
+      → StepOutcome (offer_done world ue bearer packet s) (record { state = s; lines = lines }) (record { state = t; lines = lines }) (Err cause)
   offer_fails t lines cause came = does_fail codec answer s node given None first after t lines cause (came_so (Err cause) came)
 
   pub offer_holds : (asked : Asked) (t : OctetState) (lines : List OutLine) (reason : HeldReason) → asked ≡ kinds.Holds reason
       → ComesOf (asks input) after (Ok asked) → record s { units = after } ≡ t
-      → DoneGives (offer_done world ue bearer packet s) (record { state = s; lines = lines }) (record { state = t; lines = lines }) (Ok (moves.Holds reason))
+      → StepOutcome (offer_done world ue bearer packet s) (record { state = s; lines = lines }) (record { state = t; lines = lines }) (Ok (moves.Holds reason))
   offer_holds asked t lines reason holds came kept =
-      subst (λ (x : OctetState). DoneGives (offer_done world ue bearer packet s) (record { state = s; lines = lines }) (record { state = x; lines = lines })
+      subst (λ (x : OctetState). StepOutcome (offer_done world ue bearer packet s) (record { state = s; lines = lines }) (record { state = x; lines = lines })
       (Ok (moves.Holds reason))) kept
       (does_hold codec answer s node given None first after reason lines
       (came_so (Ok (kinds.Holds reason)) (subst (λ (a : Asked). ComesOf (asks input) after (Ok a)) holds came)))
 
   pub offer_is_refused : (asked : Asked) (t : OctetState) (lines : List OutLine) (reason : RefuseReason) → asked ≡ kinds.Refuses reason
       → ComesOf (asks input) after (Ok asked) → record s { units = after } ≡ t
-      → DoneGives (offer_done world ue bearer packet s) (record { state = s; lines = lines }) (record { state = t; lines = lines }) (Ok (moves.Refuses reason))
+      → StepOutcome (offer_done world ue bearer packet s) (record { state = s; lines = lines }) (record { state = t; lines = lines }) (Ok (moves.Refuses reason))
   offer_is_refused asked t lines reason refuses came kept =
-      subst (λ (x : OctetState). DoneGives (offer_done world ue bearer packet s) (record { state = s; lines = lines }) (record { state = x; lines = lines })
+      subst (λ (x : OctetState). StepOutcome (offer_done world ue bearer packet s) (record { state = s; lines = lines }) (record { state = x; lines = lines })
       (Ok (moves.Refuses reason))) kept
       (does_refuse codec answer s node given None first after reason lines
       (came_so (Ok (kinds.Refuses reason)) (subst (λ (a : Asked). ComesOf (asks input) after (Ok a)) refuses came)))
 
   -- there is room for its control messages
   pub offer_has_room : (asked : Asked) (outputs : List Output) (bag : Bag Octets) → asked ≡ kinds.Does outputs → ComesOf (asks input) after (Ok asked)
-      → bag ≡ s.bag → nat_lt most_letters (length bag.letters + letters_in outputs) ≡ false
+      → bag ≡ s.bag → nat_lt most_control_messages (length bag.control_messages + control_messages_in outputs) ≡ false
   offer_has_room asked outputs bag does came same =
-      subst (λ (b : Bag Octets). nat_lt most_letters (length b.letters + letters_in outputs) ≡ false) (sym same)
+      subst (λ (b : Bag Octets). nat_lt most_control_messages (length b.control_messages + control_messages_in outputs) ≡ false) (sym same)
       ((subst (λ (a : Asked). ComesOf (asks input) after (Ok a)) does came).0)
 
   -- it is counted as offered, and the step ends
-  pub offer_steps : (asked : Asked) (outputs : List Output) (core : OctetCore) (before_it ground : Ground) (u : OctetState) (before lines : List OutLine)
+  pub offer_steps : (asked : Asked) (outputs : List Output) (core : OctetCore) (before_it network : Network) (u : OctetState) (before lines : List OutLine)
       (result : Result (Unit {0}) Cause) → asked ≡ kinds.Does outputs → ComesOf (asks input) after (Ok asked)
-      → record s { units = after } ≡ state_of after core before_it → ground ≡ record before_it { books = offered_in before_it.books key }
-      → Gives before (finished world node None (map put_of outputs) (state_of after core ground)) lines u result
-      → DoneGives (offer_done world ue bearer packet s) (record { state = s; lines = before }) (record { state = u; lines = lines }) (moved_by result)
-  offer_steps asked outputs core before_it ground u before lines result does came kept counted gives =
-      does_step codec answer s node given None first outputs after (state_of after core ground) u before before lines result
+      → record s { units = after } ≡ state_of after core before_it → network ≡ record before_it { books = offered_in before_it.books key }
+      → Gives before (finished world node None (map put_of outputs) (state_of after core network)) lines u result
+      → StepOutcome (offer_done world ue bearer packet s) (record { state = s; lines = before }) (record { state = u; lines = lines }) (moved_by result)
+  offer_steps asked outputs core before_it network u before lines result does came kept counted gives =
+      does_step codec answer s node given None first outputs after (state_of after core network) u before before lines result
       (came_so (Ok (kinds.Does outputs)) (subst (λ (a : Asked). ComesOf (asks input) after (Ok a)) does came))
       (sym (append-nil before), ap (offered world key) kept ∙ ap (state_of after core) (sym counted)) gives

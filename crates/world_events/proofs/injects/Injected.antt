@@ -5,18 +5,18 @@ use Rattle.gnb_types.specs.declared.names.NodeId.{NodeId}
 use Rattle.gnb_types.specs.declared.names.NodeId.TheVariants.{Core}
 use Rattle.gnb_types.specs.declared.outputs.Output.{Output}
 use Rattle.scenario_text.specs.declared.line.OutLine.{OutLine}
-use Rattle.transport_defs.specs.Links.{most_letters}
+use Rattle.transport_defs.specs.Links.{most_control_messages}
 use Rattle.unit_defs.specs.Ways.{gives, spent}
 use Rattle.unit_defs.specs.octet_defs.Codec.{Codec}
 use Rattle.unit_defs.specs.octet_defs.Units.{OctetAnswer, core_steps}
 use Rattle.unit_defs.specs.octet_defs.Writing.{outputs_of}
 use Rattle.run_defs.specs.States.{core_stepped, ◌next◌}
-use Rattle.run_defs.specs.Steps.{put_out_all, check_spans, too_many_letters}
+use Rattle.run_defs.specs.Steps.{put_out_all, check_spans, too_many_control_messages}
 use Rattle.run_defs.specs.Events.{inject_to, core_injected}
 use Rattle.run_defs.specs.UnitRuns.{Meaning, unit_world, put_of, core_done}
-use Rattle.run_links.specs.Grounds.{Octets, OctetCore, OctetWorld, OctetState, OctetOutcome, letters_in}
+use Rattle.run_links.specs.Networks.{Octets, OctetCore, OctetWorld, OctetState, OctetOutcome, control_messages_in}
 use Rattle.run_links.specs.Told.{GoesTo}
-use Rattle.run_links.proofs.Counting.{letters_put}
+use Rattle.run_links.proofs.Counting.{control_messages_put}
 use Rattle.unit_messages.specs.steps.Steps.{stepped, step_after}
 use Rattle.world_steps.specs.declared.cause.Cause.{Cause}
 use Rattle.world_steps.specs.Gives.{Gives, EventGives}
@@ -46,8 +46,8 @@ module _ (codec : Codec) (answer : Meaning) (from : NodeId) (octets : Octets) (s
       (then_gives (put_out_all world Core None (map put_of outputs) (record s { core = after })) check_spans before lines lines t t result puts ends))
 
 -- there is room for control messages
-pub has_room : (world : OctetWorld) (s : OctetState) (outputs : List Output) → too_many_letters world (map put_of outputs) s ≡ false
-    → length s.bag.letters + letters_in outputs ≤ most_letters
+pub has_room : (world : OctetWorld) (s : OctetState) (outputs : List Output) → too_many_control_messages world (map put_of outputs) s ≡ false
+    → length s.bag.control_messages + control_messages_in outputs ≤ most_control_messages
 has_room world s outputs few =
-    ltb-false most_letters (length s.bag.letters + letters_in outputs)
-    (ap (λ (n : ℕ). nat_lt most_letters (length s.bag.letters + n)) (sym (letters_put world outputs)) ∙ few)
+    ltb-false most_control_messages (length s.bag.control_messages + control_messages_in outputs)
+    (ap (λ (n : ℕ). nat_lt most_control_messages (length s.bag.control_messages + n)) (sym (control_messages_put world outputs)) ∙ few)

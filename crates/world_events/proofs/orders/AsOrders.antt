@@ -17,7 +17,7 @@ use Rattle.run_defs.specs.States.{order_for, refused, is_attached}
 use Rattle.run_defs.specs.Steps.{step}
 use Rattle.run_defs.specs.Conditions.{serving_gnb, serving_place, state_at, goal_of, is_same_place, is_other_up, is_busy_with}
 use Rattle.run_defs.specs.Events.{order_ue, fail, arrive, come_back, handover_to, handover, cancel}
-use Rattle.run_links.specs.Grounds.{OctetWorld, OctetState}
+use Rattle.run_links.specs.Networks.{OctetWorld, OctetState}
 use Rattle.world_events.specs.orders.Orders.{ordered, fail_order, arrive_order, return_order, goal_order, handover_order, cancel_order}
 
 pub fail_is : (world : OctetWorld) (ue : UeId) (s : OctetState) → fail world ue s ≡ ordered world s (fail_order s ue)
@@ -76,7 +76,7 @@ handover_is world ue gnb up du s =
 
 pub cancel_is : (world : OctetWorld) (ue : UeId) (s : OctetState) → cancel world ue s ≡ ordered world s (cancel_order s ue)
 unfolding cancel
-cancel_is world ue s = by (is_attached s ue) (is_source s.units.cp_a ue) (is_source s.units.cp_b ue)
+cancel_is world ue s = by (is_attached s ue) (is_source s.units.cu_cp_a ue) (is_source s.units.cu_cp_b ue)
   where
     by : (there at_a at_b : Bool)
         → (if not there then refused NoUe s else

@@ -13,11 +13,11 @@ use Rattle.run_defs.specs.States.{order_for, refused, is_attached}
 use Rattle.run_defs.specs.Steps.{does, ordered_by}
 use Rattle.run_defs.specs.Conditions.{serving_gnb, is_busy_with}
 use Rattle.run_defs.specs.Events.{leaves, release}
-use Rattle.run_links.specs.Grounds.{OctetWorld, OctetState, OctetOutcome}
+use Rattle.run_links.specs.Networks.{OctetWorld, OctetState, OctetOutcome}
 use Rattle.world_steps.specs.declared.asked.Moved.{Moved}
 use Rattle.world_steps.specs.declared.cause.Cause.{Cause}
 use Rattle.world_steps.specs.Gives.{EventGives, stop_by}
-use Rattle.world_steps.specs.Moves.{OctetDone, DoneGives, refused_lines}
+use Rattle.world_steps.specs.Moves.{OctetDone, StepOutcome, refused_lines}
 use Rattle.world_steps.proofs.Shown.{shows_refused, refused_stops}
 use Rattle.world_events.specs.orders.Orders.{releaser_of}
 
@@ -51,7 +51,7 @@ release_refuses world ue s reason before lines h told =
 
 pub release_moves : (world : OctetWorld) (ue : UeId) (s t : OctetState) (gnb : Gnb) (moved : Moved) (before middle lines : List OutLine)
     → Ok gnb ≡ releaser_of s ue
-    → DoneGives (gone_by world ue s gnb) (record { state = s; lines = before }) (record { state = t; lines = middle }) (Ok moved)
+    → StepOutcome (gone_by world ue s gnb) (record { state = s; lines = before }) (record { state = t; lines = middle }) (Ok moved)
     → lines ≡ middle ++ refused_lines moved → EventGives before (release world ue s) lines t (Ok tt)
 release_moves world ue s t gnb moved before middle lines h gives told =
     subst (λ (o : OctetOutcome). EventGives before o lines t (Ok tt)) (sym (release_by world ue s (Ok gnb) h))
@@ -59,7 +59,7 @@ release_moves world ue s t gnb moved before middle lines h gives told =
 
 pub release_stops : (world : OctetWorld) (ue : UeId) (s t : OctetState) (gnb : Gnb) (cause : Cause) (before lines : List OutLine)
     → Ok gnb ≡ releaser_of s ue
-    → DoneGives (gone_by world ue s gnb) (record { state = s; lines = before }) (record { state = t; lines = lines }) (Err cause)
+    → StepOutcome (gone_by world ue s gnb) (record { state = s; lines = before }) (record { state = t; lines = lines }) (Err cause)
     → EventGives before (release world ue s) lines t (Err cause)
 release_stops world ue s t gnb cause before lines h gives =
     subst (λ (o : OctetOutcome). EventGives before o lines t (Err cause)) (sym (release_by world ue s (Ok gnb) h))

@@ -12,7 +12,7 @@ use Rattle.unit_defs.specs.Ue.{new_ue}
 use Rattle.run_defs.specs.Units.{with_ue}
 use Rattle.run_defs.specs.States.{goes_on, was_attached}
 use Rattle.run_defs.specs.Conditions.{has_started, n3_from, seated, tunnels_from}
-use Rattle.run_links.specs.Grounds.{OctetWorld, OctetCore, OctetState, OctetWithin}
+use Rattle.run_links.specs.Networks.{OctetWorld, OctetCore, OctetState, OctetWithin}
 
 -- why an attach isn't begun
 abbrev pub attach_refusal : Plan → OctetState → Option RefuseReason

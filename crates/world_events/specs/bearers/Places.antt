@@ -14,21 +14,21 @@ use Rattle.unit_defs.specs.Messages.{teid_of}
 use Rattle.unit_defs.specs.Core.{CorePath}
 use Rattle.unit_defs.specs.Ue.{largest_packet}
 use Rattle.unit_defs.specs.Accessors.{is_unconfirmed}
-use Rattle.run_defs.specs.Units.{up_of}
+use Rattle.run_defs.specs.Units.{cu_up_of}
 use Rattle.link_defs.specs.Layouts.{forwarded_fresh}
 use Rattle.transport_defs.specs.declared.Item.{Item}
 use Rattle.run_defs.specs.States.{has_bearer, entity, offer_for, ◌next◌, goes_on}
 use Rattle.run_defs.specs.Steps.{check_spans, put_on_tunnel, does}
 use Rattle.run_defs.specs.Conditions.{serving_gnb, serving_place}
 use Rattle.run_defs.specs.Events.{offered}
-use Rattle.run_links.specs.Grounds.{Octets, OctetCore, OctetWorld, OctetState, OctetWithin}
+use Rattle.run_links.specs.Networks.{Octets, OctetCore, OctetWorld, OctetState, OctetWithin}
 use Rattle.world_steps.specs.Moves.{OctetDone}
 
 -- the CU-UP of the serving context, where a downlink packet is unconfirmed
 abbrev pub poll_at : OctetState → UeId → BearerId → Option (ℕ × ℕ) → Result NodeId RefuseReason
 poll_at s ue bearer None = Err Empty
 poll_at s ue bearer (Some place) =
-    if is_unconfirmed (up_of s.units (serving_gnb s ue) place.0) ue bearer then Ok (CuUp (serving_gnb s ue) place.0) else Err Empty
+    if is_unconfirmed (cu_up_of s.units (serving_gnb s ue) place.0) ue bearer then Ok (CuUp (serving_gnb s ue) place.0) else Err Empty
 
 abbrev pub poll_node : OctetState → UeId → BearerId → Result NodeId RefuseReason
 poll_node s ue bearer = if has_bearer s ue bearer then poll_at s ue bearer (serving_place s ue) else Err NoBearer

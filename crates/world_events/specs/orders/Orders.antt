@@ -19,7 +19,7 @@ use Rattle.run_defs.specs.States.{order_for, refused, is_attached}
 use Rattle.run_defs.specs.Steps.{step}
 use Rattle.run_defs.specs.Conditions.{serving_gnb, serving_place, state_at, goal_of, is_same_place, is_other_up, is_busy_with}
 use Rattle.run_defs.specs.UnitRuns.{Records}
-use Rattle.run_links.specs.Grounds.{OctetWorld, OctetState, OctetOutcome}
+use Rattle.run_links.specs.Networks.{OctetWorld, OctetState, OctetOutcome}
 use Rattle.run_units.specs.Steps.{IsOrdered}
 
 abbrev pub Ordered : Type 0
@@ -78,8 +78,8 @@ names (Err reason) ue = true
 abbrev pub cancel_order : OctetState → UeId → Ordered
 cancel_order s ue =
     if not (is_attached s ue) then Err NoUe else
-    (if is_source s.units.cp_a ue then Ok (CuCp A, orders.Cancel ue) else
-    (if is_source s.units.cp_b ue then Ok (CuCp B, orders.Cancel ue) else Err Empty))
+    (if is_source s.units.cu_cp_a ue then Ok (CuCp A, orders.Cancel ue) else
+    (if is_source s.units.cu_cp_b ue then Ok (CuCp B, orders.Cancel ue) else Err Empty))
 
 -- which CU-CP lets a terminal go, or why none does
 abbrev pub releaser_of : OctetState → UeId → Result Gnb RefuseReason

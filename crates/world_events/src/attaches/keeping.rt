@@ -11,7 +11,7 @@ use gnb_types::items::{Items, Memory};
 use gnb_types::keys::TunnelEnd;
 use gnb_types::names::{BearerId, NodeId};
 use gnb_types::plans::{Plan, Tunnel, TunnelList};
-use run_links::ground::Ground;
+use run_links::network::Network;
 use std::alloc::Global;
 
 /// The N3 tunnels of the bearers 1, 2, 3 and so on: every second TEID from this one on.
@@ -50,31 +50,36 @@ pub(crate) fn keep_path(
 }
 
 /// Opens so many tunnels that end at this node, from this TEID on.
-fn open_from(ground: &mut Ground, node: NodeId, first: u32, count: u8) -> Result<(), Memory>
+fn open_from(network: &mut Network, node: NodeId, first: u32, count: u8) -> Result<(), Memory>
     requires { first + count ≤ 2 ^ 32 }
-    ensures { OnOk result ((lines : List OutLine) → Makes (opens_from node first count) ground.old ground.new lines lines) }
+    ensures { OnOk result ((lines : List OutLine) → Makes (opens_from node first count) network.old network.new lines lines) }
 {
     for before in 0..count {
         let teid = first + u32::from(before);
-        ground.open(TunnelEnd { node, teid })?;
+        network.open(TunnelEnd { node, teid })?;
     }
     Ok(())
 }
 
 /// The run keeps the tunnels of a terminal, from these TEIDs of its CU-UP and its DU on, that it is connected, and its plan.
-pub(crate) fn keep_terminal(ground: &mut Ground, plan: Plan, up: u32, du: u32) -> Result<(), Memory>
+pub(crate) fn keep_terminal(
+    network: &mut Network,
+    plan: Plan,
+    up: u32,
+    du: u32,
+) -> Result<(), Memory>
     requires few { plan.bearers ≤ 8 }
     requires above { up + 2 * plan.bearers ≤ 2 ^ 32 }
     requires below { du + plan.bearers ≤ 2 ^ 32 }
-    ensures { OnOk result ((lines : List OutLine) → Makes (keeps plan up du) ground.old ground.new lines lines) }
+    ensures { OnOk result ((lines : List OutLine) → Makes (keeps plan up du) network.old network.new lines lines) }
 {
     open_from(
-        ground,
+        network,
         NodeId::CuUp(plan.gnb, plan.up),
         up,
         2 * plan.bearers,
     )?;
-    open_from(ground, NodeId::Du(plan.gnb, plan.du), du, plan.bearers)?;
-    ground.radios.connect(plan.ue, Some(1));
-    ground.seat(plan)
+    open_from(network, NodeId::Du(plan.gnb, plan.du), du, plan.bearers)?;
+    network.radios.connect(plan.ue, Some(1));
+    network.seat(plan)
 }

@@ -7,9 +7,9 @@ ghost use Rattle.link_defs.specs.Decoding.{IsSized};
 ghost use Rattle.unit_defs.specs.Ue.{largest_packet};
 ghost use Rattle.run_defs.specs.Events.{offer, offer_down, offer_up};
 ghost use Rattle.run_defs.specs.UnitRuns.{unit_world};
-ghost use Rattle.run_links.specs.Grounds.{state_of};
+ghost use Rattle.run_links.specs.Networks.{state_of};
 ghost use Rattle.world_steps.specs.Gives.{Gives, EventGives};
-ghost use Rattle.world_steps.specs.Moves.{DoneGives};
+ghost use Rattle.world_steps.specs.Moves.{StepOutcome};
 ghost use Rattle.world_events.specs.bearers.Places.{core_end, downlink_item, core_puts, offer_done};
 
 use core_node::CoreNode;
@@ -28,7 +28,7 @@ use unit_messages::MessageCodec;
 use world_steps::Units;
 use world_steps::asked::{Asked, Moved, moved_by};
 use world_steps::cause::Cause;
-use world_steps::parts::Parts;
+use world_steps::run_state::RunState;
 
 /// How many octets a packet has at most.
 const LARGEST_PACKET: usize = 2048;
@@ -85,40 +85,40 @@ fn uplink_input(ue: UeId, bearer: BearerId, packet: &Octets) -> Result<Input, Me
 
 /// The core puts a packet on a tunnel.
 fn core_puts<U: Units<C> + Drop, C: MessageCodec + Drop>(
-    parts: &mut Parts<U, C>,
+    run_state: &mut RunState<U, C>,
     end: TunnelEnd,
     item: Item,
     lines: &mut Lines,
 ) -> Result<(), Cause>
-    ensures units { parts.new.units ≡ parts.old.units }
+    ensures units { run_state.new.units ≡ run_state.old.units }
     ensures gives { Gives lines.old
-        (core_puts (unit_world C.codec U.answer) end item (state_of (U.records parts.old.units) parts.old.core parts.old.ground))
-        lines.new (state_of (U.records parts.new.units) parts.new.core parts.new.ground) result }
+        (core_puts (unit_world C.codec U.answer) end item (state_of (U.records run_state.old.units) run_state.old.core run_state.old.network))
+        lines.new (state_of (U.records run_state.new.units) run_state.new.core run_state.new.network) result }
 {
-    parts.ground.offer(item.key)?;
-    parts.ground.put_on_tunnel(end, item, lines)?;
-    parts.look_at_spans()
+    run_state.network.offer(item.key)?;
+    run_state.network.put_on_tunnel(end, item, lines)?;
+    run_state.look_at_spans()
 }
 
 /// `offer` of a downlink packet.
 fn offer_down<U: Units<C> + Drop, C: MessageCodec + Drop>(
-    parts: &mut Parts<U, C>,
+    run_state: &mut RunState<U, C>,
     ue: UeId,
     bearer: BearerId,
     packet: &Octets,
     lines: &mut Lines,
 ) -> Result<(), Cause>
     requires { IsPacket packet.now }
-    ensures units { parts.new.units ≡ parts.old.units }
+    ensures units { run_state.new.units ≡ run_state.old.units }
     ensures gives { EventGives lines.old
         (offer_down (unit_world C.codec U.answer) ue bearer packet.now
-        (state_of (U.records parts.old.units) parts.old.core parts.old.ground))
-        lines.new (state_of (U.records parts.new.units) parts.new.core parts.new.ground) result }
+        (state_of (U.records run_state.old.units) run_state.old.core run_state.old.network))
+        lines.new (state_of (U.records run_state.new.units) run_state.new.core run_state.new.network) result }
 {
-    match core_end(&parts.core, ue, bearer, packet) {
+    match core_end(&run_state.core, ue, bearer, packet) {
         Ok(end) => {
-            let item = downlink_item(parts.alloc, ue, bearer, end.teid, packet)?;
-            core_puts(parts, end, item, lines)
+            let item = downlink_item(run_state.alloc, ue, bearer, end.teid, packet)?;
+            core_puts(run_state, end, item, lines)
         }
         Err(reason) => {
             lines.push(OutLine::Refused { reason })?;
@@ -129,32 +129,32 @@ fn offer_down<U: Units<C> + Drop, C: MessageCodec + Drop>(
 
 /// The terminal takes a packet, where it has room. What wasn't made isn't printed.
 fn offer_packet<U: Units<C> + Drop, C: MessageCodec + Drop>(
-    parts: &mut Parts<U, C>,
+    run_state: &mut RunState<U, C>,
     ue: UeId,
     bearer: BearerId,
     packet: &Octets,
     lines: &mut Lines,
 ) -> Result<Moved, Cause>
-    requires ready { U.ready parts.old.units }
+    requires ready { U.ready run_state.old.units }
     requires packet { IsPacket packet.now }
-    ensures ready { OnOk result (U.ready parts.new.units) }
-    ensures gives { DoneGives
+    ensures ready { OnOk result (U.ready run_state.new.units) }
+    ensures gives { StepOutcome
         (offer_done (unit_world C.codec U.answer) ue bearer packet.now
-        (state_of (U.records parts.old.units) parts.old.core parts.old.ground))
-        (record { state = state_of (U.records parts.old.units) parts.old.core parts.old.ground; lines = lines.old })
-        (record { state = state_of (U.records parts.new.units) parts.new.core parts.new.ground; lines = lines.new }) result }
+        (state_of (U.records run_state.old.units) run_state.old.core run_state.old.network))
+        (record { state = state_of (U.records run_state.old.units) run_state.old.core run_state.old.network; lines = lines.old })
+        (record { state = state_of (U.records run_state.new.units) run_state.new.core run_state.new.network; lines = lines.new }) result }
 {
     let node = NodeId::Ue(ue.0);
     let input = uplink_input(ue, bearer, packet)?;
-    let asked = match parts.ask(node, input) {
+    let asked = match run_state.ask(node, input) {
         Ok(asked) => asked,
         Err(cause) => return Err(cause),
     };
     match asked {
         Asked::Does(outputs) => {
             let dir = Dir::Ul;
-            parts.ground.offer(EntityKey { ue, bearer, dir })?;
-            moved_by(parts.finish(node, None, outputs, lines))
+            run_state.network.offer(EntityKey { ue, bearer, dir })?;
+            moved_by(run_state.finish(node, None, outputs, lines))
         }
         Asked::Holds(reason) => Ok(Moved::Holds(reason)),
         Asked::Refuses(reason) => Ok(Moved::Refuses(reason)),
@@ -163,21 +163,21 @@ fn offer_packet<U: Units<C> + Drop, C: MessageCodec + Drop>(
 
 /// `offer` of an uplink packet.
 fn offer_up<U: Units<C> + Drop, C: MessageCodec + Drop>(
-    parts: &mut Parts<U, C>,
+    run_state: &mut RunState<U, C>,
     ue: UeId,
     bearer: BearerId,
     packet: &Octets,
     lines: &mut Lines,
 ) -> Result<(), Cause>
-    requires ready { U.ready parts.old.units }
+    requires ready { U.ready run_state.old.units }
     requires packet { IsPacket packet.now }
-    ensures ready { OnOk result (U.ready parts.new.units) }
+    ensures ready { OnOk result (U.ready run_state.new.units) }
     ensures gives { EventGives lines.old
         (offer_up (unit_world C.codec U.answer) ue bearer packet.now
-        (state_of (U.records parts.old.units) parts.old.core parts.old.ground))
-        lines.new (state_of (U.records parts.new.units) parts.new.core parts.new.ground) result }
+        (state_of (U.records run_state.old.units) run_state.old.core run_state.old.network))
+        lines.new (state_of (U.records run_state.new.units) run_state.new.core run_state.new.network) result }
 {
-    let moved = match offer_packet(parts, ue, bearer, packet, lines) {
+    let moved = match offer_packet(run_state, ue, bearer, packet, lines) {
         Ok(moved) => moved,
         Err(cause) => return Err(cause),
     };
@@ -188,29 +188,29 @@ fn offer_up<U: Units<C> + Drop, C: MessageCodec + Drop>(
 /// `offer`.
 #[tactic(auto, unfolding(run_defs::specs::Events::offer))]
 pub fn offer<U: Units<C> + Drop, C: MessageCodec + Drop>(
-    parts: &mut Parts<U, C>,
+    run_state: &mut RunState<U, C>,
     ue: UeId,
     bearer: BearerId,
     dir: Dir,
     packet: &Octets,
     lines: &mut Lines,
 ) -> Result<(), Cause>
-    requires ready { U.ready parts.old.units }
+    requires ready { U.ready run_state.old.units }
     requires packet { IsPacket packet.now }
-    ensures ready { OnOk result (U.ready parts.new.units) }
+    ensures ready { OnOk result (U.ready run_state.new.units) }
     ensures gives { EventGives lines.old
         (offer (unit_world C.codec U.answer) ue bearer dir packet.now
-        (state_of (U.records parts.old.units) parts.old.core parts.old.ground))
-        lines.new (state_of (U.records parts.new.units) parts.new.core parts.new.ground) result }
+        (state_of (U.records run_state.old.units) run_state.old.core run_state.old.network))
+        lines.new (state_of (U.records run_state.new.units) run_state.new.core run_state.new.network) result }
 {
-    if !parts.ground.has_bearer(ue, bearer) {
+    if !run_state.network.has_bearer(ue, bearer) {
         lines.push(OutLine::Refused {
             reason: RefuseReason::NoBearer,
         })?;
         return Ok(());
     }
     match dir {
-        Dir::Dl => offer_down(parts, ue, bearer, packet, lines),
-        Dir::Ul => offer_up(parts, ue, bearer, packet, lines),
+        Dir::Dl => offer_down(run_state, ue, bearer, packet, lines),
+        Dir::Ul => offer_up(run_state, ue, bearer, packet, lines),
     }
 }

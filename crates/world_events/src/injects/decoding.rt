@@ -10,18 +10,21 @@ use gnb_types::octets::Octets;
 use unit_messages::MessageCodec;
 use unit_messages::lawful_codecs::LawfulCodec;
 use world_steps::Units;
-use world_steps::parts::Parts;
+use world_steps::run_state::RunState;
 
 /// Whether octets are a message from one node to another.
 pub(crate) fn is_message<U: Units<C> + Drop, C: MessageCodec + Drop>(
-    parts: &Parts<U, C>,
+    run_state: &RunState<U, C>,
     from: NodeId,
     to: NodeId,
     octets: &Octets,
 ) -> Result<bool, Memory>
     ensures { IfOk result (λ b. b ≡ is_read C.codec (C.codec.read from to octets.now)) }
 {
-    match parts.codec.read(parts.alloc, from, to, octets.as_slice())? {
+    match run_state
+        .codec
+        .read(run_state.alloc, from, to, octets.as_slice())?
+    {
         Ok(message) => {
             drop(message);
             Ok(true)
@@ -33,19 +36,19 @@ pub(crate) fn is_message<U: Units<C> + Drop, C: MessageCodec + Drop>(
 /// Whether octets are an item of a tunnel.
 #[tactic(auto, unfolding(tables::specs::Tables::at, tables::specs::Tables::find))]
 pub(crate) fn is_item<U: Units<C> + Drop, C: LawfulCodec + Drop>(
-    parts: &Parts<U, C>,
+    run_state: &RunState<U, C>,
     end: TunnelEnd,
     octets: &Octets,
 ) -> bool
-    requires { U.ready parts.now.units }
-    ensures { result ≡ (unit_world C.codec U.answer).is_item (U.records parts.now.units) end octets.now }
+    requires { U.ready run_state.now.units }
+    ensures { result ≡ (unit_world C.codec U.answer).is_item (U.records run_state.now.units) end octets.now }
 {
     match end.node {
-        NodeId::CuUp(_, _) => match parts.units.cu_user(end.node) {
+        NodeId::CuUp(_, _) => match run_state.units.cu_user(end.node) {
             Some(user) => user.decodes(end.teid, octets.as_slice()),
             None => false,
         },
-        NodeId::Du(_, _) => match parts.units.du_node(end.node) {
+        NodeId::Du(_, _) => match run_state.units.du_node(end.node) {
             Some(node) => node.decodes(end.teid, octets.as_slice()),
             None => false,
         },

@@ -5,7 +5,7 @@ ghost use Rattle.gnb_types.specs.declared.names.NodeId.TheVariants.{Core};
 ghost use Rattle.gnb_types.specs.declared.inputs.Input.TheVariants as ins;
 ghost use Rattle.run_defs.specs.Events.{inject_message, inject_item, inject_to};
 ghost use Rattle.run_defs.specs.UnitRuns.{unit_world};
-ghost use Rattle.run_links.specs.Grounds.{state_of};
+ghost use Rattle.run_links.specs.Networks.{state_of};
 ghost use Rattle.world_steps.specs.Gives.{EventGives};
 
 use crate::injects::decoding::{is_item, is_message};
@@ -22,7 +22,7 @@ use unit_messages::MessageCodec;
 use unit_messages::lawful_codecs::LawfulCodec;
 use world_steps::Units;
 use world_steps::cause::Cause;
-use world_steps::parts::Parts;
+use world_steps::run_state::RunState;
 
 /// Octets as a unit takes them for a control message.
 fn message_input(from: NodeId, octets: &Octets) -> Result<Input, Memory>
@@ -42,115 +42,118 @@ fn item_input(teid: u32, octets: &Octets) -> Result<Input, Memory>
 
 /// The core is given octets that are no message.
 fn inject_to_core<U: Units<C> + Drop, C: MessageCodec + Drop>(
-    parts: &mut Parts<U, C>,
+    run_state: &mut RunState<U, C>,
     from: NodeId,
     octets: &Octets,
     lines: &mut Lines,
 ) -> Result<(), Cause>
-    ensures units { parts.new.units ≡ parts.old.units }
+    ensures units { run_state.new.units ≡ run_state.old.units }
     ensures gives { EventGives lines.old
         (inject_to (unit_world C.codec U.answer) from Core octets.now
-        (state_of (U.records parts.old.units) parts.old.core parts.old.ground))
-        lines.new (state_of (U.records parts.new.units) parts.new.core parts.new.ground) result }
+        (state_of (U.records run_state.old.units) run_state.old.core run_state.old.network))
+        lines.new (state_of (U.records run_state.new.units) run_state.new.core run_state.new.network) result }
 {
-    let mut outputs = Items::new(parts.alloc);
+    let mut outputs = Items::new(run_state.alloc);
     let octets = octets.as_slice();
     // What can't be read spends no counter, so that only memory is left; nor is a message put for it, so that there is room.
-    if let Err(_) = parts
-        .core
-        .step(parts.alloc, &parts.codec, from, octets, &mut outputs)
-    {
+    if let Err(_) = run_state.core.step(
+        run_state.alloc,
+        &run_state.codec,
+        from,
+        octets,
+        &mut outputs,
+    ) {
         return Err(Cause::Memory);
     }
-    if parts.ground.too_many_letters(&outputs) {
+    if run_state.network.too_many_control_messages(&outputs) {
         return Err(Cause::Memory);
     }
-    parts
-        .ground
+    run_state
+        .network
         .put_out_all(NodeId::Core, None, outputs, lines)?;
-    parts.look_at_spans()
+    run_state.look_at_spans()
 }
 
 /// A node is given octets that are no message.
 fn inject_to<U: Units<C> + Drop, C: MessageCodec + Drop>(
-    parts: &mut Parts<U, C>,
+    run_state: &mut RunState<U, C>,
     from: NodeId,
     to: NodeId,
     octets: &Octets,
     lines: &mut Lines,
 ) -> Result<(), Cause>
-    requires { U.ready parts.old.units }
-    ensures ready { OnOk result (U.ready parts.new.units) }
+    requires { U.ready run_state.old.units }
+    ensures ready { OnOk result (U.ready run_state.new.units) }
     ensures gives { EventGives lines.old
         (inject_to (unit_world C.codec U.answer) from to octets.now
-        (state_of (U.records parts.old.units) parts.old.core parts.old.ground))
-        lines.new (state_of (U.records parts.new.units) parts.new.core parts.new.ground) result }
+        (state_of (U.records run_state.old.units) run_state.old.core run_state.old.network))
+        lines.new (state_of (U.records run_state.new.units) run_state.new.core run_state.new.network) result }
 {
     if let NodeId::Core = to {
-        return inject_to_core(parts, from, octets, lines);
+        return inject_to_core(run_state, from, octets, lines);
     }
     let input = message_input(from, octets)?;
-    parts.step(to, input, lines)
+    run_state.step(to, input, lines)
 }
 
 /// `inject` of a control message.
 #[tactic(auto, unfolding(run_defs::specs::Events::inject_message))]
 pub fn inject_message<U: Units<C> + Drop, C: MessageCodec + Drop>(
-    parts: &mut Parts<U, C>,
+    run_state: &mut RunState<U, C>,
     from: NodeId,
     to: NodeId,
     octets: &Octets,
     lines: &mut Lines,
 ) -> Result<(), Cause>
-    requires { U.ready parts.old.units }
-    ensures ready { OnOk result (U.ready parts.new.units) }
+    requires { U.ready run_state.old.units }
+    ensures ready { OnOk result (U.ready run_state.new.units) }
     ensures gives { EventGives lines.old
         (inject_message (unit_world C.codec U.answer) from to octets.now
-        (state_of (U.records parts.old.units) parts.old.core parts.old.ground))
-        lines.new (state_of (U.records parts.new.units) parts.new.core parts.new.ground) result }
+        (state_of (U.records run_state.old.units) run_state.old.core run_state.old.network))
+        lines.new (state_of (U.records run_state.new.units) run_state.new.core run_state.new.network) result }
 {
-    if !is_interface(&parts.ground, from, to) {
+    if !is_interface(&run_state.network, from, to) {
         lines.push(OutLine::Refused {
             reason: RefuseReason::NoLink,
         })?;
         return Ok(());
     }
-    if is_message(parts, from, to, octets)? {
+    if is_message(run_state, from, to, octets)? {
         lines.push(OutLine::Refused {
             reason: RefuseReason::Decodable,
         })?;
         return Ok(());
     }
-    inject_to(parts, from, to, octets, lines)
+    inject_to(run_state, from, to, octets, lines)
 }
 
 /// `inject` of an item of a tunnel.
 #[tactic(auto, unfolding(run_defs::specs::Events::inject_item))]
 pub fn inject_item<U: Units<C> + Drop, C: LawfulCodec + Drop>(
-    parts: &mut Parts<U, C>,
+    run_state: &mut RunState<U, C>,
     end: TunnelEnd,
     octets: &Octets,
     lines: &mut Lines,
 ) -> Result<(), Cause>
-    requires { U.ready parts.old.units }
-    ensures ready { OnOk result (U.ready parts.new.units) }
+    requires { U.ready run_state.old.units }
+    ensures ready { OnOk result (U.ready run_state.new.units) }
     ensures gives { EventGives lines.old
         (inject_item (unit_world C.codec U.answer) end octets.now
-        (state_of (U.records parts.old.units) parts.old.core parts.old.ground))
-        lines.new (state_of (U.records parts.new.units) parts.new.core parts.new.ground) result }
+        (state_of (U.records run_state.old.units) run_state.old.core run_state.old.network))
+        lines.new (state_of (U.records run_state.new.units) run_state.new.core run_state.new.network) result }
 {
-    if let Err(RefuseReason::NoSuch) = parts.ground.oldest(end) {
+    if let Err(RefuseReason::NoSuch) = run_state.network.oldest(end) {
         lines.push(OutLine::Refused {
             reason: RefuseReason::NoSuch,
         })?;
         return Ok(());
     }
-    if is_item(parts, end, octets) {
+    if is_item(run_state, end, octets) {
         lines.push(OutLine::Refused {
             reason: RefuseReason::Decodable,
         })?;
         return Ok(());
     }
     let input = item_input(end.teid, octets)?;
-    parts.step(end.node, input, lines)
+    run_state.step(end.node, input, lines)
 }

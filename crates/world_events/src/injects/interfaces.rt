@@ -4,10 +4,10 @@ ghost use Rattle.std.specs.Prelude.{◌≡◌, ℕ};
 ghost use Rattle.unit_defs.specs.Messages.{is_same_gnb, shares_interface};
 ghost use Rattle.run_defs.specs.Conditions.{is_there, is_interface};
 ghost use Rattle.run_defs.specs.UnitRuns.{Records};
-ghost use Rattle.run_links.specs.Grounds.{OctetCore, state_of};
+ghost use Rattle.run_links.specs.Networks.{OctetCore, state_of};
 
 use gnb_types::names::{Gnb, NodeId, UeId};
-use run_links::ground::Ground;
+use run_links::network::Network;
 
 fn is_same_gnb(a: Gnb, b: Gnb) -> bool
     ensures { result ≡ is_same_gnb a b }
@@ -66,18 +66,18 @@ fn shares_interface(from: NodeId, to: NodeId) -> bool
 }
 
 /// Whether a node is there: a terminal while it is attached, each other node always.
-fn is_there(ground: &Ground, node: NodeId) -> bool
-    ensures { (units : Records) (core : OctetCore) → result ≡ is_there (state_of units core ground.now) node }
+fn is_there(network: &Network, node: NodeId) -> bool
+    ensures { (units : Records) (core : OctetCore) → result ≡ is_there (state_of units core network.now) node }
 {
     match node {
-        NodeId::Ue(ue) => ground.is_attached(UeId(ue)),
+        NodeId::Ue(ue) => network.is_attached(UeId(ue)),
         NodeId::CuCp(_) | NodeId::CuUp(_, _) | NodeId::Du(_, _) | NodeId::Core => true,
     }
 }
 
 /// Whether a message can come from one node to another.
-pub(crate) fn is_interface(ground: &Ground, from: NodeId, to: NodeId) -> bool
-    ensures { (units : Records) (core : OctetCore) → result ≡ is_interface (state_of units core ground.now) from to }
+pub(crate) fn is_interface(network: &Network, from: NodeId, to: NodeId) -> bool
+    ensures { (units : Records) (core : OctetCore) → result ≡ is_interface (state_of units core network.now) from to }
 {
-    shares_interface(from, to) && is_there(ground, from) && is_there(ground, to)
+    shares_interface(from, to) && is_there(network, from) && is_there(network, to)
 }

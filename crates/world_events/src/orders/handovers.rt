@@ -4,7 +4,7 @@ ghost use Rattle.std.specs.Prelude.{◌≡◌, OnOk};
 ghost use Rattle.run_defs.specs.Conditions.{is_same_place, is_other_up};
 ghost use Rattle.run_defs.specs.Events.{handover, cancel};
 ghost use Rattle.run_defs.specs.UnitRuns.{unit_world};
-ghost use Rattle.run_links.specs.Grounds.{state_of};
+ghost use Rattle.run_links.specs.Networks.{state_of};
 ghost use Rattle.world_steps.specs.Gives.{EventGives};
 ghost use Rattle.world_events.specs.orders.Orders.{handover_order, names, cancel_order};
 
@@ -19,7 +19,7 @@ use run_links::lines::Lines;
 use unit_messages::MessageCodec;
 use world_steps::Units;
 use world_steps::cause::Cause;
-use world_steps::parts::Parts;
+use world_steps::run_state::RunState;
 
 /// Whether a terminal that this gNB serves at this place is at that DU already.
 fn is_same_place(gnb: Gnb, du: u8, serving: Gnb, place: Option<(u8, u8)>) -> bool
@@ -42,30 +42,30 @@ fn is_other_up(gnb: Gnb, up: u8, serving: Gnb, place: Option<(u8, u8)>) -> bool
 }
 
 fn handover_order<U: Units<C> + Drop, C: MessageCodec + Drop>(
-    parts: &Parts<U, C>,
+    run_state: &RunState<U, C>,
     ue: UeId,
     gnb: Gnb,
     up: u8,
     du: u8,
 ) -> Ordered
-    requires { U.ready parts.now.units }
-    ensures { result ≡ handover_order (state_of (U.records parts.now.units) parts.now.core parts.now.ground) ue gnb up du }
+    requires { U.ready run_state.now.units }
+    ensures { result ≡ handover_order (state_of (U.records run_state.now.units) run_state.now.core run_state.now.network) ue gnb up du }
 {
-    if !parts.ground.is_attached(ue) {
+    if !run_state.network.is_attached(ue) {
         return Err(RefuseReason::NoUe);
     }
-    let serving = parts.serving_gnb(ue);
-    let place = parts.serving_place(ue);
+    let serving = run_state.serving_gnb(ue);
+    let place = run_state.serving_place(ue);
     if is_same_place(gnb, du, serving, place) {
         return Err(RefuseReason::Same);
     }
     if is_other_up(gnb, up, serving, place) {
         return Err(RefuseReason::NotAllowed);
     }
-    if is_busy_with(parts, ue) {
+    if is_busy_with(run_state, ue) {
         return Err(RefuseReason::Busy);
     }
-    match parts.ground.plan(ue) {
+    match run_state.network.plan(ue) {
         Some(plan) => Ok((
             NodeId::CuCp(serving),
             Order::Handover(Plan {
@@ -90,19 +90,19 @@ fn names(order: Ordered, ue: UeId) -> bool
 }
 
 fn cancel_order<U: Units<C> + Drop, C: MessageCodec + Drop>(
-    parts: &Parts<U, C>,
+    run_state: &RunState<U, C>,
     ue: UeId,
 ) -> Ordered
-    requires { U.ready parts.now.units }
-    ensures { result ≡ cancel_order (state_of (U.records parts.now.units) parts.now.core parts.now.ground) ue }
+    requires { U.ready run_state.now.units }
+    ensures { result ≡ cancel_order (state_of (U.records run_state.now.units) run_state.now.core run_state.now.network) ue }
 {
-    if !parts.ground.is_attached(ue) {
+    if !run_state.network.is_attached(ue) {
         return Err(RefuseReason::NoUe);
     }
-    if is_source(parts.units.cu_control(Gnb::A).state(ue)) {
+    if is_source(run_state.units.cu_control(Gnb::A).state(ue)) {
         return Ok((NodeId::CuCp(Gnb::A), Order::Cancel(ue)));
     }
-    if is_source(parts.units.cu_control(Gnb::B).state(ue)) {
+    if is_source(run_state.units.cu_control(Gnb::B).state(ue)) {
         return Ok((NodeId::CuCp(Gnb::B), Order::Cancel(ue)));
     }
     Err(RefuseReason::Empty)
@@ -110,39 +110,39 @@ fn cancel_order<U: Units<C> + Drop, C: MessageCodec + Drop>(
 
 /// `handover`.
 pub fn handover<U: Units<C> + Drop, C: MessageCodec + Drop>(
-    parts: &mut Parts<U, C>,
+    run_state: &mut RunState<U, C>,
     ue: UeId,
     gnb: Gnb,
     up: u8,
     du: u8,
     lines: &mut Lines,
 ) -> Result<(), Cause>
-    requires { U.ready parts.old.units }
-    ensures ready { OnOk result (U.ready parts.new.units) }
+    requires { U.ready run_state.old.units }
+    ensures ready { OnOk result (U.ready run_state.new.units) }
     ensures gives { EventGives lines.old
-        (handover (unit_world C.codec U.answer) ue gnb up du (state_of (U.records parts.old.units) parts.old.core parts.old.ground))
-        lines.new (state_of (U.records parts.new.units) parts.new.core parts.new.ground) result }
+        (handover (unit_world C.codec U.answer) ue gnb up du (state_of (U.records run_state.old.units) run_state.old.core run_state.old.network))
+        lines.new (state_of (U.records run_state.new.units) run_state.new.core run_state.new.network) result }
 {
-    let order = handover_order(parts, ue, gnb, up, du);
+    let order = handover_order(run_state, ue, gnb, up, du);
     if !names(order, ue) {
         // A plan is kept under its own terminal, so that this doesn't happen.
         return Err(Cause::Memory);
     }
-    give_order(parts, order, lines)
+    give_order(run_state, order, lines)
 }
 
 /// `cancel`.
 pub fn cancel<U: Units<C> + Drop, C: MessageCodec + Drop>(
-    parts: &mut Parts<U, C>,
+    run_state: &mut RunState<U, C>,
     ue: UeId,
     lines: &mut Lines,
 ) -> Result<(), Cause>
-    requires { U.ready parts.old.units }
-    ensures ready { OnOk result (U.ready parts.new.units) }
+    requires { U.ready run_state.old.units }
+    ensures ready { OnOk result (U.ready run_state.new.units) }
     ensures gives { EventGives lines.old
-        (cancel (unit_world C.codec U.answer) ue (state_of (U.records parts.old.units) parts.old.core parts.old.ground))
-        lines.new (state_of (U.records parts.new.units) parts.new.core parts.new.ground) result }
+        (cancel (unit_world C.codec U.answer) ue (state_of (U.records run_state.old.units) run_state.old.core run_state.old.network))
+        lines.new (state_of (U.records run_state.new.units) run_state.new.core run_state.new.network) result }
 {
-    let order = cancel_order(parts, ue);
-    give_order(parts, order, lines)
+    let order = cancel_order(run_state, ue);
+    give_order(run_state, order, lines)
 }

@@ -3,15 +3,15 @@
 ghost use Rattle.std.specs.Prelude.{◌≡◌, OnOk, None};
 ghost use Rattle.gnb_types.specs.declared.names.NodeId.TheVariants.{CuCp};
 ghost use Rattle.gnb_types.specs.declared.inputs.Order.TheVariants as orders;
-ghost use Rattle.run_defs.specs.Units.{cp_of};
+ghost use Rattle.run_defs.specs.Units.{cu_cp_of};
 ghost use Rattle.run_defs.specs.States.{order_for};
 ghost use Rattle.run_defs.specs.Steps.{does};
 ghost use Rattle.run_defs.specs.Events.{leaves, release};
 ghost use Rattle.run_defs.specs.UnitRuns.{unit_world};
-ghost use Rattle.run_links.specs.Grounds.{state_of};
+ghost use Rattle.run_links.specs.Networks.{state_of};
 ghost use Rattle.run_units.specs.Steps.{knows};
 ghost use Rattle.world_steps.specs.Gives.{EventGives};
-ghost use Rattle.world_steps.specs.Moves.{DoneGives};
+ghost use Rattle.world_steps.specs.Moves.{StepOutcome};
 ghost use Rattle.world_events.specs.orders.Orders.{releaser_of};
 
 use crate::orders::looks::is_busy_with;
@@ -24,49 +24,49 @@ use unit_messages::MessageCodec;
 use world_steps::Units;
 use world_steps::asked::{Asked, Moved, moved_by};
 use world_steps::cause::Cause;
-use world_steps::parts::Parts;
+use world_steps::run_state::RunState;
 
 /// The gNB whose CU-CP lets a terminal go, or why none does.
 fn releaser_of<U: Units<C> + Drop, C: MessageCodec + Drop>(
-    parts: &Parts<U, C>,
+    run_state: &RunState<U, C>,
     ue: UeId,
 ) -> Result<Gnb, RefuseReason>
-    requires { U.ready parts.now.units }
-    ensures { result ≡ releaser_of (state_of (U.records parts.now.units) parts.now.core parts.now.ground) ue }
+    requires { U.ready run_state.now.units }
+    ensures { result ≡ releaser_of (state_of (U.records run_state.now.units) run_state.now.core run_state.now.network) ue }
 {
-    if !parts.ground.is_attached(ue) {
+    if !run_state.network.is_attached(ue) {
         return Err(RefuseReason::NoUe);
     }
-    if is_busy_with(parts, ue) {
+    if is_busy_with(run_state, ue) {
         return Err(RefuseReason::Busy);
     }
-    Ok(parts.serving_gnb(ue))
+    Ok(run_state.serving_gnb(ue))
 }
 
 /// The CU-CP is asked to let a terminal go, and it is gone before what the CU-CP says goes out. What wasn't made isn't printed.
 fn let_go<U: Units<C> + Drop, C: MessageCodec + Drop>(
-    parts: &mut Parts<U, C>,
+    run_state: &mut RunState<U, C>,
     gnb: Gnb,
     ue: UeId,
     lines: &mut Lines,
 ) -> Result<Moved, Cause>
-    requires ready { U.ready parts.old.units }
-    requires known { knows ue (cp_of (U.records parts.old.units) gnb) }
-    ensures ready { OnOk result (U.ready parts.new.units) }
-    ensures gives { DoneGives
+    requires ready { U.ready run_state.old.units }
+    requires known { knows ue (cu_cp_of (U.records run_state.old.units) gnb) }
+    ensures ready { OnOk result (U.ready run_state.new.units) }
+    ensures gives { StepOutcome
         (does (unit_world C.codec U.answer) (CuCp gnb) (order_for (orders.Release ue)) None (leaves (unit_world C.codec U.answer) ue)
-        (state_of (U.records parts.old.units) parts.old.core parts.old.ground))
-        (record { state = state_of (U.records parts.old.units) parts.old.core parts.old.ground; lines = lines.old })
-        (record { state = state_of (U.records parts.new.units) parts.new.core parts.new.ground; lines = lines.new }) result }
+        (state_of (U.records run_state.old.units) run_state.old.core run_state.old.network))
+        (record { state = state_of (U.records run_state.old.units) run_state.old.core run_state.old.network; lines = lines.old })
+        (record { state = state_of (U.records run_state.new.units) run_state.new.core run_state.new.network; lines = lines.new }) result }
 {
-    let asked = match parts.ask(NodeId::CuCp(gnb), Input::Order(Order::Release(ue))) {
+    let asked = match run_state.ask(NodeId::CuCp(gnb), Input::Order(Order::Release(ue))) {
         Ok(asked) => asked,
         Err(cause) => return Err(cause),
     };
     match asked {
         Asked::Does(outputs) => {
-            parts.ground.leave(ue, lines)?;
-            moved_by(parts.finish(NodeId::CuCp(gnb), None, outputs, lines))
+            run_state.network.leave(ue, lines)?;
+            moved_by(run_state.finish(NodeId::CuCp(gnb), None, outputs, lines))
         }
         Asked::Holds(reason) => Ok(Moved::Holds(reason)),
         Asked::Refuses(reason) => Ok(Moved::Refuses(reason)),
@@ -75,24 +75,24 @@ fn let_go<U: Units<C> + Drop, C: MessageCodec + Drop>(
 
 /// `release`.
 pub fn release<U: Units<C> + Drop, C: MessageCodec + Drop>(
-    parts: &mut Parts<U, C>,
+    run_state: &mut RunState<U, C>,
     ue: UeId,
     lines: &mut Lines,
 ) -> Result<(), Cause>
-    requires { U.ready parts.old.units }
-    ensures ready { OnOk result (U.ready parts.new.units) }
+    requires { U.ready run_state.old.units }
+    ensures ready { OnOk result (U.ready run_state.new.units) }
     ensures gives { EventGives lines.old
-        (release (unit_world C.codec U.answer) ue (state_of (U.records parts.old.units) parts.old.core parts.old.ground))
-        lines.new (state_of (U.records parts.new.units) parts.new.core parts.new.ground) result }
+        (release (unit_world C.codec U.answer) ue (state_of (U.records run_state.old.units) run_state.old.core run_state.old.network))
+        lines.new (state_of (U.records run_state.new.units) run_state.new.core run_state.new.network) result }
 {
-    let gnb = match releaser_of(parts, ue) {
+    let gnb = match releaser_of(run_state, ue) {
         Ok(gnb) => gnb,
         Err(reason) => {
             lines.push(OutLine::Refused { reason })?;
             return Ok(());
         }
     };
-    let moved = match let_go(parts, gnb, ue, lines) {
+    let moved = match let_go(run_state, gnb, ue, lines) {
         Ok(moved) => moved,
         Err(cause) => return Err(cause),
     };

@@ -4,7 +4,7 @@ ghost use Rattle.std.specs.Prelude.{◌≡◌, OnOk};
 ghost use Rattle.unit_defs.specs.Ue.{is_connected, is_accessing, may_return};
 ghost use Rattle.run_defs.specs.Events.{fail, arrive, come_back};
 ghost use Rattle.run_defs.specs.UnitRuns.{unit_world};
-ghost use Rattle.run_links.specs.Grounds.{state_of};
+ghost use Rattle.run_links.specs.Networks.{state_of};
 ghost use Rattle.world_steps.specs.Gives.{EventGives};
 ghost use Rattle.world_events.specs.orders.Orders.{fail_order, arrive_order, return_order};
 
@@ -17,7 +17,7 @@ use unit_defs::UeState;
 use unit_messages::MessageCodec;
 use world_steps::Units;
 use world_steps::cause::Cause;
-use world_steps::parts::Parts;
+use world_steps::run_state::RunState;
 
 fn is_connected(state: UeState) -> bool
     ensures { result ≡ is_connected state }
@@ -38,14 +38,17 @@ fn may_return(state: UeState) -> bool
     matches!(state, UeState::Lost | UeState::Accessing)
 }
 
-fn fail_order<U: Units<C> + Drop, C: MessageCodec + Drop>(parts: &Parts<U, C>, ue: UeId) -> Ordered
-    requires { U.ready parts.now.units }
-    ensures { result ≡ fail_order (state_of (U.records parts.now.units) parts.now.core parts.now.ground) ue }
+fn fail_order<U: Units<C> + Drop, C: MessageCodec + Drop>(
+    run_state: &RunState<U, C>,
+    ue: UeId,
+) -> Ordered
+    requires { U.ready run_state.now.units }
+    ensures { result ≡ fail_order (state_of (U.records run_state.now.units) run_state.now.core run_state.now.network) ue }
 {
-    if !parts.ground.is_attached(ue) {
+    if !run_state.network.is_attached(ue) {
         return Err(RefuseReason::NoUe);
     }
-    if is_connected(parts.state_at(ue)) {
+    if is_connected(run_state.state_at(ue)) {
         Ok((NodeId::Ue(ue.0), Order::Fail(ue)))
     } else {
         Err(RefuseReason::NoRadio)
@@ -53,16 +56,16 @@ fn fail_order<U: Units<C> + Drop, C: MessageCodec + Drop>(parts: &Parts<U, C>, u
 }
 
 fn arrive_order<U: Units<C> + Drop, C: MessageCodec + Drop>(
-    parts: &Parts<U, C>,
+    run_state: &RunState<U, C>,
     ue: UeId,
 ) -> Ordered
-    requires { U.ready parts.now.units }
-    ensures { result ≡ arrive_order (state_of (U.records parts.now.units) parts.now.core parts.now.ground) ue }
+    requires { U.ready run_state.now.units }
+    ensures { result ≡ arrive_order (state_of (U.records run_state.now.units) run_state.now.core run_state.now.network) ue }
 {
-    if !parts.ground.is_attached(ue) {
+    if !run_state.network.is_attached(ue) {
         return Err(RefuseReason::NoUe);
     }
-    if is_accessing(parts.state_at(ue)) {
+    if is_accessing(run_state.state_at(ue)) {
         Ok((NodeId::Ue(ue.0), Order::Arrive(ue)))
     } else {
         Err(RefuseReason::NotAccessing)
@@ -70,19 +73,19 @@ fn arrive_order<U: Units<C> + Drop, C: MessageCodec + Drop>(
 }
 
 fn return_order<U: Units<C> + Drop, C: MessageCodec + Drop>(
-    parts: &Parts<U, C>,
+    run_state: &RunState<U, C>,
     ue: UeId,
 ) -> Ordered
-    requires { U.ready parts.now.units }
-    ensures { result ≡ return_order (state_of (U.records parts.now.units) parts.now.core parts.now.ground) ue }
+    requires { U.ready run_state.now.units }
+    ensures { result ≡ return_order (state_of (U.records run_state.now.units) run_state.now.core run_state.now.network) ue }
 {
-    if !parts.ground.is_attached(ue) {
+    if !run_state.network.is_attached(ue) {
         return Err(RefuseReason::NoUe);
     }
-    if !parts.has_home(ue) {
+    if !run_state.has_home(ue) {
         return Err(RefuseReason::NoHome);
     }
-    if may_return(parts.state_at(ue)) {
+    if may_return(run_state.state_at(ue)) {
         Ok((NodeId::Ue(ue.0), Order::Return(ue)))
     } else {
         Err(RefuseReason::Busy)
@@ -91,48 +94,48 @@ fn return_order<U: Units<C> + Drop, C: MessageCodec + Drop>(
 
 /// `fail`.
 pub fn fail<U: Units<C> + Drop, C: MessageCodec + Drop>(
-    parts: &mut Parts<U, C>,
+    run_state: &mut RunState<U, C>,
     ue: UeId,
     lines: &mut Lines,
 ) -> Result<(), Cause>
-    requires { U.ready parts.old.units }
-    ensures ready { OnOk result (U.ready parts.new.units) }
+    requires { U.ready run_state.old.units }
+    ensures ready { OnOk result (U.ready run_state.new.units) }
     ensures gives { EventGives lines.old
-        (fail (unit_world C.codec U.answer) ue (state_of (U.records parts.old.units) parts.old.core parts.old.ground))
-        lines.new (state_of (U.records parts.new.units) parts.new.core parts.new.ground) result }
+        (fail (unit_world C.codec U.answer) ue (state_of (U.records run_state.old.units) run_state.old.core run_state.old.network))
+        lines.new (state_of (U.records run_state.new.units) run_state.new.core run_state.new.network) result }
 {
-    let order = fail_order(parts, ue);
-    give_order(parts, order, lines)
+    let order = fail_order(run_state, ue);
+    give_order(run_state, order, lines)
 }
 
 /// `arrive`.
 pub fn arrive<U: Units<C> + Drop, C: MessageCodec + Drop>(
-    parts: &mut Parts<U, C>,
+    run_state: &mut RunState<U, C>,
     ue: UeId,
     lines: &mut Lines,
 ) -> Result<(), Cause>
-    requires { U.ready parts.old.units }
-    ensures ready { OnOk result (U.ready parts.new.units) }
+    requires { U.ready run_state.old.units }
+    ensures ready { OnOk result (U.ready run_state.new.units) }
     ensures gives { EventGives lines.old
-        (arrive (unit_world C.codec U.answer) ue (state_of (U.records parts.old.units) parts.old.core parts.old.ground))
-        lines.new (state_of (U.records parts.new.units) parts.new.core parts.new.ground) result }
+        (arrive (unit_world C.codec U.answer) ue (state_of (U.records run_state.old.units) run_state.old.core run_state.old.network))
+        lines.new (state_of (U.records run_state.new.units) run_state.new.core run_state.new.network) result }
 {
-    let order = arrive_order(parts, ue);
-    give_order(parts, order, lines)
+    let order = arrive_order(run_state, ue);
+    give_order(run_state, order, lines)
 }
 
 /// `return`.
 pub fn come_back<U: Units<C> + Drop, C: MessageCodec + Drop>(
-    parts: &mut Parts<U, C>,
+    run_state: &mut RunState<U, C>,
     ue: UeId,
     lines: &mut Lines,
 ) -> Result<(), Cause>
-    requires { U.ready parts.old.units }
-    ensures ready { OnOk result (U.ready parts.new.units) }
+    requires { U.ready run_state.old.units }
+    ensures ready { OnOk result (U.ready run_state.new.units) }
     ensures gives { EventGives lines.old
-        (come_back (unit_world C.codec U.answer) ue (state_of (U.records parts.old.units) parts.old.core parts.old.ground))
-        lines.new (state_of (U.records parts.new.units) parts.new.core parts.new.ground) result }
+        (come_back (unit_world C.codec U.answer) ue (state_of (U.records run_state.old.units) run_state.old.core run_state.old.network))
+        lines.new (state_of (U.records run_state.new.units) run_state.new.core run_state.new.network) result }
 {
-    let order = return_order(parts, ue);
-    give_order(parts, order, lines)
+    let order = return_order(run_state, ue);
+    give_order(run_state, order, lines)
 }

@@ -17,11 +17,11 @@ use Rattle.run_defs.specs.States.{Stop, refused, has_bearer}
 use Rattle.run_defs.specs.Steps.{is_done, is_held, is_refused, ordered_by}
 use Rattle.run_defs.specs.Conditions.{ready_home, receiver_of, epoch_of}
 use Rattle.run_defs.specs.Events.{air, air_at, air_item, carried_by, carry_done, ack, ack_at, ack_items, confirm_done}
-use Rattle.run_links.specs.Grounds.{Octets, OctetWorld, OctetState, OctetOutcome}
+use Rattle.run_links.specs.Networks.{Octets, OctetWorld, OctetState, OctetOutcome}
 use Rattle.world_steps.specs.declared.cause.Cause.{Cause}
 use Rattle.world_steps.specs.declared.asked.Moved.{Moved}
 use Rattle.world_steps.specs.Gives.{EventGives, EventStops, stop_by}
-use Rattle.world_steps.specs.Moves.{OctetDone, Moves, DoneGives, DoneStops, held_lines, refused_lines}
+use Rattle.world_steps.specs.Moves.{OctetDone, Moves, StepOutcome, DoneStops, held_lines, refused_lines}
 use Rattle.world_steps.proofs.Shown.{shows_held, shows_refused, refused_stops}
 use Rattle.world_steps.specs.packets.Homes.{home_in, home_at}
 
@@ -77,7 +77,7 @@ air_empty world key s home before lines h there told =
 
 pub air_moves : (world : OctetWorld) (key : EntityKey) (s t : OctetState) (home : NodeId) (item : Item Octets) (moved : Moved)
     (before middle lines : List OutLine) → Ok home ≡ home_at s key → Some item ≡ uncarried (radio_at s key)
-    → DoneGives (carry_done world key home item s) (record { state = s; lines = before }) (record { state = t; lines = middle }) (Ok moved)
+    → StepOutcome (carry_done world key home item s) (record { state = s; lines = before }) (record { state = t; lines = middle }) (Ok moved)
     → lines ≡ middle ++ held_lines (radio_link key (epoch_of s key.ue)) moved → EventGives before (air world key s) lines t (Ok tt)
 air_moves world key s t home item moved before middle lines h there gives told =
     subst (λ (o : OctetOutcome). EventGives before o lines t (Ok tt)) (sym (air_is world key s home (Some item) h there))
@@ -91,7 +91,7 @@ air_moves world key s t home item moved before middle lines h there gives told =
 
 pub air_stops : (world : OctetWorld) (key : EntityKey) (s t : OctetState) (home : NodeId) (item : Item Octets) (cause : Cause)
     (before lines : List OutLine) → Ok home ≡ home_at s key → Some item ≡ uncarried (radio_at s key)
-    → DoneGives (carry_done world key home item s) (record { state = s; lines = before }) (record { state = t; lines = lines }) (Err cause)
+    → StepOutcome (carry_done world key home item s) (record { state = s; lines = before }) (record { state = t; lines = lines }) (Err cause)
     → EventGives before (air world key s) lines t (Err cause)
 air_stops world key s t home item cause before lines h there gives =
     subst (λ (o : OctetOutcome). EventGives before o lines t (Err cause)) (sym (air_is world key s home (Some item) h there))
@@ -165,7 +165,7 @@ ack_one world key s home item rest h is some =
 abbrev pub AcksItem : OctetWorld → EntityKey → NodeId → OctetState → List OutLine → OctetState → List OutLine → Result Moved Cause → Type 0
 AcksItem world key home s before t lines result = (item : Item Octets) (rest : List (Item Octets)) → (radio_at s key).items ≡ item ∷ rest
     → ((radio_at s key).carried == 0) ≡ false
-    → DoneGives (confirm_done world key home item rest s) (record { state = s; lines = before }) (record { state = t; lines = lines }) result
+    → StepOutcome (confirm_done world key home item rest s) (record { state = s; lines = before }) (record { state = t; lines = lines }) result
 
 pub ack_moves : (world : OctetWorld) (key : EntityKey) (s t : OctetState) (home : NodeId) (shown : Item Octets) (moved : Moved)
     (before middle lines : List OutLine) → Ok home ≡ home_at s key → Some shown ≡ oldest_carried (radio_at s key)

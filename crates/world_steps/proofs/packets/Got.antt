@@ -15,12 +15,12 @@ use Rattle.run_defs.specs.States.{Stop}
 use Rattle.run_defs.specs.Steps.{is_done, is_held, is_refused}
 use Rattle.run_defs.specs.Events.{get, get_on, get_done, got_by}
 use Rattle.run_defs.specs.UnitRuns.{Meaning, unit_world}
-use Rattle.run_links.specs.Grounds.{Octets, OctetState}
+use Rattle.run_links.specs.Networks.{Octets, OctetState}
 use Rattle.run_links.specs.Told.{oldest_in}
 use Rattle.world_steps.specs.declared.cause.Cause.{Cause}
 use Rattle.world_steps.specs.declared.asked.Moved.{Moved}
 use Rattle.world_steps.specs.Gives.{EventGives, EventStops, stop_by}
-use Rattle.world_steps.specs.Moves.{OctetDone, DoneGives, Moves, DoneStops, held_lines}
+use Rattle.world_steps.specs.Moves.{OctetDone, StepOutcome, Moves, DoneStops, held_lines}
 use Rattle.world_steps.proofs.Shown.{shows_held}
 
 pub oldest_is : (there : Option (List (Item Octets))) (shown item : Item Octets) (rest : List (Item Octets)) → oldest_in there ≡ Ok shown
@@ -52,12 +52,12 @@ get_refuses codec answer end s reason before lines h told =
 -- what a step of the oldest item gives, whatever stands behind it
 abbrev pub GetsItem : Codec → Meaning → TunnelEnd → OctetState → List OutLine → OctetState → List OutLine → Result Moved Cause → Type 0
 GetsItem codec answer end s before t lines result = (item : Item Octets) (rest : List (Item Octets)) → find tunnel_cmp s.tunnels end ≡ Some (item ∷ rest)
-    → DoneGives (get_done (unit_world codec answer) end item rest s) (record { state = s; lines = before }) (record { state = t; lines = lines }) result
+    → StepOutcome (get_done (unit_world codec answer) end item rest s) (record { state = s; lines = before }) (record { state = t; lines = lines }) result
 
 get_moves_on : (codec : Codec) (answer : Meaning) (end : TunnelEnd) (s t : OctetState) (shown : Item Octets) (moved : Moved)
     (before middle lines : List OutLine) (there : Option (List (Item Octets))) → oldest_in there ≡ Ok shown
     → ((item : Item Octets) (rest : List (Item Octets)) → there ≡ Some (item ∷ rest)
-    → DoneGives (get_done (unit_world codec answer) end item rest s) (record { state = s; lines = before }) (record { state = t; lines = middle }) (Ok moved))
+    → StepOutcome (get_done (unit_world codec answer) end item rest s) (record { state = s; lines = before }) (record { state = t; lines = middle }) (Ok moved))
     → lines ≡ middle ++ held_lines (tunnel_link end) moved → EventGives before (get_on (unit_world codec answer) end s there) lines t (Ok tt)
 get_moves_on codec answer end s t shown moved before middle lines None h gives told = absurd cc
 get_moves_on codec answer end s t shown moved before middle lines (Some []) h gives told = absurd cc
@@ -81,7 +81,7 @@ get_moves codec answer end s t shown moved before middle lines h gives told =
 get_stops_on : (codec : Codec) (answer : Meaning) (end : TunnelEnd) (s t : OctetState) (shown : Item Octets) (cause : Cause)
     (before lines : List OutLine) (there : Option (List (Item Octets))) → oldest_in there ≡ Ok shown
     → ((item : Item Octets) (rest : List (Item Octets)) → there ≡ Some (item ∷ rest)
-    → DoneGives (get_done (unit_world codec answer) end item rest s) (record { state = s; lines = before }) (record { state = t; lines = lines }) (Err cause))
+    → StepOutcome (get_done (unit_world codec answer) end item rest s) (record { state = s; lines = before }) (record { state = t; lines = lines }) (Err cause))
     → EventGives before (get_on (unit_world codec answer) end s there) lines t (Err cause)
 get_stops_on codec answer end s t shown cause before lines None h gives = absurd cc
 get_stops_on codec answer end s t shown cause before lines (Some []) h gives = absurd cc

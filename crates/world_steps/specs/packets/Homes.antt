@@ -6,7 +6,7 @@ use Rattle.gnb_types.specs.declared.reasons.RefuseReason.{RefuseReason}
 use Rattle.gnb_types.specs.declared.reasons.RefuseReason.TheVariants.{NoBearer, NoRadio}
 use Rattle.run_defs.specs.States.{has_bearer}
 use Rattle.run_defs.specs.Conditions.{ready_home}
-use Rattle.run_links.specs.Grounds.{OctetState}
+use Rattle.run_links.specs.Networks.{OctetState}
 
 abbrev pub home_in : Option NodeId → Result NodeId RefuseReason
 home_in None = Err NoRadio

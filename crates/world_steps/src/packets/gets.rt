@@ -7,14 +7,14 @@ ghost use Rattle.gnb_types.specs.declared.inputs.Input.TheVariants as ins;
 ghost use Rattle.transport_defs.specs.declared.Item.{Item as ItemOf};
 ghost use Rattle.run_defs.specs.Events.{get, get_done};
 ghost use Rattle.run_defs.specs.UnitRuns.{unit_world};
-ghost use Rattle.run_links.specs.Grounds.{state_of};
+ghost use Rattle.run_links.specs.Networks.{state_of};
 ghost use Rattle.world_steps.specs.Gives.{EventGives};
-ghost use Rattle.world_steps.specs.Moves.{DoneGives};
+ghost use Rattle.world_steps.specs.Moves.{StepOutcome};
 
 use crate::Units;
 use crate::asked::{Asked, Moved, moved_by};
 use crate::cause::Cause;
-use crate::parts::Parts;
+use crate::run_state::RunState;
 use gnb_types::inputs::Input;
 use gnb_types::items::Memory;
 use gnb_types::keys::TunnelEnd;
@@ -33,30 +33,30 @@ fn packet_input(teid: u32, item: &Item) -> Result<Input, Memory>
 
 /// The oldest item of a tunnel is given to its end, where one stands there. What wasn't made isn't printed.
 pub fn get_item<U: Units<C> + Drop, C: MessageCodec + Drop>(
-    parts: &mut Parts<U, C>,
+    run_state: &mut RunState<U, C>,
     end: TunnelEnd,
     lines: &mut Lines,
 ) -> Result<Moved, Cause>
-    requires { U.ready parts.old.units }
-    ensures ready { OnOk result (U.ready parts.new.units) }
+    requires { U.ready run_state.old.units }
+    ensures ready { OnOk result (U.ready run_state.new.units) }
     ensures gives { (item : ItemOf (List ℕ)) (rest : List (ItemOf (List ℕ)))
-        → find tunnel_cmp parts.old.ground.tunnels.tunnels end ≡ Some (item ∷ rest) → DoneGives
-        (get_done (unit_world C.codec U.answer) end item rest (state_of (U.records parts.old.units) parts.old.core parts.old.ground))
-        (record { state = state_of (U.records parts.old.units) parts.old.core parts.old.ground; lines = lines.old })
-        (record { state = state_of (U.records parts.new.units) parts.new.core parts.new.ground; lines = lines.new }) result }
+        → find tunnel_cmp run_state.old.network.tunnels.tunnels end ≡ Some (item ∷ rest) → StepOutcome
+        (get_done (unit_world C.codec U.answer) end item rest (state_of (U.records run_state.old.units) run_state.old.core run_state.old.network))
+        (record { state = state_of (U.records run_state.old.units) run_state.old.core run_state.old.network; lines = lines.old })
+        (record { state = state_of (U.records run_state.new.units) run_state.new.core run_state.new.network; lines = lines.new }) result }
 {
-    let (input, count) = match parts.ground.oldest(end) {
+    let (input, count) = match run_state.network.oldest(end) {
         Ok(item) => (packet_input(end.teid, item)?, item.count),
         Err(reason) => return Ok(Moved::Refuses(reason)),
     };
-    let asked = match parts.ask(end.node, input) {
+    let asked = match run_state.ask(end.node, input) {
         Ok(asked) => asked,
         Err(cause) => return Err(cause),
     };
     match asked {
         Asked::Does(outputs) => {
-            parts.ground.take_off(end, lines)?;
-            moved_by(parts.finish(end.node, count, outputs, lines))
+            run_state.network.take_off(end, lines)?;
+            moved_by(run_state.finish(end.node, count, outputs, lines))
         }
         Asked::Holds(reason) => Ok(Moved::Holds(reason)),
         Asked::Refuses(reason) => Ok(Moved::Refuses(reason)),
@@ -65,21 +65,21 @@ pub fn get_item<U: Units<C> + Drop, C: MessageCodec + Drop>(
 
 /// `get`.
 pub fn get<U: Units<C> + Drop, C: MessageCodec + Drop>(
-    parts: &mut Parts<U, C>,
+    run_state: &mut RunState<U, C>,
     end: TunnelEnd,
     lines: &mut Lines,
 ) -> Result<(), Cause>
-    requires { U.ready parts.old.units }
-    ensures ready { OnOk result (U.ready parts.new.units) }
+    requires { U.ready run_state.old.units }
+    ensures ready { OnOk result (U.ready run_state.new.units) }
     ensures gives { EventGives lines.old
-        (get (unit_world C.codec U.answer) end (state_of (U.records parts.old.units) parts.old.core parts.old.ground))
-        lines.new (state_of (U.records parts.new.units) parts.new.core parts.new.ground) result }
+        (get (unit_world C.codec U.answer) end (state_of (U.records run_state.old.units) run_state.old.core run_state.old.network))
+        lines.new (state_of (U.records run_state.new.units) run_state.new.core run_state.new.network) result }
 {
-    if let Err(reason) = parts.ground.oldest(end) {
+    if let Err(reason) = run_state.network.oldest(end) {
         lines.push(OutLine::Refused { reason })?;
         return Ok(());
     }
-    let moved = match get_item(parts, end, lines) {
+    let moved = match get_item(run_state, end, lines) {
         Ok(moved) => moved,
         Err(cause) => return Err(cause),
     };

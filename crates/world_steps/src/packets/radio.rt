@@ -10,15 +10,15 @@ ghost use Rattle.links.specs.Radios.{uncarried};
 ghost use Rattle.run_defs.specs.Conditions.{receiver_of, sender_of};
 ghost use Rattle.run_defs.specs.Events.{air, ack, carry_done, confirm_done};
 ghost use Rattle.run_defs.specs.UnitRuns.{unit_world};
-ghost use Rattle.run_links.specs.Grounds.{state_of};
+ghost use Rattle.run_links.specs.Networks.{state_of};
 ghost use Rattle.world_steps.specs.Gives.{EventGives};
-ghost use Rattle.world_steps.specs.Moves.{DoneGives};
+ghost use Rattle.world_steps.specs.Moves.{StepOutcome};
 ghost use Rattle.world_steps.specs.packets.Homes.{home_at};
 
 use crate::Units;
 use crate::asked::{Asked, Moved, moved_by};
 use crate::cause::Cause;
-use crate::parts::Parts;
+use crate::run_state::RunState;
 use gnb_types::inputs::Input;
 use gnb_types::items::Memory;
 use gnb_types::keys::EntityKey;
@@ -81,31 +81,31 @@ fn confirm_input(item: &Item) -> Result<Input, Memory>
 
 /// The oldest item of a radio that isn't carried is carried to its receiver, where there is one. What wasn't made isn't printed.
 pub fn air_item<U: Units<C> + Drop, C: MessageCodec + Drop>(
-    parts: &mut Parts<U, C>,
+    run_state: &mut RunState<U, C>,
     key: EntityKey,
     home: NodeId,
     lines: &mut Lines,
 ) -> Result<Moved, Cause>
-    requires { U.ready parts.old.units }
-    ensures ready { OnOk result (U.ready parts.new.units) }
-    ensures gives { (item : ItemOf (List ℕ)) → uncarried (at entity_cmp silent parts.old.ground.radios.radios key) ≡ Some item → DoneGives
-        (carry_done (unit_world C.codec U.answer) key home item (state_of (U.records parts.old.units) parts.old.core parts.old.ground))
-        (record { state = state_of (U.records parts.old.units) parts.old.core parts.old.ground; lines = lines.old })
-        (record { state = state_of (U.records parts.new.units) parts.new.core parts.new.ground; lines = lines.new }) result }
+    requires { U.ready run_state.old.units }
+    ensures ready { OnOk result (U.ready run_state.new.units) }
+    ensures gives { (item : ItemOf (List ℕ)) → uncarried (at entity_cmp silent run_state.old.network.radios.radios key) ≡ Some item → StepOutcome
+        (carry_done (unit_world C.codec U.answer) key home item (state_of (U.records run_state.old.units) run_state.old.core run_state.old.network))
+        (record { state = state_of (U.records run_state.old.units) run_state.old.core run_state.old.network; lines = lines.old })
+        (record { state = state_of (U.records run_state.new.units) run_state.new.core run_state.new.network; lines = lines.new }) result }
 {
     let receiver = receiver_of(key, home);
-    let (input, count) = match parts.ground.uncarried(key) {
+    let (input, count) = match run_state.network.uncarried(key) {
         Some(item) => (radio_input(item)?, item.count),
         None => return Ok(Moved::Refuses(RefuseReason::Empty)),
     };
-    let asked = match parts.ask(receiver, input) {
+    let asked = match run_state.ask(receiver, input) {
         Ok(asked) => asked,
         Err(cause) => return Err(cause),
     };
     match asked {
         Asked::Does(outputs) => {
-            parts.ground.carry_off(key, lines)?;
-            moved_by(parts.finish(receiver, count, outputs, lines))
+            run_state.network.carry_off(key, lines)?;
+            moved_by(run_state.finish(receiver, count, outputs, lines))
         }
         Asked::Holds(reason) => Ok(Moved::Holds(reason)),
         Asked::Refuses(reason) => Ok(Moved::Refuses(reason)),
@@ -114,33 +114,33 @@ pub fn air_item<U: Units<C> + Drop, C: MessageCodec + Drop>(
 
 /// The oldest carried item of a radio is confirmed to its sender, where there is one. What wasn't made isn't printed.
 pub fn ack_item<U: Units<C> + Drop, C: MessageCodec + Drop>(
-    parts: &mut Parts<U, C>,
+    run_state: &mut RunState<U, C>,
     key: EntityKey,
     home: NodeId,
     lines: &mut Lines,
 ) -> Result<Moved, Cause>
-    requires { U.ready parts.old.units }
-    ensures ready { OnOk result (U.ready parts.new.units) }
+    requires { U.ready run_state.old.units }
+    ensures ready { OnOk result (U.ready run_state.new.units) }
     ensures gives { (item : ItemOf (List ℕ)) (rest : List (ItemOf (List ℕ)))
-        → (at entity_cmp silent parts.old.ground.radios.radios key).items ≡ item ∷ rest
-        → ((at entity_cmp silent parts.old.ground.radios.radios key).carried == 0) ≡ false → DoneGives
-        (confirm_done (unit_world C.codec U.answer) key home item rest (state_of (U.records parts.old.units) parts.old.core parts.old.ground))
-        (record { state = state_of (U.records parts.old.units) parts.old.core parts.old.ground; lines = lines.old })
-        (record { state = state_of (U.records parts.new.units) parts.new.core parts.new.ground; lines = lines.new }) result }
+        → (at entity_cmp silent run_state.old.network.radios.radios key).items ≡ item ∷ rest
+        → ((at entity_cmp silent run_state.old.network.radios.radios key).carried == 0) ≡ false → StepOutcome
+        (confirm_done (unit_world C.codec U.answer) key home item rest (state_of (U.records run_state.old.units) run_state.old.core run_state.old.network))
+        (record { state = state_of (U.records run_state.old.units) run_state.old.core run_state.old.network; lines = lines.old })
+        (record { state = state_of (U.records run_state.new.units) run_state.new.core run_state.new.network; lines = lines.new }) result }
 {
     let sender = sender_of(key, home);
-    let (input, count) = match parts.ground.carried(key) {
+    let (input, count) = match run_state.network.carried(key) {
         Some(item) => (confirm_input(item)?, item.count),
         None => return Ok(Moved::Refuses(RefuseReason::Empty)),
     };
-    let asked = match parts.ask(sender, input) {
+    let asked = match run_state.ask(sender, input) {
         Ok(asked) => asked,
         Err(cause) => return Err(cause),
     };
     match asked {
         Asked::Does(outputs) => {
-            parts.ground.confirm_off(key);
-            moved_by(parts.finish(sender, count, outputs, lines))
+            run_state.network.confirm_off(key);
+            moved_by(run_state.finish(sender, count, outputs, lines))
         }
         Asked::Holds(reason) => Ok(Moved::Holds(reason)),
         Asked::Refuses(reason) => Ok(Moved::Refuses(reason)),
@@ -149,31 +149,31 @@ pub fn ack_item<U: Units<C> + Drop, C: MessageCodec + Drop>(
 
 /// `air`.
 pub fn air<U: Units<C> + Drop, C: MessageCodec + Drop>(
-    parts: &mut Parts<U, C>,
+    run_state: &mut RunState<U, C>,
     key: EntityKey,
     lines: &mut Lines,
 ) -> Result<(), Cause>
-    requires { U.ready parts.old.units }
-    ensures ready { OnOk result (U.ready parts.new.units) }
+    requires { U.ready run_state.old.units }
+    ensures ready { OnOk result (U.ready run_state.new.units) }
     ensures gives { EventGives lines.old
-        (air (unit_world C.codec U.answer) key (state_of (U.records parts.old.units) parts.old.core parts.old.ground))
-        lines.new (state_of (U.records parts.new.units) parts.new.core parts.new.ground) result }
+        (air (unit_world C.codec U.answer) key (state_of (U.records run_state.old.units) run_state.old.core run_state.old.network))
+        lines.new (state_of (U.records run_state.new.units) run_state.new.core run_state.new.network) result }
 {
-    let home = match radio_home(parts, key) {
+    let home = match radio_home(run_state, key) {
         Ok(home) => home,
         Err(reason) => {
             lines.push(OutLine::Refused { reason })?;
             return Ok(());
         }
     };
-    if let None = parts.ground.uncarried(key) {
+    if let None = run_state.network.uncarried(key) {
         lines.push(OutLine::Refused {
             reason: RefuseReason::Empty,
         })?;
         return Ok(());
     }
-    let link = radio_link(key, parts.ground.shown_epoch(key.ue));
-    let moved = match air_item(parts, key, home, lines) {
+    let link = radio_link(key, run_state.network.shown_epoch(key.ue));
+    let moved = match air_item(run_state, key, home, lines) {
         Ok(moved) => moved,
         Err(cause) => return Err(cause),
     };
@@ -183,16 +183,16 @@ pub fn air<U: Units<C> + Drop, C: MessageCodec + Drop>(
 
 /// The home of the terminal of a radio, or why nothing can be carried there.
 fn radio_home<U: Units<C> + Drop, C: MessageCodec + Drop>(
-    parts: &Parts<U, C>,
+    run_state: &RunState<U, C>,
     key: EntityKey,
 ) -> Result<NodeId, RefuseReason>
-    requires { U.ready parts.now.units }
-    ensures { result ≡ home_at (state_of (U.records parts.now.units) parts.now.core parts.now.ground) key }
+    requires { U.ready run_state.now.units }
+    ensures { result ≡ home_at (state_of (U.records run_state.now.units) run_state.now.core run_state.now.network) key }
 {
-    if !parts.ground.has_bearer(key.ue, key.bearer) {
+    if !run_state.network.has_bearer(key.ue, key.bearer) {
         return Err(RefuseReason::NoBearer);
     }
-    match parts.ready_home(key.ue) {
+    match run_state.ready_home(key.ue) {
         Some(home) => Ok(home),
         None => Err(RefuseReason::NoRadio),
     }
@@ -200,30 +200,30 @@ fn radio_home<U: Units<C> + Drop, C: MessageCodec + Drop>(
 
 /// `ack`.
 pub fn ack<U: Units<C> + Drop, C: MessageCodec + Drop>(
-    parts: &mut Parts<U, C>,
+    run_state: &mut RunState<U, C>,
     key: EntityKey,
     lines: &mut Lines,
 ) -> Result<(), Cause>
-    requires { U.ready parts.old.units }
-    ensures ready { OnOk result (U.ready parts.new.units) }
+    requires { U.ready run_state.old.units }
+    ensures ready { OnOk result (U.ready run_state.new.units) }
     ensures gives { EventGives lines.old
-        (ack (unit_world C.codec U.answer) key (state_of (U.records parts.old.units) parts.old.core parts.old.ground))
-        lines.new (state_of (U.records parts.new.units) parts.new.core parts.new.ground) result }
+        (ack (unit_world C.codec U.answer) key (state_of (U.records run_state.old.units) run_state.old.core run_state.old.network))
+        lines.new (state_of (U.records run_state.new.units) run_state.new.core run_state.new.network) result }
 {
-    let home = match radio_home(parts, key) {
+    let home = match radio_home(run_state, key) {
         Ok(home) => home,
         Err(reason) => {
             lines.push(OutLine::Refused { reason })?;
             return Ok(());
         }
     };
-    if let None = parts.ground.carried(key) {
+    if let None = run_state.network.carried(key) {
         lines.push(OutLine::Refused {
             reason: RefuseReason::Empty,
         })?;
         return Ok(());
     }
-    let moved = match ack_item(parts, key, home, lines) {
+    let moved = match ack_item(run_state, key, home, lines) {
         Ok(moved) => moved,
         Err(cause) => return Err(cause),
     };

@@ -7,7 +7,7 @@ pub returns-in_err-line : goal.returns-in_err-line
 returns-in_err-line g c =
     let p = err_from_is_err_and c.from_residual.result c.from_residual.ensures.1 in
     record {
-      ready = still_usable g.U.Units.ready c.args.world.now.parts.units c.args.world.now.stop c.requires.going c.requires.ready;
+      ready = still_usable g.U.Units.ready c.args.world.now.run_state.units c.args.world.now.stop c.requires.going c.requires.ready;
       meets = turn_unread _ _ _ _ _ _ c.in_err-line.ensures p.1 p.2 refl;
     }
 
@@ -15,7 +15,7 @@ pub returns-in_err-meaning_of : goal.returns-in_err-meaning_of
 returns-in_err-meaning_of g c =
     let p = err_from_is_err_and c.from_residual-in_err-meaning_of.result c.from_residual-in_err-meaning_of.ensures.1 in
     record {
-      ready = still_usable g.U.Units.ready c.args.world.now.parts.units c.args.world.now.stop c.requires.going c.requires.ready;
+      ready = still_usable g.U.Units.ready c.args.world.now.run_state.units c.args.world.now.stop c.requires.going c.requires.ready;
       meets = unapplied _ _ _ _ c.in-Some.line _ _ _ c.in-Some.is c.in_ok-line.ensures c.in_err-meaning_of.ensures p.1 p.2 refl;
     }
 

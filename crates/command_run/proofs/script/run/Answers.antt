@@ -14,14 +14,14 @@ returns-in_default-new g c = no_world _ _ c.in_default-take_profile.ensures
 pub loop-more-init : goal.loop-more-init
 loop-more-init g c =
     record {
-      ready = usable_goes g.U.Units.ready c.in-Ok-new.world.parts.units c.in-Ok-new.world.stop c.in-Ok-new.ensures.state.1 c.in-Ok-new.ensures.ready;
+      ready = usable_goes g.U.Units.ready c.in-Ok-new.world.run_state.units c.in-Ok-new.world.stop c.in-Ok-new.ensures.state.1 c.in-Ok-new.ensures.ready;
       so_far = begins _ _ _ c.in_default-take_profile.ensures c.in-Ok-new.ensures.state;
     }
 
 pub loop-more-preserved : goal.loop-more-preserved
 loop-more-preserved g c =
     let more = turns_at _ _ _ c.loop-more.invariant.so_far c.in-Ok-Some.field-0-is c.in-Ok-Some.ensures.meets in
-    record { ready = usable_goes g.U.Units.ready c.apply_line.new.world.parts.units c.apply_line.new.world.stop more.going c.in-Ok-Some.ensures.ready; so_far = more }
+    record { ready = usable_goes g.U.Units.ready c.apply_line.new.world.run_state.units c.apply_line.new.world.stop more.going c.in-Ok-Some.ensures.ready; so_far = more }
 
 pub returns-in-Ok-None : goal.returns-in-Ok-None
 returns-in-Ok-None g c = ends_at_done _ _ c.loop-more.invariant.so_far c.in-Ok-None.field-0-is c.in-Ok-None.ensures.meets

@@ -1,8 +1,8 @@
 use Rattle.std.proofs.Common.{ℕ, List, subst}
-use Rattle.unit_defs.specs.CpRecords.{Row}
-use Rattle.unit_defs.specs.CpRows.{offer}
+use Rattle.unit_defs.specs.CuCpRecords.{Row}
+use Rattle.unit_defs.specs.CuCpRows.{offer}
 use Rattle.unit_defs.specs.octet_defs.Codec.{octet_way}
-use Rattle.cu_cp_records.specs.control_says.Rows.{RowGives}
+use Rattle.cu_cp_records.specs.control_actions.Rows.{RowGives}
 use Rattle.cu_control.proofs.asked.offered.Goals as goal
 
 pub returns : goal.returns

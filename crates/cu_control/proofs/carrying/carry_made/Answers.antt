@@ -1,12 +1,12 @@
 use Rattle.std.proofs.Common.{ℕ, List, refl, sym, subst}
 use Rattle.std.specs.Prelude.{Result}
-use Rattle.unit_defs.specs.CpRecords.{Row}
+use Rattle.unit_defs.specs.CuCpRecords.{Row}
 use Rattle.unit_defs.specs.CuCp.{by_row}
 use Rattle.unit_defs.specs.octet_defs.Codec.{octet_way}
 use Rattle.unit_messages.specs.steps.Steps.{step_after, IsStep}
 use Rattle.unit_messages.specs.declared.steps.StepError.{StepError}
-use Rattle.cu_cp_records.specs.declared.control_says.row.Row.{Row as MadeRow}
-use Rattle.cu_cp_records.specs.control_says.Rows.{RowGives}
+use Rattle.cu_cp_records.specs.declared.control_actions.row.Row.{Row as MadeRow}
+use Rattle.cu_cp_records.specs.control_actions.Rows.{RowGives}
 use Rattle.cu_control.proofs.RowSteps.{row_stops}
 use Rattle.cu_control.proofs.carrying.carry_made.Goals as goal
 

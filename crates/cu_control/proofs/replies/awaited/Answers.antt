@@ -1,5 +1,5 @@
 use Rattle.std.proofs.lemmas.Result.{err_from_is_err_and}
-use Rattle.cu_cp_records.specs.control_says.Rows.{row_as}
+use Rattle.cu_cp_records.specs.control_actions.Rows.{row_as}
 use Rattle.cu_control.proofs.ReplySteps.{row_goes_on, row_ends}
 use Rattle.cu_control.proofs.replies.awaited.Goals as goal
 

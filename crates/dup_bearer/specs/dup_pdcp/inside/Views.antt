@@ -11,8 +11,8 @@ use Rattle.dup_defs.specs.declared.types.put.Put.{Put}
 use Rattle.dup_defs.specs.Senders.{DupSender, DupPut, DupNumbers, gives, spends, puts_first, puts_of, number_waiting}
 use Rattle.unit_messages.specs.declared.steps.StepError.{StepError}
 use Rattle.unit_messages.specs.declared.steps.StepError.TheVariants as steps
-use Rattle.pdcp_bearers.specs.ue_bearers.Uplinks.{UplinkState}
-use Rattle.pdcp_bearers.specs.declared.ue_bearers.uplink.Counted.{Counted}
+use Rattle.pdcp_bearers.specs.ue_bearers.Senders.{SenderState}
+use Rattle.pdcp_bearers.specs.declared.ue_bearers.sender.Counted.{Counted}
 use Rattle.dup_bearer.specs.dup_pdcp.Entity.{DupTxState, IsPut, puts_of_code, error_of}
 use Rattle.dup_bearer.specs.declared.dup_pdcp.tx.Place.{Place}
 
@@ -25,15 +25,15 @@ pub record Marks : Type 0 where
 abbrev pub marks : Mode → Bool → Bool → Marks
 marks mode first second = record { mode = mode; first = first; second = second }
 
-abbrev pub sender_state : UplinkState → Marks → DupSender
+abbrev pub sender_state : SenderState → Marks → DupSender
 sender_state packets m =
     record { sender = packets.sender; waiting = packets.waiting; mode = m.mode; first_up = m.first; second_up = m.second }
 
-abbrev pub tx_state : SnBits → ℕ → UplinkState → Marks → Option DupEnding → DupTxState
+abbrev pub tx_state : SnBits → ℕ → SenderState → Marks → Option DupEnding → DupTxState
 tx_state n most packets m ended = record { sn = n; quota = most; entity = sender_state packets m; ended = ended }
 
 -- out of memory nothing is known of the packets
-abbrev pub IsDupTx : SnBits → ℕ → UplinkState → Option DupEnding → Type 0
+abbrev pub IsDupTx : SnBits → ℕ → SenderState → Option DupEnding → Type 0
 IsDupTx n most packets ended = ended ≡ None → (packets.sn ≡ n) × (packets.quota ≡ most)
 
 abbrev pub with_entity : DupTxState → DupSender → DupTxState

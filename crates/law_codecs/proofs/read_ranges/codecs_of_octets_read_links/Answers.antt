@@ -1,12 +1,12 @@
 use Rattle.std.proofs.Common.{refl}
 use Rattle.unit_defs.specs.octet_defs.Codec.{Codec}
 use Rattle.law_codecs.proofs.Lawful.{lawful, reads_items, reads_pdus}
-use Rattle.proof_message_codec.proofs.codec.Heard.{codec_in_range}
+use Rattle.proof_message_codec.proofs.codec.FromValue.{codec_in_range}
 use Rattle.law_codecs.proofs.read_ranges.codecs_of_octets_read_links.Goals as goal
 
 abbrev with_links : Codec → Codec
 with_links given = record {
-  spell = given.spell;
+  encode = given.encode;
   read = given.read;
   read_token = given.read_token;
   read_item = (lawful given).read_item;

@@ -1,4 +1,4 @@
-use Rattle.proof_bearer_refinement.proofs.first_ties.Start.{starts}
+use Rattle.proof_bearer_refinement.proofs.initial.Start.{starts}
 use Rattle.law_handover_delivers.proofs.down_report_runs.Runs.{steps_there}
 use Rattle.law_handover_delivers.proofs.down_report_runs.a_terminal_delivers_in_order.Goals as goal
 

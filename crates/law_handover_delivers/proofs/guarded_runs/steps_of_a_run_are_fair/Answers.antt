@@ -1,7 +1,7 @@
 use Rattle.law_handover_delivers.proofs.guarded_runs.Passed.{fair_steps}
-use Rattle.law_handover_delivers.specs.fresh_uplinks.Later as later
-use Rattle.law_handover_delivers.specs.owed_runs.Owing as owed
-use Rattle.law_handover_delivers.specs.path_ties.Paths as paths
+use Rattle.law_handover_delivers.specs.unused_uplinks.Later as later
+use Rattle.law_handover_delivers.specs.assumed_runs.Assuming as assumed
+use Rattle.law_handover_delivers.specs.core_path.Paths as paths
 use Rattle.law_handover_delivers.specs.report_runs.Steps as reports
 use Rattle.law_handover_delivers.specs.whole_runs.Whole as whole
 use Rattle.law_handover_delivers.specs.down_report_runs.Steps as down_reports
@@ -13,9 +13,9 @@ returns c = record {
   fresh = λ reading n ue bearer sn quota p q steps.
       fair_steps reading (later.Step reading n ue bearer sn quota) (later.Steps reading n ue bearer sn quota) (λ x. later.not_yet x)
       (λ x y z earlier before after gives step. later.further x y z earlier before after gives step) p q steps;
-  owed = λ reading n ue bearer sn quota p q steps.
-      fair_steps reading (owed.Step reading n ue bearer sn quota) (owed.Steps reading n ue bearer sn quota) (λ x. owed.not_yet x)
-      (λ x y z earlier before after gives step. owed.further x y z earlier before after gives step) p q steps;
+  assumed = λ reading n ue bearer sn quota p q steps.
+      fair_steps reading (assumed.Step reading n ue bearer sn quota) (assumed.Steps reading n ue bearer sn quota) (λ x. assumed.not_yet x)
+      (λ x y z earlier before after gives step. assumed.further x y z earlier before after gives step) p q steps;
   paths = λ reading n ue bearer sn quota p q steps.
       fair_steps reading (paths.Step reading n ue bearer sn quota) (paths.Steps reading n ue bearer sn quota) (λ x. paths.not_yet x)
       (λ x y z earlier before after gives step. paths.further x y z earlier before after gives step) p q steps;

@@ -1,8 +1,8 @@
-use Rattle.proof_bearer_refinement.proofs.first_ties.Start.{starts, tied}
-use Rattle.law_handover_delivers.proofs.path_ties.Runs.{leads_there}
+use Rattle.proof_bearer_refinement.proofs.initial.Start.{starts, refined}
+use Rattle.law_handover_delivers.proofs.core_path.Runs.{leads_there}
 use Rattle.law_handover_delivers.proofs.report_runs.Runs.{delivers_on, told_there, known_there}
 use Rattle.law_handover_delivers.proofs.report_runs.a_terminal_delivers_in_order.Goals as goal
 
 pub returns : goal.returns
 returns c = λ reading n positive.
-    ((starts reading n).0, (starts reading n).1, tied reading n, leads_there reading n, told_there reading n, known_there reading n, λ q steps. delivers_on reading n positive q steps)
+    ((starts reading n).0, (starts reading n).1, refined reading n, leads_there reading n, told_there reading n, known_there reading n, λ q steps. delivers_on reading n positive q steps)

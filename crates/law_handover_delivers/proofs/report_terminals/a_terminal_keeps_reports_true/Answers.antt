@@ -3,7 +3,7 @@ use Rattle.law_handover_delivers.proofs.report_terminals.a_terminal_keeps_report
 
 pub returns : goal.returns
 returns c = record {
-  keeps = λ reading event s t ue bearer b tie sn quota kept v cause input outputs step told.
-      terminal_keeps reading event s t ue bearer b tie sn quota kept v cause input outputs step told;
+  keeps = λ reading event s t ue bearer b refinement sn quota kept v cause input outputs step told.
+      terminal_keeps reading event s t ue bearer b refinement sn quota kept v cause input outputs step told;
   grows = λ d orders. all_grow d orders;
 }

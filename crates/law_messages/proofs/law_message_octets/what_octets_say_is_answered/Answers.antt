@@ -4,20 +4,20 @@ use Rattle.message_types.specs.declared.xn.CoreMessage.{CoreMessage}
 use Rattle.message_types.specs.declared.rrc.Token.{Token}
 use Rattle.profile.specs.Versions.{number_of}
 use Rattle.message_defs.specs.profile_defs.Profile.{f1_type, e1_type, xn_type, core_type, token_type}
-use Rattle.message_defs.specs.F1.{F1Message, heard_f1}
-use Rattle.message_defs.specs.E1.{heard_e1}
-use Rattle.message_defs.specs.Xn.{heard_xn}
-use Rattle.message_defs.specs.Core.{heard_core}
-use Rattle.message_defs.specs.Tokens.{heard_token}
+use Rattle.message_defs.specs.F1.{F1Message, f1_from_value}
+use Rattle.message_defs.specs.E1.{e1_from_value}
+use Rattle.message_defs.specs.Xn.{xn_from_value}
+use Rattle.message_defs.specs.Core.{core_from_value}
+use Rattle.message_defs.specs.Tokens.{token_from_value}
 use Rattle.law_messages.proofs.law_message_octets.Types as bounded
 use Rattle.law_messages.proofs.law_message_octets.Determined.{answered}
 use Rattle.law_messages.proofs.law_message_octets.what_octets_say_is_answered.Goals as goal
 
 pub returns : goal.returns
 returns c = record {
-  f1 = answered F1Message f1_type heard_f1 bounded.f1;
-  e1 = answered E1Message e1_type heard_e1 bounded.e1;
-  xn = λ w. answered XnMessage (xn_type (number_of w)) heard_xn (bounded.xn w);
-  core = answered CoreMessage core_type heard_core bounded.core;
-  token = answered Token token_type heard_token bounded.token;
+  f1 = answered F1Message f1_type f1_from_value bounded.f1;
+  e1 = answered E1Message e1_type e1_from_value bounded.e1;
+  xn = λ w. answered XnMessage (xn_type (number_of w)) xn_from_value (bounded.xn w);
+  core = answered CoreMessage core_type core_from_value bounded.core;
+  token = answered Token token_type token_from_value bounded.token;
 }

@@ -3,9 +3,9 @@ use Rattle.gnb_types.specs.Orders.{ue_cmp}
 use Rattle.tables.specs.Tables.{find, put, without, at}
 use Rattle.unit_defs.specs.Core.{CorePath}
 use Rattle.unit_defs.specs.Messages.{teid_of}
-use Rattle.unit_defs.specs.Static.{up_placed, du_placed, cp_placed}
+use Rattle.unit_defs.specs.Static.{cu_up_placed, du_placed, cu_cp_placed}
 use Rattle.unit_defs.specs.Ue.{new_ue, placed}
-use Rattle.unit_defs.specs.UpRecords.{reserved}
+use Rattle.unit_defs.specs.CuUpRecords.{reserved}
 use Rattle.run_defs.specs.Events.{static}
 use Rattle.run_defs.specs.Runs.{Reading, plain_world, happens}
 use Rattle.run_defs.specs.States.{new_state}
@@ -24,19 +24,19 @@ run_teid None = 0
 run_teid (Some z) = path_teid (find ue_cmp z.core.paths second)
 
 first_teid : (reading : Reading) → run_teid (reached (plain_world reading) after_another new_state) ≡ 3
-unfolding find put without at up_placed du_placed cp_placed new_ue placed reserved static happens
+unfolding find put without at cu_up_placed du_placed cu_cp_placed new_ue placed reserved static happens
 first_teid reading = refl
 
 other_teid : (reading : Reading) → run_teid (reached (plain_world reading) alone new_state) ≡ 1
-unfolding find put without at up_placed du_placed cp_placed new_ue placed reserved static happens
+unfolding find put without at cu_up_placed du_placed cu_cp_placed new_ue placed reserved static happens
 other_teid reading = refl
 
 pub returns-clause-alone : goal.returns-clause-alone
-unfolding find put without at up_placed du_placed cp_placed new_ue placed reserved static happens
+unfolding find put without at cu_up_placed du_placed cu_cp_placed new_ue placed reserved static happens
 returns-clause-alone c = λ reading. refl
 
 pub returns-clause-after : goal.returns-clause-after
-unfolding find put without at up_placed du_placed cp_placed new_ue placed reserved static happens
+unfolding find put without at cu_up_placed du_placed cu_cp_placed new_ue placed reserved static happens
 returns-clause-after c = λ reading. refl
 
 three_is_one : ◌≡◌ {A = ℕ} 3 1 → ⊥

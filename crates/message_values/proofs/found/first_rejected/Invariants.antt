@@ -1,7 +1,7 @@
 use Rattle.std.proofs.Common.{◌≡◌, drop}
 use Rattle.std.specs.Prelude.{map}
 use Rattle.aper_values.specs.Views.{ies_view}
-use Rattle.message_defs.specs.Heard.{first_rejected}
+use Rattle.message_defs.specs.FromValue.{first_rejected}
 use Rattle.message_values.specs.Elements.{use_of}
 use Rattle.message_values.proofs.found.first_rejected.Given as goal
 

@@ -1,6 +1,6 @@
 use Rattle.std.proofs.Common.{◌≡◌, drop}
 use Rattle.std.specs.Prelude.{map}
-use Rattle.message_defs.specs.Heard.{is_used}
+use Rattle.message_defs.specs.FromValue.{is_used}
 use Rattle.message_values.specs.Elements.{use_of}
 use Rattle.message_values.proofs.found.is_used.Given as goal
 

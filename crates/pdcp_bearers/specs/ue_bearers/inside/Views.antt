@@ -6,18 +6,18 @@ use Rattle.gnb_types.specs.declared.keys.EntityKey.{EntityKey}
 use Rattle.pdcp_defs.specs.pool_defs.Pools.{PoolState, quota, used}
 use Rattle.pdcp_entities.specs.Packets.{AreParked}
 use Rattle.pdcp_entities.specs.Entities.{TxState, RxState, sender_in, receiver_in}
-use Rattle.pdcp_bearers.specs.ue_bearers.Uplinks.{UplinkState, IsPacket}
-use Rattle.pdcp_bearers.specs.ue_bearers.Downlinks.{DownlinkState}
+use Rattle.pdcp_bearers.specs.ue_bearers.Senders.{SenderState, IsPacket}
+use Rattle.pdcp_bearers.specs.ue_bearers.Receivers.{ReceiverState}
 
 -- each COUNT is below those after it
 abbrev pub IsAscending : List (ℕ × ℕ) → Type 0
 IsAscending [] = Unit {0}
 IsAscending (e ∷ es) = AllByRecursion (λ x. e.0 < x.0) es × IsAscending es
 
-abbrev pub uplink_state : SnBits → ℕ → PoolState → TxState → List (List ℕ) → UplinkState
-uplink_state sn quota pool tx waiting = record { sn = sn; quota = quota; sender = sender_in pool tx; waiting = waiting }
+abbrev pub sender_state : SnBits → ℕ → PoolState → TxState → List (List ℕ) → SenderState
+sender_state sn quota pool tx waiting = record { sn = sn; quota = quota; sender = sender_in pool tx; waiting = waiting }
 
-pub record IsUplink (sn : SnBits) (limit : ℕ) (key : EntityKey) (held : ℕ) (pool : PoolState) (tx : TxState) (waiting : List (List ℕ)) : Type 0 where
+pub record IsSender (sn : SnBits) (limit : ℕ) (key : EntityKey) (held : ℕ) (pool : PoolState) (tx : TxState) (waiting : List (List ℕ)) : Type 0 where
   pub sn_is : tx.sn ≡ sn
   pub quota_is : tx.quota ≡ limit
   pub small : limit ≤ 4096
@@ -34,10 +34,10 @@ pub record IsUplink (sn : SnBits) (limit : ℕ) (key : EntityKey) (held : ℕ) (
   pub packets : AllByRecursion (λ e. IsPacket e.1) (sender_in pool tx).unconfirmed
   pub waiting_packets : AllByRecursion IsPacket waiting
 
-abbrev pub downlink_state : SnBits → ℕ → PoolState → RxState → DownlinkState
-downlink_state sn quota pool rx = record { sn = sn; quota = quota; receiver = receiver_in pool rx }
+abbrev pub receiver_state : SnBits → ℕ → PoolState → RxState → ReceiverState
+receiver_state sn quota pool rx = record { sn = sn; quota = quota; receiver = receiver_in pool rx }
 
-pub record IsDownlink (sn : SnBits) (limit : ℕ) (key : EntityKey) (pool : PoolState) (rx : RxState) : Type 0 where
+pub record IsReceiver (sn : SnBits) (limit : ℕ) (key : EntityKey) (pool : PoolState) (rx : RxState) : Type 0 where
   pub sn_is : rx.sn ≡ sn
   pub quota_is : rx.quota ≡ limit
   pub frozen : rx.frozen ≡ false

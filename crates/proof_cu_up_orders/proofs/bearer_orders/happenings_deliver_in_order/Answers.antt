@@ -1,5 +1,5 @@
-use Rattle.bearer_defs.specs.chain_defs.Parts as down_parts
-use Rattle.bearer_defs.specs.uplink_defs.Parts as up_parts
+use Rattle.bearer_defs.specs.chain_defs.Models as down_models
+use Rattle.bearer_defs.specs.uplink_defs.Models as up_models
 use Rattle.law_downlink_order.proofs.chain.Laws as chain_laws
 use Rattle.law_uplink_order.proofs.uplink.Laws as uplink_laws
 use Rattle.proof_cu_up_orders.specs.bearer_orders.Down as downs
@@ -12,8 +12,8 @@ pub returns : goal.returns
 returns g c = record {
   down = λ way ue bearer sn quota first teid contexts hs has asked.
       chain_laws.delivers_in_order sn quota first teid (downs.all_orders way ue bearer sn quota contexts hs)
-      (down_proofs.all_steps way ue bearer sn quota (down_parts.start first teid) contexts hs has asked).0;
+      (down_proofs.all_steps way ue bearer sn quota (down_models.initial first teid) contexts hs has asked).0;
   up = λ way ue bearer first teid contexts hs has asked.
       uplink_laws.delivers_in_order first teid (ups.all_orders way ue bearer contexts hs)
-      (up_proofs.all_steps way ue bearer (up_parts.start first teid) contexts hs has asked).0;
+      (up_proofs.all_steps way ue bearer (up_models.initial first teid) contexts hs has asked).0;
 }

@@ -3,7 +3,7 @@ use Rattle.proof_cu_up_orders.proofs.context_stands.what_stands_is_enough.Goals 
 
 pub returns : goal.returns
 returns c = record {
-  down = λ p stands owed. record { hop = has_hop p stands; passes = serves p stands owed };
-  up = λ p stands owed. record { hop = has_hop p stands; passes = serves p stands owed };
+  down = λ p stands assumed. record { hop = has_hop p stands; passes = serves p stands assumed };
+  up = λ p stands assumed. record { hop = has_hop p stands; passes = serves p stands assumed };
   no_hop = λ p stands f. has_none p stands f;
 }

@@ -4,6 +4,6 @@ use Rattle.proof_cu_up_orders.proofs.kept.control_keeps_what_it_asks.Goals as go
 
 pub returns : goal.returns
 returns g c = record {
-  down = λ s x p is known epoch final order tested asked owed. down_proofs.control_kept s x p is known epoch final order tested asked owed;
-  up = λ s x p is final order tested owed. up_proofs.control_kept s x p is final order tested owed;
+  down = λ s x p is known epoch final order tested asked assumed. down_proofs.control_kept s x p is known epoch final order tested asked assumed;
+  up = λ s x p is final order tested assumed. up_proofs.control_kept s x p is final order tested assumed;
 }

@@ -1,4 +1,4 @@
-use Rattle.law_uplink_order.specs.gone.Silent.{AreSilent}
+use Rattle.law_uplink_order.specs.after_release.Silent.{AreSilent}
 use Rattle.proof_cu_up_orders.proofs.kept.Released.{item_silent, control_silent, silent_together, in_order_still}
 use Rattle.proof_cu_up_orders.proofs.kept.nothing_is_delivered.Goals as goal
 

@@ -1,4 +1,4 @@
-use Rattle.law_uplink_order.specs.gone.Silent.{TakeNone}
+use Rattle.law_uplink_order.specs.after_release.Silent.{TakeNone}
 use Rattle.proof_cu_up_orders.proofs.kept.Released.{item_none, control_none}
 use Rattle.proof_cu_up_orders.proofs.kept.nothing_is_taken.Goals as goal
 

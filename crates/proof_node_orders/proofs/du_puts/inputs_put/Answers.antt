@@ -1,4 +1,4 @@
-use Rattle.proof_node_orders.proofs.du_puts.Letters.{input_puts}
+use Rattle.proof_node_orders.proofs.du_puts.ControlMessages.{input_puts}
 use Rattle.proof_node_orders.proofs.du_puts.inputs_put.Goals as goal
 
 pub returns : goal.returns

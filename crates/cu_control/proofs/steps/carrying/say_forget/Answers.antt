@@ -1,5 +1,5 @@
 use Rattle.std.proofs.Common.{◌≡◌, subst}
-use Rattle.unit_defs.specs.CpRecords.{forgets, say_one}
+use Rattle.unit_defs.specs.CuCpRecords.{forgets, act_one}
 use Rattle.unit_defs.specs.octet_defs.Codec.{octet_way}
 use Rattle.unit_messages.specs.steps.Steps.{stepped, step_after}
 use Rattle.cu_control.proofs.steps.Sayings.{OctetCp, forgot}
@@ -11,7 +11,7 @@ returns g c =
     let inside = c.«record».inside in
     let r : OctetCp = record { gnb = inside.gnb; units = inside.units.items; terminals = inside.terminals; transactions = inside.requests } in
     subst
-    (λ (s : OctetCp). step_after c.args.outputs.now (say_one (octet_way codec) c.args.ue s forgets)
+    (λ (s : OctetCp). step_after c.args.outputs.now (act_one (octet_way codec) c.args.ue s forgets)
     ≡ stepped c.args.outputs.now (record r { transactions = c.forget.new.requests }))
     c.«record».view_is
     (forgot codec c.args.ue c.args.outputs.now r c.forget.new.requests (c.in_ok-forget.ensures codec))

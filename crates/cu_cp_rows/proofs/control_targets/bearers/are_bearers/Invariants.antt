@@ -1,6 +1,6 @@
 use Rattle.std.proofs.Common.{◌≡◌, ◌+◌}
 use Rattle.unit_defs.specs.Messages.{are_bearers}
-use Rattle.unit_defs.specs.CpRecords.{bearers_in}
+use Rattle.unit_defs.specs.CuCpRecords.{bearers_in}
 use Rattle.cu_cp_rows.proofs.control_targets.Naming.{rest_agrees}
 use Rattle.cu_cp_rows.proofs.control_targets.bearers.are_bearers.Given as goal
 

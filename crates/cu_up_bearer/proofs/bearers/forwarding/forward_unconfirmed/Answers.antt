@@ -2,7 +2,7 @@ use Rattle.std.proofs.Common.{ℕ, List, ◌++◌, sym, ap, ◌∙◌}
 use Rattle.gnb_types.specs.declared.names.Dir.TheVariants.{Dl}
 use Rattle.gnb_types.specs.declared.outputs.Output.{Output}
 use Rattle.unit_messages.specs.steps.Steps.{stepped}
-use Rattle.pdcp_bearers.specs.ue_bearers.Uplinks.{from_on}
+use Rattle.pdcp_bearers.specs.ue_bearers.Senders.{from_on}
 use Rattle.cu_up_bearer.proofs.downlink.Resends.{all_from}
 use Rattle.cu_up_bearer.proofs.bearers.Forwards.{counted_outputs, counted_none, downs}
 use Rattle.cu_up_bearer.proofs.bearers.forwarding.forward_unconfirmed.Goals as goal

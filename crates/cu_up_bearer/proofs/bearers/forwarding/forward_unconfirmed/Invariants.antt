@@ -1,6 +1,6 @@
 use Rattle.std.proofs.Common.{◌≡◌, ◌++◌, length}
 use Rattle.gnb_types.specs.declared.names.Dir.TheVariants.{Dl}
-use Rattle.pdcp_bearers.specs.ue_bearers.Uplinks.{from_on}
+use Rattle.pdcp_bearers.specs.ue_bearers.Senders.{from_on}
 use Rattle.cu_up_bearer.proofs.bearers.Forwards.{counted_outputs}
 use Rattle.cu_up_bearer.proofs.bearers.forwarding.forward_unconfirmed.Given as goal
 

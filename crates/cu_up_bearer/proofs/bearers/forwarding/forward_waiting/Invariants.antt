@@ -1,7 +1,7 @@
 use Rattle.std.proofs.Common.{◌≡◌, ◌++◌}
 use Rattle.std.specs.List.{AllByRecursion}
 use Rattle.std.specs.VecDeque.Iter.{deque_iter_rest}
-use Rattle.pdcp_bearers.specs.ue_bearers.Uplinks.{IsPacket}
+use Rattle.pdcp_bearers.specs.ue_bearers.Senders.{IsPacket}
 use Rattle.cu_up_bearer.proofs.bearers.Forwards.{fresh_outputs}
 use Rattle.cu_up_bearer.proofs.bearers.forwarding.forward_waiting.Given as goal
 

@@ -1,6 +1,6 @@
 use Rattle.std.proofs.Common.{◌≡◌, length}
 use Rattle.pdcp_defs.specs.Receivers.{deliver}
-use Rattle.unit_defs.specs.UpRecords.{UpBearer}
+use Rattle.unit_defs.specs.CuUpRecords.{CuUpBearer}
 use Rattle.unit_defs.specs.octet_defs.Codec.{Codec}
 use Rattle.unit_messages.specs.steps.Steps.{step_after}
 use Rattle.cu_up_bearer.specs.bearers.Bearers.{with_receiver, IsUp}
@@ -10,7 +10,7 @@ use Rattle.cu_up_bearer.proofs.bearers.uplink.deliver_stored.Given as goal
 -- what was put out, and what is delivered from here on, is all
 abbrev pub invariant-loop-count : goal.invariant-loop-count
 invariant-loop-count l = record {
-  all : (codec : Codec) (b : UpBearer) → step_after l.out (handing codec l.at b (deliver l.receiving.receiver))
+  all : (codec : Codec) (b : CuUpBearer) → step_after l.out (handing codec l.at b (deliver l.receiving.receiver))
       ≡ step_after l.initial.out (handing codec l.at b (deliver l.initial.receiving.receiver));
   of : IsUp l.at l.receiving;
 }

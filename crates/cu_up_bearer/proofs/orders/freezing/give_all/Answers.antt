@@ -1,7 +1,7 @@
 use Rattle.std.proofs.Common.{◌∙◌}
 use Rattle.unit_defs.specs.Ways.{◌then◌}
-use Rattle.unit_defs.specs.UpRecords.{UpBearer}
-use Rattle.unit_defs.specs.UpBearers.{forward_numbered, forward_fresh, forward_late}
+use Rattle.unit_defs.specs.CuUpRecords.{CuUpBearer}
+use Rattle.unit_defs.specs.CuUpBearers.{forward_numbered, forward_fresh, forward_late}
 use Rattle.unit_defs.specs.octet_defs.Codec.{octet_way}
 use Rattle.unit_defs.specs.octet_defs.Units.{OctetAnswer}
 use Rattle.unit_messages.proofs.steps.StepLaws.{step_then}
@@ -18,8 +18,8 @@ returns c = λ codec is.
     let out = c.args.out.now in
     let one = c.forward_unconfirmed.new.out in
     let two = c.forward_waiting.new.out in
-    let first : OctetAnswer UpBearer = forward_numbered way a b.sender.unconfirmed b in
-    let second : UpBearer → OctetAnswer UpBearer = λ x. forward_fresh way a x.waiting x in
-    let third : UpBearer → OctetAnswer UpBearer = λ x. forward_late way a x.receiver.stored x in
+    let first : OctetAnswer CuUpBearer = forward_numbered way a b.sender.unconfirmed b in
+    let second : CuUpBearer → OctetAnswer CuUpBearer = λ x. forward_fresh way a x.waiting x in
+    let third : CuUpBearer → OctetAnswer CuUpBearer = λ x. forward_late way a x.receiver.stored x in
     let both = step_then out one first second b (c.in_ok-forward_unconfirmed.ensures codec b is) ∙ c.in_ok-forward_waiting.ensures codec b is in
     on_ok c.forward_stored.result (λ last. step_then out two (first then second) third b both ∙ last) (c.forward_stored.ensures codec b is)

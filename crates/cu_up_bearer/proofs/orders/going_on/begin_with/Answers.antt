@@ -1,6 +1,6 @@
 use Rattle.std.proofs.Common.{Bool, List, Option, sym, ap, ◌∙◌}
-use Rattle.unit_defs.specs.UpRecords.{UpBearer}
-use Rattle.unit_defs.specs.UpBearers.{bits_in}
+use Rattle.unit_defs.specs.CuUpRecords.{CuUpBearer}
+use Rattle.unit_defs.specs.CuUpBearers.{bits_in}
 use Rattle.unit_messages.specs.steps.Steps.{step_after}
 use Rattle.cu_up_bearer.specs.downlink.Downlinks.{with_down}
 use Rattle.cu_up_bearer.proofs.downlink.Sequels.{step_as}

@@ -1,6 +1,6 @@
 use Rattle.std.proofs.Common.{◌≡◌, Ok, sym, ap, ◌∙◌, subst}
-use Rattle.unit_defs.specs.UpRecords.{UpBearer}
-use Rattle.unit_defs.specs.UpBearers.{thawed}
+use Rattle.unit_defs.specs.CuUpRecords.{CuUpBearer}
+use Rattle.unit_defs.specs.CuUpBearers.{thawed}
 use Rattle.unit_defs.specs.octet_defs.Units.{OctetAnswer}
 use Rattle.unit_messages.specs.steps.Steps.{step_after, IsStep}
 use Rattle.cu_up_bearer.specs.downlink.Downlinks.{with_down}
@@ -17,7 +17,7 @@ returns-in_err-send_owed-clause-step c = λ codec.
     let b = kept c.args.bearer.now in
     let came = c.as_slice-came.result.now in
     step_as _ _ _ _ _
-    (ap (λ (x : OctetAnswer UpBearer). step_after c.args.out.now x) (resumes codec a b came c.as_slice-came.ensures))
+    (ap (λ (x : OctetAnswer CuUpBearer). step_after c.args.out.now x) (resumes codec a b came c.as_slice-came.ensures))
     (first_fails c.args.out.now (owing_these codec a b came) (delivering codec a) (numbering codec a) c.send_owed.new.out (with_down (thawed b) c.send_owed.new.down)
     c.in_err-send_owed.field-0.0 (c.in_err-send_owed.ensures.step codec (thawed b)) _ _ _ c.from_residual.ensures.1)
 
@@ -29,9 +29,9 @@ returns-in_err-deliver_stored-clause-step c = λ codec.
     let t = c.thaw.new.bearer in
     let same = ap (λ (x : Bearer). kept x) c.thaw.ensures in
     step_as _ _ _ _ _
-    (ap (λ (x : OctetAnswer UpBearer). step_after c.args.out.now x) (resumes codec a b came c.as_slice-came.ensures))
+    (ap (λ (x : OctetAnswer CuUpBearer). step_after c.args.out.now x) (resumes codec a b came c.as_slice-came.ensures))
     (second_fails c.args.out.now (owing_these codec a b came) (delivering codec a) (numbering codec a) c.send_owed.new.out (kept t)
-    (subst (λ (x : UpBearer). IsStep {X = Unit {0}} (step_after c.args.out.now (owing_these codec a b came)) c.send_owed.new.out x (Ok tt)) (sym same)
+    (subst (λ (x : CuUpBearer). IsStep {X = Unit {0}} (step_after c.args.out.now (owing_these codec a b came)) c.send_owed.new.out x (Ok tt)) (sym same)
     (c.in_ok-send_owed.ensures.step codec (thawed b)))
     c.deliver_stored.new.out (with_receiver (kept t) c.deliver_stored.new.receiving) c.in_err-deliver_stored.field-0.0
     (c.in_err-deliver_stored.ensures.step codec (kept t)) _ _ _ c.from_residual-in_err-deliver_stored.ensures.1)
@@ -45,8 +45,8 @@ returns-clause-step c = λ codec.
     let same = ap (λ (x : Bearer). kept x) c.thaw.ensures in
     let mid = with_receiver (kept t) c.deliver_stored.new.receiving in
     step_as _ _ _ _ _
-    (ap (λ (x : OctetAnswer UpBearer). step_after c.args.out.now x) (resumes codec a b came c.as_slice-came.ensures))
+    (ap (λ (x : OctetAnswer CuUpBearer). step_after c.args.out.now x) (resumes codec a b came c.as_slice-came.ensures))
     (third_goes c.args.out.now (owing_these codec a b came) (delivering codec a) (numbering codec a) c.send_owed.new.out (kept t)
-    (subst (λ (x : UpBearer). IsStep {X = Unit {0}} (step_after c.args.out.now (owing_these codec a b came)) c.send_owed.new.out x (Ok tt)) (sym same)
+    (subst (λ (x : CuUpBearer). IsStep {X = Unit {0}} (step_after c.args.out.now (owing_these codec a b came)) c.send_owed.new.out x (Ok tt)) (sym same)
     (c.in_ok-send_owed.ensures.step codec (thawed b)))
     c.deliver_stored.new.out mid (c.in_ok-deliver_stored.ensures.step codec (kept t)) _ _ _ (c.number_waiting.ensures.step codec mid))

@@ -1,5 +1,5 @@
 use Rattle.std.proofs.Common.{ap, sym, ◌∙◌}
-use Rattle.unit_defs.specs.UpRecords.{UpBearer}
+use Rattle.unit_defs.specs.CuUpRecords.{CuUpBearer}
 use Rattle.unit_defs.specs.octet_defs.Units.{OctetAnswer}
 use Rattle.unit_messages.specs.steps.Steps.{step_after}
 use Rattle.pdcp_defs.specs.Receivers.{received_bits}
@@ -14,5 +14,5 @@ returns-clause-step c = λ codec.
     let r = c.args.bearer.now.receiving.receiver in
     let report = c.in_ok-fmc.ensures.ok in
     step_as _ _ _ _ _
-    (ap (λ (x : OctetAnswer UpBearer). step_after c.args.out.now x) (begins_as codec c.args.at.now r.deliv _ (received_bits r) _ b report.0 report.1))
+    (ap (λ (x : OctetAnswer CuUpBearer). step_after c.args.out.now x) (begins_as codec c.args.at.now r.deliv _ (received_bits r) _ b report.0 report.1))
     (c.begin_downlink.ensures.step codec b)

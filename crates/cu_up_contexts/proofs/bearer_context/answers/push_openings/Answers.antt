@@ -1,7 +1,7 @@
 use Rattle.std.proofs.Common.{◌≡◌, ◌++◌, ℕ, List, [], map, Some, sym, ap, ◌∙◌, arith}
 use Rattle.std.specs.List.{flat_map}
 use Rattle.std.proofs.lemmas.List.{drop_all}
-use Rattle.unit_defs.specs.UpRecords.{UpTunnel, n3, f1u_uplink, forwarding_down, forwarding_up}
+use Rattle.unit_defs.specs.CuUpRecords.{CuUpTunnel, n3, f1u_uplink, forwarding_down, forwarding_up}
 use Rattle.unit_defs.specs.CuUp.{entries}
 use Rattle.cu_up_bearer.proofs.orders.Orders.{on_ok}
 use Rattle.cu_up_contexts.specs.bearer_context.Answers.{entry_as}
@@ -12,7 +12,7 @@ pub returns : goal.returns
 returns c = λ ue context.
     let b = c.args.bearer.now in
     let seen = map (entry_as ue context) in
-    let ups : List ℕ → List (ℕ × UpTunnel) = λ teids. flat_map (λ teid. entries ue c.args.id context f1u_uplink (Some teid)) teids in
+    let ups : List ℕ → List (ℕ × CuUpTunnel) = λ teids. flat_map (λ teid. entries ue c.args.id context f1u_uplink (Some teid)) teids in
     let l = c.loop-teid in
     let items = c.as_slice-teid-items.result.now in
     let rest : seen l.openings ++ [] ≡ seen c.push_opening.new.openings ++ ups b.uplinks =

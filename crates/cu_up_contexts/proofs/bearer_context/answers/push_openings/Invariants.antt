@@ -1,7 +1,7 @@
 use Rattle.std.proofs.Common.{◌≡◌, ◌++◌, ℕ, map, drop, Some}
 use Rattle.std.specs.List.{flat_map}
 use Rattle.gnb_types.specs.declared.names.UeId.{UeId}
-use Rattle.unit_defs.specs.UpRecords.{f1u_uplink}
+use Rattle.unit_defs.specs.CuUpRecords.{f1u_uplink}
 use Rattle.unit_defs.specs.CuUp.{entries}
 use Rattle.cu_up_contexts.specs.bearer_context.Answers.{entry_as}
 use Rattle.cu_up_contexts.proofs.bearer_context.answers.push_openings.Given as goal

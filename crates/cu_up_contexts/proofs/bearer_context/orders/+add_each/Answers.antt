@@ -1,5 +1,5 @@
 use Rattle.std.proofs.Common.{◌+◌, List, ◌∷◌, sym, subst}
-use Rattle.unit_defs.specs.UpBearers.{with_uplink}
+use Rattle.unit_defs.specs.CuUpBearers.{with_uplink}
 use Rattle.unit_defs.specs.CuUp.{uplinks_from}
 use Rattle.unit_defs.specs.octet_defs.Codec.{octet_way}
 use Rattle.unit_messages.specs.steps.Steps.{IsStep}

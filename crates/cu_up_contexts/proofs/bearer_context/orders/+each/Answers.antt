@@ -3,7 +3,7 @@ use Rattle.unit_defs.specs.CuUp.{each_bearer}
 use Rattle.unit_defs.specs.octet_defs.Codec.{octet_way}
 use Rattle.unit_messages.specs.steps.Steps.{IsStep}
 use Rattle.gnb_types.specs.declared.names.BearerId.{BearerId}
-use Rattle.unit_defs.specs.UpRecords.{UpBearer}
+use Rattle.unit_defs.specs.CuUpRecords.{CuUpBearer}
 use Rattle.unit_defs.specs.octet_defs.Units.{OctetAnswer}
 use Rattle.cu_up_bearer.specs.tunnels.Tunnels.{at_as}
 use Rattle.cu_up_bearer.specs.bearers.Bearers.{kept}
@@ -16,7 +16,7 @@ use Rattle.cu_up_contexts.proofs.bearer_context.orders.+each.Goals as goal
 pub returns-in_err-carry_out-clause-step : goal.returns-in_err-carry_out-clause-step
 returns-in_err-carry_out-clause-step t c = λ codec.
     let a = c.args.at in
-    let row : BearerId → UpBearer → OctetAnswer UpBearer = λ id b. row_of codec c.args.order (at_as (at_bearer a id)) b in
+    let row : BearerId → CuUpBearer → OctetAnswer CuUpBearer = λ id b. row_of codec c.args.order (at_as (at_bearer a id)) b in
     let first = c.in-Some.first.now in
     let rest = c.in-Some.rest.now in
     subst (λ (bs : List Bearer). IsStep (bearers_after codec c.args.out.now (each_bearer (octet_way codec) row (numbered a.bearer.0 bs))) c.carry_out.new.out (numbered a.bearer.0 (c.carry_out.new.bearer ∷ rest)) c.from_residual.result)
@@ -27,7 +27,7 @@ returns-in_err-carry_out-clause-step t c = λ codec.
 pub returns-clause-step : goal.returns-clause-step
 returns-clause-step t c = λ codec.
     let a = c.args.at in
-    let row : BearerId → UpBearer → OctetAnswer UpBearer = λ id b. row_of codec c.args.order (at_as (at_bearer a id)) b in
+    let row : BearerId → CuUpBearer → OctetAnswer CuUpBearer = λ id b. row_of codec c.args.order (at_as (at_bearer a id)) b in
     let first = c.in-Some.first.now in
     let rest = c.in-Some.rest.now in
     subst (λ (bs : List Bearer). IsStep (bearers_after codec c.args.out.now (each_bearer (octet_way codec) row (numbered a.bearer.0 bs))) c.each.new.out (numbered a.bearer.0 (c.carry_out.new.bearer ∷ c.each.new.bearers)) c.each.result)

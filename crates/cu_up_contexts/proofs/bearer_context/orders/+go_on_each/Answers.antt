@@ -1,6 +1,6 @@
 use Rattle.std.proofs.Common.{◌+◌, List, ◌∷◌, sym, subst}
 use Rattle.gnb_types.specs.declared.plans.SnStatus.{SnStatus}
-use Rattle.unit_defs.specs.UpBearers.{with_status}
+use Rattle.unit_defs.specs.CuUpBearers.{with_status}
 use Rattle.unit_defs.specs.CuUp.{status_each}
 use Rattle.unit_defs.specs.octet_defs.Codec.{octet_way}
 use Rattle.unit_messages.specs.steps.Steps.{IsStep}

@@ -1,6 +1,6 @@
 use Rattle.std.proofs.Common.{ℕ, sym, subst}
 use Rattle.unit_defs.specs.Messages.{teid_of}
-use Rattle.unit_defs.specs.UpBearers.{switched, frozen_to}
+use Rattle.unit_defs.specs.CuUpBearers.{switched, frozen_to}
 use Rattle.unit_defs.specs.octet_defs.Codec.{octet_way}
 use Rattle.unit_messages.specs.steps.Steps.{step_after, IsStep}
 use Rattle.cu_up_bearer.specs.tunnels.Tunnels.{at_as}

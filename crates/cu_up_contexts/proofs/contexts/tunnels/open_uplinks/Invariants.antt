@@ -1,6 +1,6 @@
 use Rattle.std.proofs.Common.{◌≡◌, Some, drop}
 use Rattle.std.specs.List.{flat_map}
-use Rattle.unit_defs.specs.UpRecords.{f1u_uplink}
+use Rattle.unit_defs.specs.CuUpRecords.{f1u_uplink}
 use Rattle.unit_defs.specs.CuUp.{entries, with_entries}
 use Rattle.cu_up_contexts.proofs.contexts.tunnels.open_uplinks.Given as goal
 

@@ -1,6 +1,6 @@
 use Rattle.std.proofs.Common.{ℕ, List, Option, None, sym, ap, ◌∙◌}
 use Rattle.gnb_types.specs.declared.outputs.Output.{Output}
-use Rattle.unit_defs.specs.UpItems.{closed_n3}
+use Rattle.unit_defs.specs.CuUpItems.{closed_n3}
 use Rattle.unit_defs.specs.octet_defs.Codec.{octet_way}
 use Rattle.unit_messages.specs.steps.Steps.{step_after, stepped}
 use Rattle.cu_up_bearer.proofs.downlink.Sequels.{nothing_more}

@@ -1,5 +1,5 @@
 use Rattle.std.proofs.Common.{refl, sym, ap, ◌∙◌}
-use Rattle.unit_defs.specs.UpRecords.{UpBearer}
+use Rattle.unit_defs.specs.CuUpRecords.{CuUpBearer}
 use Rattle.unit_defs.specs.octet_defs.Units.{OctetAnswer}
 use Rattle.unit_messages.specs.steps.Steps.{step_after}
 use Rattle.cu_up_bearer.proofs.downlink.Sequels.{step_as, nothing_more}
@@ -10,13 +10,13 @@ use Rattle.cu_up_items.proofs.ends.uplinks.end_hop_up.Goals as goal
 pub returns-in_default-clause-step : goal.returns-in_default-clause-step
 returns-in_default-clause-step c = λ codec.
     let b = kept c.args.bearer.now in
-    ap (λ (x : OctetAnswer UpBearer). step_after c.args.out.now x) (hop_none codec c.args.at.now b c.args.bearer.now.hop c.in_default.is)
+    ap (λ (x : OctetAnswer CuUpBearer). step_after c.args.out.now x) (hop_none codec c.args.at.now b c.args.bearer.now.hop c.in_default.is)
     ∙ nothing_more c.args.out.now b
 
 pub returns-then-not-is_due-clause-step : goal.returns-then-not-is_due-clause-step
 returns-then-not-is_due-clause-step c = λ codec.
     let b = kept c.args.bearer.now in
-    ap (λ (x : OctetAnswer UpBearer). step_after c.args.out.now x)
+    ap (λ (x : OctetAnswer CuUpBearer). step_after c.args.out.now x)
     (hop_waits codec c.args.at.now b c.args.bearer.now.hop c.in-Some.hop c.in-Some.is (sym c.is_due.ensures ∙ c.if-not-is_due.true))
     ∙ nothing_more c.args.out.now b
 
@@ -25,6 +25,6 @@ returns-clause-step c = λ codec.
     let b = kept c.args.bearer.now in
     let o = c.args.bearer.now.hop in
     step_as _ _ _ _ _
-    (ap (λ (x : OctetAnswer UpBearer). step_after c.args.out.now x)
+    (ap (λ (x : OctetAnswer CuUpBearer). step_after c.args.out.now x)
     (hop_due codec c.args.at.now b o c.in-Some.hop c.in-Some.is (sym c.is_due.ensures ∙ c.if-not-is_due.false)))
     (c.pass_end.ensures codec (with_end codec c.args.at.now b o c.in-Some.hop c.in-Some.is) refl)

@@ -1,5 +1,5 @@
 use Rattle.std.proofs.Common.{sym, ◌∙◌}
-use Rattle.unit_defs.specs.UpItems.{held_as_target, held_by_room, held_reason}
+use Rattle.unit_defs.specs.CuUpItems.{held_as_target, held_by_room, held_reason}
 use Rattle.unit_defs.specs.octet_defs.Reading.{up_item, link_of}
 use Rattle.cu_up_bearer.specs.tunnels.Tunnels.{at_as, flags_as}
 use Rattle.cu_up_bearer.specs.bearers.Bearers.{kept}

@@ -1,5 +1,5 @@
 use Rattle.std.proofs.Common.{ap}
-use Rattle.unit_defs.specs.UpItems.{took}
+use Rattle.unit_defs.specs.CuUpItems.{took}
 use Rattle.unit_defs.specs.octet_defs.Codec.{octet_way}
 use Rattle.unit_messages.specs.steps.Steps.{step_after}
 use Rattle.cu_up_bearer.specs.tunnels.Tunnels.{at_as}

@@ -1,8 +1,8 @@
 use Rattle.std.proofs.Common.{List, ℕ, Option, refl, sym, ap, ◌∙◌, arith}
 use Rattle.pdcp_defs.specs.Counts.{near_count, count_below}
 use Rattle.unit_defs.specs.Ways.{fresh_item, numbered_item}
-use Rattle.unit_defs.specs.UpRecords.{forwarding_down}
-use Rattle.unit_defs.specs.UpItems.{took, took_fresh, took_numbered}
+use Rattle.unit_defs.specs.CuUpRecords.{forwarding_down}
+use Rattle.unit_defs.specs.CuUpItems.{took, took_fresh, took_numbered}
 use Rattle.unit_defs.specs.octet_defs.Codec.{octet_way}
 use Rattle.unit_messages.specs.steps.Steps.{step_after}
 use Rattle.cu_up_bearer.specs.tunnels.Tunnels.{at_as}
@@ -10,7 +10,7 @@ use Rattle.cu_up_bearer.proofs.downlink.Sequels.{step_as}
 use Rattle.cu_up_bearer.specs.bearers.Bearers.{kept}
 use Rattle.cu_up_items.specs.items.Coming.{said, held_of}
 use Rattle.cu_up_items.specs.declared.items.items.Kind.TheVariants as kinds
-use Rattle.cu_up_items.specs.declared.items.items.UpItem.{UpItem}
+use Rattle.cu_up_items.specs.declared.items.items.CuUpItem.{CuUpItem}
 use Rattle.cu_up_items.proofs.items.HeldTests.{room_down, room_up}
 use Rattle.cu_up_items.proofs.items.taking.take_forwarded_down.Goals as goal
 
@@ -19,7 +19,7 @@ unfolding took
 returns-in_ok-packet-in-Fresh-clause-step c = λ codec.
     let b = kept c.args.bearer.now in
     step_as _ _ _ _ _
-    (ap (λ (i : UpItem). step_after c.args.out.now (took (octet_way codec) (at_as c.args.at.now) forwarding_down c.args.teid (said c.args.at.now b kinds.ForwardingDown i) b)) c.in-Fresh.is
+    (ap (λ (i : CuUpItem). step_after c.args.out.now (took (octet_way codec) (at_as c.args.at.now) forwarding_down c.args.teid (said c.args.at.now b kinds.ForwardingDown i) b)) c.in-Fresh.is
     ∙ ap (λ (p : List ℕ). step_after c.args.out.now (took_fresh (octet_way codec) (at_as c.args.at.now) p b)) (sym c.in_ok-packet-in-Fresh.ensures))
     (c.take_fresh.ensures.step codec)
 
@@ -28,7 +28,7 @@ unfolding took
 returns-in-Numbered-clause-step c = λ codec.
     let b = kept c.args.bearer.now in
     step_as _ _ _ _ _
-    (ap (λ (i : UpItem). step_after c.args.out.now (took (octet_way codec) (at_as c.args.at.now) forwarding_down c.args.teid (said c.args.at.now b kinds.ForwardingDown i) b)) c.in-Numbered.is
+    (ap (λ (i : CuUpItem). step_after c.args.out.now (took (octet_way codec) (at_as c.args.at.now) forwarding_down c.args.teid (said c.args.at.now b kinds.ForwardingDown i) b)) c.in-Numbered.is
     ∙ ap (λ (o : Option ℕ). step_after c.args.out.now (took_numbered (octet_way codec) (at_as c.args.at.now) o c.in-Numbered.packet.now b)) (sym c.count_forwarded-count.ensures))
     (c.take_numbered.ensures.step codec)
 
@@ -37,7 +37,7 @@ unfolding took
 returns-in-End-clause-step c = λ codec.
     let b = kept c.args.bearer.now in
     step_as _ _ _ _ _
-    (ap (λ (i : UpItem). step_after c.args.out.now (took (octet_way codec) (at_as c.args.at.now) forwarding_down c.args.teid (said c.args.at.now b kinds.ForwardingDown i) b)) c.in-End.is)
+    (ap (λ (i : CuUpItem). step_after c.args.out.now (took (octet_way codec) (at_as c.args.at.now) forwarding_down c.args.teid (said c.args.at.now b kinds.ForwardingDown i) b)) c.in-End.is)
     (c.end_down.ensures.step codec)
 
 pub returns-in-Pdu-clause-step : goal.returns-in-Pdu-clause-step
@@ -45,7 +45,7 @@ unfolding took
 returns-in-Pdu-clause-step c = λ codec.
     let b = kept c.args.bearer.now in
     step_as _ _ _ _ _
-    (ap (λ (i : UpItem). step_after c.args.out.now (took (octet_way codec) (at_as c.args.at.now) forwarding_down c.args.teid (said c.args.at.now b kinds.ForwardingDown i) b)) c.in-Pdu.is)
+    (ap (λ (i : CuUpItem). step_after c.args.out.now (took (octet_way codec) (at_as c.args.at.now) forwarding_down c.args.teid (said c.args.at.now b kinds.ForwardingDown i) b)) c.in-Pdu.is)
     (c.drop_item.ensures b)
 
 pub returns-in-Status-clause-step : goal.returns-in-Status-clause-step
@@ -53,19 +53,19 @@ unfolding took
 returns-in-Status-clause-step c = λ codec.
     let b = kept c.args.bearer.now in
     step_as _ _ _ _ _
-    (ap (λ (i : UpItem). step_after c.args.out.now (took (octet_way codec) (at_as c.args.at.now) forwarding_down c.args.teid (said c.args.at.now b kinds.ForwardingDown i) b)) c.in-Status.is)
+    (ap (λ (i : CuUpItem). step_after c.args.out.now (took (octet_way codec) (at_as c.args.at.now) forwarding_down c.args.teid (said c.args.at.now b kinds.ForwardingDown i) b)) c.in-Status.is)
     (c.drop_item-in-Status.ensures b)
 
 pub take_fresh-requires-clause-room : goal.take_fresh-requires-clause-room
 take_fresh-requires-clause-room c = λ lives.
     let b = kept c.args.bearer.now in
-    let free = sym (ap (λ (i : UpItem). held_of c.args.at.now b kinds.ForwardingDown i) c.in-Fresh.is) ∙ c.requires.free in
+    let free = sym (ap (λ (i : CuUpItem). held_of c.args.at.now b kinds.ForwardingDown i) c.in-Fresh.is) ∙ c.requires.free in
     let room = room_down (at_as c.args.at.now) b forwarding_down (fresh_item c.in-Fresh.packet.now) free lives refl in
     omega (arith, room, c.requires.of.0.1)
 
 pub take_numbered-requires-clause-room : goal.take_numbered-requires-clause-room
 take_numbered-requires-clause-room c = λ lives.
     let b = kept c.args.bearer.now in
-    let free = sym (ap (λ (i : UpItem). held_of c.args.at.now b kinds.ForwardingDown i) c.in-Numbered.is) ∙ c.requires.free in
+    let free = sym (ap (λ (i : CuUpItem). held_of c.args.at.now b kinds.ForwardingDown i) c.in-Numbered.is) ∙ c.requires.free in
     let room = room_down (at_as c.args.at.now) b forwarding_down (numbered_item (count_below c.args.at.now.sn c.args.bearer.now.dl_next c.in-Numbered.number) c.in-Numbered.packet.now) free lives refl in
     omega (arith, room, c.requires.of.0.1)

@@ -2,7 +2,7 @@ use Rattle.std.proofs.Common.{ap}
 use Rattle.pdcp.specs.Pdus.{content_of}
 use Rattle.pdcp.specs.declared.pdu.Pdu.{Pdu}
 use Rattle.pdcp_defs.specs.Counts.{near_count}
-use Rattle.unit_defs.specs.UpItems.{took_content}
+use Rattle.unit_defs.specs.CuUpItems.{took_content}
 use Rattle.unit_defs.specs.octet_defs.Codec.{octet_way}
 use Rattle.unit_defs.specs.octet_defs.Reading.{content_by}
 use Rattle.unit_messages.specs.steps.Steps.{step_after}

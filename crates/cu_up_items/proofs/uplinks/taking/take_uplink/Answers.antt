@@ -4,12 +4,12 @@ use Rattle.gnb_types.specs.declared.reasons.DropReason.TheVariants.{Duplicate}
 use Rattle.pdcp_defs.specs.Counts.{near_count}
 use Rattle.pdcp_defs.specs.Receivers.{is_ahead}
 use Rattle.unit_defs.specs.Ways.{drops}
-use Rattle.unit_defs.specs.UpRecords.{UpBearer}
-use Rattle.unit_defs.specs.UpItems.{is_ahead_if}
+use Rattle.unit_defs.specs.CuUpRecords.{CuUpBearer}
+use Rattle.unit_defs.specs.CuUpItems.{is_ahead_if}
 use Rattle.unit_defs.specs.octet_defs.Codec.{octet_way}
 use Rattle.unit_defs.specs.octet_defs.Units.{OctetAnswer}
 use Rattle.unit_messages.specs.steps.Steps.{step_after}
-use Rattle.pdcp_bearers.specs.ue_bearers.Downlinks.{DownlinkState, received}
+use Rattle.pdcp_bearers.specs.ue_bearers.Receivers.{ReceiverState, received}
 use Rattle.cu_up_bearer.specs.tunnels.Tunnels.{at_as}
 use Rattle.cu_up_bearer.proofs.downlink.Sequels.{step_as}
 use Rattle.cu_up_bearer.specs.bearers.Bearers.{kept, with_receiver}
@@ -24,7 +24,7 @@ returns-in_default-clause-step c = λ codec.
     let o = near_count c.args.at.now.sn old.receiver.deliv c.args.number in
     let seen = sym (ap (λ (k : SnBits). near_count k old.receiver.deliv c.args.number) c.requires.of.1.0) ∙ sym c.count_of.ensures in
     step_as _ _ _ _ _
-    (ap (λ (x : OctetAnswer UpBearer). step_after c.args.out.now x) (uplink_none codec c.args.at.now b c.args.packet.now o (seen ∙ c.in_default.is)))
+    (ap (λ (x : OctetAnswer CuUpBearer). step_after c.args.out.now x) (uplink_none codec c.args.at.now b c.args.packet.now o (seen ∙ c.in_default.is)))
     (c.drop_item.ensures b)
 
 pub returns-then-at-clause-step : goal.returns-then-at-clause-step
@@ -34,7 +34,7 @@ returns-then-at-clause-step c = λ codec.
     let o = near_count c.args.at.now.sn old.receiver.deliv c.args.number in
     let seen = sym (ap (λ (k : SnBits). near_count k old.receiver.deliv c.args.number) c.requires.of.1.0) ∙ sym c.count_of.ensures in
     step_as _ _ _ _ _
-    (ap (λ (x : OctetAnswer UpBearer). step_after c.args.out.now x)
+    (ap (λ (x : OctetAnswer CuUpBearer). step_after c.args.out.now x)
     (uplink_released codec c.args.at.now b c.args.packet.now o c.in-Some.count (seen ∙ c.in-Some.is) c.if-at.true))
     (c.pass_up.ensures codec)
 
@@ -54,8 +54,8 @@ returns-in-Stored-clause-step c = λ codec.
     ∙ sym (ap (λ (x : Option ℕ). is_ahead_if (at_as c.args.at.now) b x) found) ∙ c.requires.near c.if-at.false in
     let f = subst (Facts old c.take.new.self count p) c.in-Stored.is (facts old c.take.new.self count p c.take.result came near) in
     step_as _ _ _ _ _
-    (ap (λ (x : OctetAnswer UpBearer). step_after c.args.out.now x) (uplink_stored codec c.args.at.now b p o count found c.if-at.false f.0)
-    ∙ ap (λ (d : DownlinkState). step_after c.args.out.now (kept_at (octet_way codec) (at_as c.args.at.now) count p (with_receiver b d))) (sym f.1))
+    (ap (λ (x : OctetAnswer CuUpBearer). step_after c.args.out.now x) (uplink_stored codec c.args.at.now b p o count found c.if-at.false f.0)
+    ∙ ap (λ (d : ReceiverState). step_after c.args.out.now (kept_at (octet_way codec) (at_as c.args.at.now) count p (with_receiver b d))) (sym f.1))
     (c.keep.ensures.step codec)
 
 pub returns-in-Duplicate-clause-step : goal.returns-in-Duplicate-clause-step
@@ -74,8 +74,8 @@ returns-in-Duplicate-clause-step c = λ codec.
     ∙ sym (ap (λ (x : Option ℕ). is_ahead_if (at_as c.args.at.now) b x) found) ∙ c.requires.near c.if-at.false in
     let f = subst (Facts old c.take.new.self count p) c.in-Duplicate.is (facts old c.take.new.self count p c.take.result came near) in
     step_as _ _ _ _ _
-    (ap (λ (x : OctetAnswer UpBearer). step_after c.args.out.now x) (uplink_duplicate codec c.args.at.now b p o count found c.if-at.false f.0)
-    ∙ ap (λ (d : DownlinkState). step_after c.args.out.now (drops Duplicate (with_receiver b d))) (sym f.1))
+    (ap (λ (x : OctetAnswer CuUpBearer). step_after c.args.out.now x) (uplink_duplicate codec c.args.at.now b p o count found c.if-at.false f.0)
+    ∙ ap (λ (d : ReceiverState). step_after c.args.out.now (drops Duplicate (with_receiver b d))) (sym f.1))
     (c.drop_item-in-Duplicate.ensures (with_receiver b c.take.new.self))
 
 pub keep-requires-clause-of : goal.keep-requires-clause-of

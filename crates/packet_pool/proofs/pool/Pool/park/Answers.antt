@@ -5,7 +5,7 @@ use Rattle.tables.specs.Tables.{find}
 use Rattle.pdcp_defs.specs.pool_defs.Pools.{PoolState, packet_of, with_place, IsPool}
 use Rattle.packet_pool.specs.declared.contents.Content.{Content}
 use Rattle.packet_pool.specs.inside.Contents.{marked}
-use Rattle.packet_pool.specs.inside.Pools.{state, places_of, IsTied}
+use Rattle.packet_pool.specs.inside.Pools.{state, places_of, IsConsistent}
 use Rattle.packet_pool.proofs.PoolChanges.{places_put, tied_marked, marked_state}
 use Rattle.packet_pool.proofs.PoolLemmas.{pool_sound, held_block, content_within, find_places, place_unparked}
 use Rattle.packet_pool.proofs.pool.Pool.park.Goals as goal
@@ -20,7 +20,7 @@ pub invariant_of-self : goal.invariant_of-self
 invariant_of-self c =
     let block = held_block c.self.inside.region c.self.inside.contents.items c.self.inside.accounts c.r.inside.block
     (subst IsSome (ap (λ (p : PoolState). packet_of p c.args.r) (sym c.self.view_is) ∙ ap (packet_of _) (sym c.r.view_is)) c.requires) in
-    subst (λ (new : List (Option Content)). IsTied c.self.inside.region new c.self.inside.accounts) (sym c.mark.ensures)
+    subst (λ (new : List (Option Content)). IsConsistent c.self.inside.region new c.self.inside.accounts) (sym c.mark.ensures)
     (tied_marked c.self.inside.region c.self.inside.contents.items c.self.inside.accounts c.r.inside.block block.0 true c.self.invariant block.1)
 
 pub returns-clause-sound : goal.returns-clause-sound

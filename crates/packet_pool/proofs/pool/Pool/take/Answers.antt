@@ -3,7 +3,7 @@ use Rattle.std.specs.Prelude.{IsSome, is_some}
 use Rattle.pdcp_defs.specs.pool_defs.Pools.{PoolState, packet_of, without_packet, IsPool}
 use Rattle.packet_pool.specs.declared.contents.Content.{Content}
 use Rattle.packet_pool.specs.inside.Contents.{content_at}
-use Rattle.packet_pool.specs.inside.Pools.{state, IsTied}
+use Rattle.packet_pool.specs.inside.Pools.{state, IsConsistent}
 use Rattle.packet_pool.proofs.PoolChanges.{content_got, used_some, not_free, tied_take, take_state}
 use Rattle.packet_pool.proofs.PoolLemmas.{pool_sound, held_block, content_within}
 use Rattle.packet_pool.proofs.pool.Pool.take.Goals as goal
@@ -60,7 +60,7 @@ invariant_of-self-2 c =
     content_within c.self.inside.contents.items c.r.inside.block (subst IsSome (sym block.1) refl) in
     let has : content_at c.self.inside.contents.items c.r.inside.block ≡ Some c.in-Some.content =
     content_got c.self.inside.contents.items c.r.inside.block _ within c.index_mut.ensures.value ∙ sym c.in-Some.ensures.value in
-    subst (λ (v : Option Content). IsTied c.give_back.new.self (set c.self.inside.contents.items c.r.inside.block v) c.discharge.new.self) (sym c.in-Some.ensures.after)
+    subst (λ (v : Option Content). IsConsistent c.give_back.new.self (set c.self.inside.contents.items c.r.inside.block v) c.discharge.new.self) (sym c.in-Some.ensures.after)
     (tied_take c.self.inside.region c.self.inside.contents.items c.self.inside.accounts c.r.inside.block c.in-Some.content c.self.invariant held has
     c.give_back.new.self c.discharge.new.self c.give_back.ensures.free c.give_back.ensures.blocks c.give_back.ensures.others
     c.discharge.ensures.quotas c.discharge.ensures.used c.discharge.ensures.whole)

@@ -5,7 +5,7 @@ use Rattle.tables.specs.Tables.{find}
 use Rattle.pdcp_defs.specs.pool_defs.Pools.{PoolState, packet_at, without_place, IsPool}
 use Rattle.packet_pool.specs.declared.contents.Content.{Content}
 use Rattle.packet_pool.specs.inside.Contents.{marked}
-use Rattle.packet_pool.specs.inside.Pools.{state, places_of, IsTied}
+use Rattle.packet_pool.specs.inside.Pools.{state, places_of, IsConsistent}
 use Rattle.packet_pool.proofs.PoolChanges.{places_without, tied_marked, marked_state}
 use Rattle.packet_pool.proofs.PoolLemmas.{pool_sound, parked_block, content_within, find_places, place_parked}
 use Rattle.packet_pool.proofs.pool.Pool.unpark.Goals as goal
@@ -20,7 +20,7 @@ pub invariant_of-self : goal.invariant_of-self
 invariant_of-self c =
     let block = parked_block c.self.inside.region c.self.inside.contents.items c.self.inside.accounts c.args.place
     (subst (λ (p : PoolState). IsSome (packet_at p c.args.place)) (sym c.self.view_is) c.requires) in
-    subst (λ (new : List (Option Content)). IsTied c.self.inside.region new c.self.inside.accounts) (sym c.mark.ensures)
+    subst (λ (new : List (Option Content)). IsConsistent c.self.inside.region new c.self.inside.accounts) (sym c.mark.ensures)
     (tied_marked c.self.inside.region c.self.inside.contents.items c.self.inside.accounts c.args.place block.0 false c.self.invariant block.1)
 
 pub returns-clause-sound : goal.returns-clause-sound

@@ -1,6 +1,6 @@
 use Rattle.std.proofs.Common.{ℕ, List, map, ap, ◌∙◌}
 use Rattle.gnb_types.specs.declared.keys.Channel.{Channel}
-use Rattle.unit_defs.specs.CpRecords.{unawaited, forgotten}
+use Rattle.unit_defs.specs.CuCpRecords.{unawaited, forgotten}
 use Rattle.unit_defs.specs.octet_defs.Codec.{octet_way}
 use Rattle.unit_requests.specs.Requests.{Kept}
 use Rattle.unit_requests.proofs.waiting_requests.Refilling.{Waits}

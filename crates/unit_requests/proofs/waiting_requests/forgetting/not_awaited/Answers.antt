@@ -1,6 +1,6 @@
 use Rattle.std.proofs.Common.{ℕ, false, List, map, ap}
 use Rattle.unit_defs.specs.Transactions.{Waiting}
-use Rattle.unit_defs.specs.CpRecords.{not_awaited}
+use Rattle.unit_defs.specs.CuCpRecords.{not_awaited}
 use Rattle.unit_defs.specs.octet_defs.Codec.{octet_way}
 use Rattle.unit_messages.specs.Messages.{message_as}
 use Rattle.unit_requests.proofs.waiting_requests.Refilling.{one_more, all_over}

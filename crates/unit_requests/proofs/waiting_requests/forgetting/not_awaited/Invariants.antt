@@ -1,6 +1,6 @@
 use Rattle.std.proofs.Common.{◌≡◌, ◌++◌, length, map}
 use Rattle.unit_defs.specs.octet_defs.Codec.{Codec, octet_way}
-use Rattle.unit_defs.specs.CpRecords.{not_awaited}
+use Rattle.unit_defs.specs.CuCpRecords.{not_awaited}
 use Rattle.unit_requests.proofs.waiting_requests.forgetting.not_awaited.Given as goal
 
 -- what is done, and what is left, is all

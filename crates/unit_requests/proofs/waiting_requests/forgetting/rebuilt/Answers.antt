@@ -1,6 +1,6 @@
 use Rattle.std.proofs.Common.{map}
 use Rattle.gnb_types.proofs.OrderLemmas.{channel_total}
-use Rattle.unit_defs.specs.CpRecords.{unawaited}
+use Rattle.unit_defs.specs.CuCpRecords.{unawaited}
 use Rattle.unit_defs.specs.octet_defs.Codec.{octet_way}
 use Rattle.unit_requests.proofs.waiting_requests.Refilling.{all_over, all_stays, still_sorted}
 use Rattle.unit_requests.proofs.waiting_requests.forgetting.rebuilt.Goals as goal

@@ -3,7 +3,7 @@ use Rattle.std.specs.List.Sorted.{IsStrictlySortedBy}
 use Rattle.std.specs.Map.{keys_of}
 use Rattle.gnb_types.specs.Orders.{channel_cmp}
 use Rattle.unit_defs.specs.octet_defs.Codec.{Codec, octet_way}
-use Rattle.unit_defs.specs.CpRecords.{unawaited}
+use Rattle.unit_defs.specs.CuCpRecords.{unawaited}
 use Rattle.unit_requests.proofs.waiting_requests.forgetting.rebuilt.Given as goal
 
 -- what is done, and what is left, is all, in the order of channels

@@ -5,7 +5,7 @@ use Rattle.tables.specs.Tables.{at}
 use Rattle.transport_defs.specs.Links.{silent}
 use Rattle.run_defs.specs.Settling.{Turn, ack_next}
 use Rattle.run_defs.specs.UnitRuns.{unit_world}
-use Rattle.run_links.specs.Grounds.{state_of}
+use Rattle.run_links.specs.Networks.{state_of}
 use Rattle.world.specs.turns.Turns.{Continues}
 use Rattle.world.specs.radios.RadioTurns.{TurnGives, turn_of}
 use Rattle.world.proofs.turns.Turned.{not_zero}
@@ -15,7 +15,7 @@ use Rattle.world.proofs.radios.radios.ack_next.Goals as goal
 pub returns-then-length-eq0-clause-gives : goal.returns-then-length-eq0-clause-gives
 returns-then-length-eq0-clause-gives g c again =
     let world = unit_world g.C.MessageCodec.codec g.U.Units.answer in
-    let s = state_of (g.U.Units.records c.args.parts.now.units) c.args.parts.now.core c.args.parts.now.ground in
+    let s = state_of (g.U.Units.records c.args.run_state.now.units) c.args.run_state.now.core c.args.run_state.now.network in
     let r = at entity_cmp silent s.radios c.args.turn.key in
     acks_none world again (turn_of c.args.turn) c.args.home s s r.items r.carried c.args.lines.now
     (ap (λ (n : ℕ). n == 0) (sym c.length.ensures ∙ c.if-length-eq0.true))
@@ -23,7 +23,7 @@ returns-then-length-eq0-clause-gives g c again =
 pub returns-then-turn-eq0-clause-gives : goal.returns-then-turn-eq0-clause-gives
 returns-then-turn-eq0-clause-gives g c again =
     let world = unit_world g.C.MessageCodec.codec g.U.Units.answer in
-    let s = state_of (g.U.Units.records c.args.parts.now.units) c.args.parts.now.core c.args.parts.now.ground in
+    let s = state_of (g.U.Units.records c.args.run_state.now.units) c.args.run_state.now.core c.args.run_state.now.network in
     let r = at entity_cmp silent s.radios c.args.turn.key in
     subst (λ (x : Option Turn). TurnGives c.args.lines.now (ack_next world again (turn_of c.args.turn) c.args.home s r.items r.carried) again c.args.lines.now s
     (Ok x)) (sym c.over-left.ensures)
@@ -34,7 +34,7 @@ returns-then-turn-eq0-clause-gives g c again =
 pub returns-in-None-clause-gives : goal.returns-in-None-clause-gives
 returns-in-None-clause-gives g c again =
     let world = unit_world g.C.MessageCodec.codec g.U.Units.answer in
-    let s = state_of (g.U.Units.records c.args.parts.now.units) c.args.parts.now.core c.args.parts.now.ground in
+    let s = state_of (g.U.Units.records c.args.run_state.now.units) c.args.run_state.now.core c.args.run_state.now.network in
     let r = at entity_cmp silent s.radios c.args.turn.key in
     subst (λ (x : Option Turn). TurnGives c.args.lines.now (ack_next world again (turn_of c.args.turn) c.args.home s r.items r.carried) again c.args.lines.now s
     (Ok x)) (sym c.over-left.ensures)
@@ -45,8 +45,8 @@ pub returns-in-Err-clause-gives : goal.returns-in-Err-clause-gives
 returns-in-Err-clause-gives g c again =
     let world = unit_world g.C.MessageCodec.codec g.U.Units.answer in
     let records = g.U.Units.records in
-    let s = state_of (records c.args.parts.now.units) c.args.parts.now.core c.args.parts.now.ground in
-    let t = state_of (records c.ack_item.new.parts.units) c.ack_item.new.parts.core c.ack_item.new.parts.ground in
+    let s = state_of (records c.args.run_state.now.units) c.args.run_state.now.core c.args.run_state.now.network in
+    let t = state_of (records c.ack_item.new.run_state.units) c.ack_item.new.run_state.core c.ack_item.new.run_state.network in
     let r = at entity_cmp silent s.radios c.args.turn.key in
     acks_stop world again (turn_of c.args.turn) c.args.home s t r.items r.carried c.in_default.field-0.now c.in-Err.cause c.args.lines.now c.ack_item.new.lines
     c.in_default.ensures (not_zero c.args.turn.acks c.if-turn-eq0.false) c.in-Err.ensures.gives
@@ -55,8 +55,8 @@ pub returns-in-Ok-clause-gives : goal.returns-in-Ok-clause-gives
 returns-in-Ok-clause-gives g c again =
     let world = unit_world g.C.MessageCodec.codec g.U.Units.answer in
     let records = g.U.Units.records in
-    let s = state_of (records c.args.parts.now.units) c.args.parts.now.core c.args.parts.now.ground in
-    let t = state_of (records c.ack_item.new.parts.units) c.ack_item.new.parts.core c.ack_item.new.parts.ground in
+    let s = state_of (records c.args.run_state.now.units) c.args.run_state.now.core c.args.run_state.now.network in
+    let t = state_of (records c.ack_item.new.run_state.units) c.ack_item.new.run_state.core c.ack_item.new.run_state.network in
     let r = at entity_cmp silent s.radios c.args.turn.key in
     subst (λ (x : Turn). Continues c.args.lines.now (ack_next world again (turn_of c.args.turn) c.args.home s r.items r.carried) c.ack_item.new.lines (again x t))
     (sym c.after_ack.ensures)

@@ -6,7 +6,7 @@ use Rattle.scenario_text.specs.declared.line.Link.{Link}
 use Rattle.run_defs.specs.Lines.{radio_link}
 use Rattle.run_defs.specs.Settling.{Turn, air_next}
 use Rattle.run_defs.specs.UnitRuns.{unit_world}
-use Rattle.run_links.specs.Grounds.{state_of}
+use Rattle.run_links.specs.Networks.{state_of}
 use Rattle.world.specs.turns.Turns.{Continues, quiet_lines}
 use Rattle.world.specs.radios.RadioTurns.{turn_of}
 use Rattle.world.proofs.turns.Turned.{not_zero}
@@ -16,7 +16,7 @@ use Rattle.world.proofs.radios.radios.air_next.Goals as goal
 pub returns-then-turn-eq0-clause-gives : goal.returns-then-turn-eq0-clause-gives
 returns-then-turn-eq0-clause-gives g c again =
     let world = unit_world g.C.MessageCodec.codec g.U.Units.answer in
-    let s = state_of (g.U.Units.records c.args.parts.now.units) c.args.parts.now.core c.args.parts.now.ground in
+    let s = state_of (g.U.Units.records c.args.run_state.now.units) c.args.run_state.now.core c.args.run_state.now.network in
     let r = at entity_cmp silent s.radios c.args.turn.key in
     let there = nth r.items r.carried in
     subst (λ (x : Turn). Continues c.args.lines.now (air_next world again (turn_of c.args.turn) c.args.home s there) c.args.lines.now (again x s))
@@ -26,7 +26,7 @@ returns-then-turn-eq0-clause-gives g c again =
 pub returns-in-None-clause-gives : goal.returns-in-None-clause-gives
 returns-in-None-clause-gives g c again =
     let world = unit_world g.C.MessageCodec.codec g.U.Units.answer in
-    let s = state_of (g.U.Units.records c.args.parts.now.units) c.args.parts.now.core c.args.parts.now.ground in
+    let s = state_of (g.U.Units.records c.args.run_state.now.units) c.args.run_state.now.core c.args.run_state.now.network in
     let r = at entity_cmp silent s.radios c.args.turn.key in
     let there = nth r.items r.carried in
     subst (λ (x : Turn). Continues c.args.lines.now (air_next world again (turn_of c.args.turn) c.args.home s there) c.args.lines.now (again x s))
@@ -36,8 +36,8 @@ pub returns-in-Err-clause-gives : goal.returns-in-Err-clause-gives
 returns-in-Err-clause-gives g c again =
     let world = unit_world g.C.MessageCodec.codec g.U.Units.answer in
     let records = g.U.Units.records in
-    let s = state_of (records c.args.parts.now.units) c.args.parts.now.core c.args.parts.now.ground in
-    let t = state_of (records c.air_item.new.parts.units) c.air_item.new.parts.core c.air_item.new.parts.ground in
+    let s = state_of (records c.args.run_state.now.units) c.args.run_state.now.core c.args.run_state.now.network in
+    let t = state_of (records c.air_item.new.run_state.units) c.air_item.new.run_state.core c.air_item.new.run_state.network in
     let r = at entity_cmp silent s.radios c.args.turn.key in
     airs_stop world again (turn_of c.args.turn) c.args.home s t (nth r.items r.carried) c.in_default.field-0.now c.in-Err.cause c.args.lines.now
     c.air_item.new.lines c.in_default.ensures (not_zero c.args.turn.airs c.if-turn-eq0.false) c.in-Err.ensures.gives
@@ -46,8 +46,8 @@ pub returns-clause-gives : goal.returns-clause-gives
 returns-clause-gives g c again =
     let world = unit_world g.C.MessageCodec.codec g.U.Units.answer in
     let records = g.U.Units.records in
-    let s = state_of (records c.args.parts.now.units) c.args.parts.now.core c.args.parts.now.ground in
-    let t = state_of (records c.air_item.new.parts.units) c.air_item.new.parts.core c.air_item.new.parts.ground in
+    let s = state_of (records c.args.run_state.now.units) c.args.run_state.now.core c.args.run_state.now.network in
+    let t = state_of (records c.air_item.new.run_state.units) c.air_item.new.run_state.core c.air_item.new.run_state.network in
     let r = at entity_cmp silent s.radios c.args.turn.key in
     let there = nth r.items r.carried in
     let told =

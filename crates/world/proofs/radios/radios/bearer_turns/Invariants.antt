@@ -1,14 +1,14 @@
 use Rattle.std.proofs.Common.{drop}
 use Rattle.run_defs.specs.UnitRuns.{unit_world}
-use Rattle.run_links.specs.Grounds.{state_of}
+use Rattle.run_links.specs.Networks.{state_of}
 use Rattle.world.specs.turns.Turns.{Continues}
 use Rattle.world.specs.radios.RadioTurns.{bearer_turns}
 use Rattle.world.proofs.radios.radios.bearer_turns.Given as goal
 
 abbrev pub invariant-loop-ue : goal.invariant-loop-ue
 invariant-loop-ue g l = record {
-  ready : g.U.Units.ready l.parts.units;
+  ready : g.U.Units.ready l.run_state.units;
   rest : Continues l.fn.lines
-      (bearer_turns (unit_world g.C.MessageCodec.codec g.U.Units.answer) l.bearers (state_of (g.U.Units.records l.fn.parts.units) l.fn.parts.core l.fn.parts.ground))
-      l.lines (bearer_turns (unit_world g.C.MessageCodec.codec g.U.Units.answer) (drop l.ue-index l.bearers) (state_of (g.U.Units.records l.parts.units) l.parts.core l.parts.ground));
+      (bearer_turns (unit_world g.C.MessageCodec.codec g.U.Units.answer) l.bearers (state_of (g.U.Units.records l.fn.run_state.units) l.fn.run_state.core l.fn.run_state.network))
+      l.lines (bearer_turns (unit_world g.C.MessageCodec.codec g.U.Units.answer) (drop l.ue-index l.bearers) (state_of (g.U.Units.records l.run_state.units) l.run_state.core l.run_state.network));
 }

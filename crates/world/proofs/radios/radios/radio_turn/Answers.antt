@@ -1,7 +1,7 @@
 use Rattle.std.proofs.Common.{ℕ, ◌+◌, ◌*◌, true, false, subst}
 use Rattle.run_defs.specs.Settling.{turn_times}
 use Rattle.run_defs.specs.UnitRuns.{unit_world}
-use Rattle.run_links.specs.Grounds.{state_of}
+use Rattle.run_links.specs.Networks.{state_of}
 use Rattle.world.specs.radios.RadioTurns.{turned}
 use Rattle.world_steps.specs.Gives.{EventGives}
 use Rattle.world.proofs.radios.radios.radio_turn.Goals as goal
@@ -11,8 +11,8 @@ unfolding turned
 returns-clause-gives g c =
     let world = unit_world g.C.MessageCodec.codec g.U.Units.answer in
     let records = g.U.Units.records in
-    let s = state_of (records c.args.parts.now.units) c.args.parts.now.core c.args.parts.now.ground in
-    let t = state_of (records c.turn_times.new.parts.units) c.turn_times.new.parts.core c.turn_times.new.parts.ground in
+    let s = state_of (records c.args.run_state.now.units) c.args.run_state.now.core c.args.run_state.now.network in
+    let t = state_of (records c.turn_times.new.run_state.units) c.turn_times.new.run_state.core c.turn_times.new.run_state.network in
     subst (λ (n : ℕ). EventGives c.args.lines.now
     (turn_times world (6 * (n + 4096) + 2) (record { key = c.args.key; airs = n + 4096; acks = n + 4096; airing = true; moved = false }) s)
     c.turn_times.new.lines t c.turn_times.result) c.length.ensures

@@ -11,8 +11,8 @@ use Rattle.world.proofs.turns.attached.attached_bearers.Goals as goal
 pub returns : goal.returns
 returns c units core =
     let l = c.loop-ue in
-    let gone = c.args.ground.now.gone in
+    let gone = c.args.network.now.gone in
     let none : l.ue-iterator ≡ [] = grind (arith, common_steps) in
     sym (append-nil l.bearers)
     ∙ ap (λ (es : List (UeId × Plan)). l.bearers ++ flat_map (λ e. bearers_there gone e.0 e.1.bearers) es) (sym none) ∙ l.invariant
-    ∙ bearers_are gone c.args.ground.now.plans
+    ∙ bearers_are gone c.args.network.now.plans

@@ -5,5 +5,5 @@ use Rattle.world.proofs.turns.attached.attached_bearers.Given as goal
 
 abbrev pub invariant-loop-ue : goal.invariant-loop-ue
 invariant-loop-ue l =
-    l.bearers ++ flat_map (λ e. bearers_there l.ground.gone e.0 e.1.bearers) l.ue-iterator
-    ≡ flat_map (λ e. bearers_there l.ground.gone e.0 e.1.bearers) l.ground.plans
+    l.bearers ++ flat_map (λ e. bearers_there l.network.gone e.0 e.1.bearers) l.ue-iterator
+    ≡ flat_map (λ e. bearers_there l.network.gone e.0 e.1.bearers) l.network.plans

@@ -11,8 +11,8 @@ use Rattle.world.proofs.turns.attached.attached_terminals.Goals as goal
 pub returns : goal.returns
 returns c units core =
     let l = c.loop-ue in
-    let gone = c.args.ground.now.gone in
+    let gone = c.args.network.now.gone in
     let none : l.ue-iterator ≡ [] = grind (arith, common_steps) in
     sym (append-nil l.terminals)
     ∙ ap (λ (es : List (UeId × Plan)). l.terminals ++ flat_map (λ e. terminals_there gone e.0) es) (sym none) ∙ l.invariant
-    ∙ terminals_are gone c.args.ground.now.plans
+    ∙ terminals_are gone c.args.network.now.plans

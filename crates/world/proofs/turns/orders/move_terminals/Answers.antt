@@ -6,7 +6,7 @@ use Rattle.run_defs.specs.Conditions.{state_at}
 use Rattle.run_defs.specs.Settling.{move_by}
 use Rattle.world.specs.turns.Turns.{move_terminals}
 use Rattle.run_defs.specs.UnitRuns.{unit_world}
-use Rattle.run_links.specs.Grounds.{OctetState, state_of}
+use Rattle.run_links.specs.Networks.{OctetState, state_of}
 use Rattle.world.proofs.turns.Lists.{drop_one}
 use Rattle.world.proofs.turns.Turned.{each_goes, each_stops, each_ends}
 use Rattle.world.proofs.turns.orders.move_terminals.Goals as goal
@@ -17,8 +17,8 @@ loop-ue-preserved g c =
     let records = g.U.Units.records in
     let l = c.loop-ue in
     let xs = c.args.terminals.now in
-    let s = state_of (records l.parts.units) l.parts.core l.parts.ground in
-    let t = state_of (records c.move_one.new.parts.units) c.move_one.new.parts.core c.move_one.new.parts.ground in
+    let s = state_of (records l.run_state.units) l.run_state.core l.run_state.network in
+    let t = state_of (records c.move_one.new.run_state.units) c.move_one.new.run_state.core c.move_one.new.run_state.network in
     record {
       ready = c.in-Ok.ensures.ready;
       rest = λ u lines result k.
@@ -34,8 +34,8 @@ returns-in-Err-clause-gives g c =
     let records = g.U.Units.records in
     let l = c.loop-ue in
     let xs = c.args.terminals.now in
-    let s = state_of (records l.parts.units) l.parts.core l.parts.ground in
-    let t = state_of (records c.move_one.new.parts.units) c.move_one.new.parts.core c.move_one.new.parts.ground in
+    let s = state_of (records l.run_state.units) l.run_state.core l.run_state.network in
+    let t = state_of (records c.move_one.new.run_state.units) c.move_one.new.run_state.core c.move_one.new.run_state.network in
     l.invariant.rest t c.move_one.new.lines (Err c.in-Err.cause)
     (each_stops (λ (ue : UeId) (x : OctetState). move_by world ue x (state_at x ue)) (move_terminals world) (λ (x : OctetState). refl)
     (λ (y : UeId) (ys : List (UeId)) (x : OctetState). refl) _ (drop (l.ue-index + 1) xs) (drop l.ue-index xs) s t l.lines c.move_one.new.lines
@@ -46,7 +46,7 @@ returns-clause-gives g c =
     let world = unit_world g.C.MessageCodec.codec g.U.Units.answer in
     let l = c.loop-ue in
     let xs = c.args.terminals.now in
-    let s = state_of (g.U.Units.records l.parts.units) l.parts.core l.parts.ground in
+    let s = state_of (g.U.Units.records l.run_state.units) l.run_state.core l.run_state.network in
     l.invariant.rest s l.lines (Ok tt)
     (each_ends (λ (ue : UeId) (x : OctetState). move_by world ue x (state_at x ue)) (move_terminals world) (λ (x : OctetState). refl)
     (λ (y : UeId) (ys : List (UeId)) (x : OctetState). refl) (drop l.ue-index xs) s l.lines (drop_all l.ue-index xs c.loop-ue-test.false))

@@ -6,7 +6,7 @@ use Rattle.gnb_types.specs.declared.names.BearerId.{BearerId}
 use Rattle.run_defs.specs.Conditions.{serving_place}
 use Rattle.run_defs.specs.Settling.{poll_at, poll_each}
 use Rattle.run_defs.specs.UnitRuns.{unit_world}
-use Rattle.run_links.specs.Grounds.{OctetState, state_of}
+use Rattle.run_links.specs.Networks.{OctetState, state_of}
 use Rattle.world.proofs.turns.Lists.{drop_one}
 use Rattle.world.proofs.turns.Turned.{each_goes, each_stops, each_ends}
 use Rattle.world.proofs.turns.orders.poll_bearers.Goals as goal
@@ -17,8 +17,8 @@ loop-bearer-preserved g c =
     let records = g.U.Units.records in
     let l = c.loop-bearer in
     let xs = c.args.bearers.now in
-    let s = state_of (records l.parts.units) l.parts.core l.parts.ground in
-    let t = state_of (records c.poll_one.new.parts.units) c.poll_one.new.parts.core c.poll_one.new.parts.ground in
+    let s = state_of (records l.run_state.units) l.run_state.core l.run_state.network in
+    let t = state_of (records c.poll_one.new.run_state.units) c.poll_one.new.run_state.core c.poll_one.new.run_state.network in
     record {
       ready = c.in-Ok.ensures.ready;
       rest = λ u lines result k.
@@ -34,8 +34,8 @@ returns-in-Err-clause-gives g c =
     let records = g.U.Units.records in
     let l = c.loop-bearer in
     let xs = c.args.bearers.now in
-    let s = state_of (records l.parts.units) l.parts.core l.parts.ground in
-    let t = state_of (records c.poll_one.new.parts.units) c.poll_one.new.parts.core c.poll_one.new.parts.ground in
+    let s = state_of (records l.run_state.units) l.run_state.core l.run_state.network in
+    let t = state_of (records c.poll_one.new.run_state.units) c.poll_one.new.run_state.core c.poll_one.new.run_state.network in
     l.invariant.rest t c.poll_one.new.lines (Err c.in-Err.cause)
     (each_stops (λ (e : UeId × BearerId) (x : OctetState). poll_at world e x (serving_place x e.0)) (poll_each world) (λ (x : OctetState). refl)
     (λ (y : UeId × BearerId) (ys : List (UeId × BearerId)) (x : OctetState). refl) _ (drop (l.bearer-index + 1) xs) (drop l.bearer-index xs) s t l.lines c.poll_one.new.lines
@@ -46,7 +46,7 @@ returns-clause-gives g c =
     let world = unit_world g.C.MessageCodec.codec g.U.Units.answer in
     let l = c.loop-bearer in
     let xs = c.args.bearers.now in
-    let s = state_of (g.U.Units.records l.parts.units) l.parts.core l.parts.ground in
+    let s = state_of (g.U.Units.records l.run_state.units) l.run_state.core l.run_state.network in
     l.invariant.rest s l.lines (Ok tt)
     (each_ends (λ (e : UeId × BearerId) (x : OctetState). poll_at world e x (serving_place x e.0)) (poll_each world) (λ (x : OctetState). refl)
     (λ (y : UeId × BearerId) (ys : List (UeId × BearerId)) (x : OctetState). refl) (drop l.bearer-index xs) s l.lines (drop_all l.bearer-index xs c.loop-bearer-test.false))

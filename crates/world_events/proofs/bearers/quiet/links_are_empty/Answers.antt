@@ -7,8 +7,8 @@ use Rattle.world_events.proofs.bearers.quiet.links_are_empty.Goals as goal
 
 pub returns-then-stands_nowhere : goal.returns-then-stands_nowhere
 returns-then-stands_nowhere c = λ units core.
-    let tunnels = c.args.ground.now.tunnels.tunnels in
-    let radios = c.args.ground.now.radios.radios in
+    let tunnels = c.args.network.now.tunnels.tunnels in
+    let radios = c.args.network.now.radios.radios in
     let up = entity c.args.ue c.args.bearer Ul in
     c.stands_nowhere-then-stands_nowhere.ensures
     ∙ ap (λ (b : Bool). b && (length (tunnel_items up tunnels) == 0 && length (radio_items up radios) == 0))
@@ -17,8 +17,8 @@ returns-then-stands_nowhere c = λ units core.
 
 pub returns-else-stands_nowhere : goal.returns-else-stands_nowhere
 returns-else-stands_nowhere c = λ units core.
-    let tunnels = c.args.ground.now.tunnels.tunnels in
-    let radios = c.args.ground.now.radios.radios in
+    let tunnels = c.args.network.now.tunnels.tunnels in
+    let radios = c.args.network.now.radios.radios in
     let up = entity c.args.ue c.args.bearer Ul in
     c.if-stands_nowhere.false
     ∙ ap (λ (b : Bool). b && (length (tunnel_items up tunnels) == 0 && length (radio_items up radios) == 0))

@@ -10,8 +10,8 @@ use Rattle.run_defs.specs.States.{confirmed_for}
 use Rattle.run_defs.specs.Steps.{does}
 use Rattle.run_defs.specs.Events.{confirmed_off, confirm_done}
 use Rattle.run_defs.specs.UnitRuns.{input_of, stepped_by, unit_world}
-use Rattle.run_links.specs.declared.ground.Ground.{Ground}
-use Rattle.run_links.specs.Grounds.{Octets, OctetState, state_of}
+use Rattle.run_links.specs.declared.network.Network.{Network}
+use Rattle.run_links.specs.Networks.{Octets, OctetState, state_of}
 use Rattle.run_links.specs.Told.{GoesTo}
 use Rattle.world_steps.specs.declared.asked.Asked.{Asked}
 use Rattle.world_steps.specs.declared.asked.Asked.TheVariants as kinds
@@ -19,7 +19,7 @@ use Rattle.world_steps.specs.declared.asked.Moved.{Moved}
 use Rattle.world_steps.specs.declared.asked.Moved.TheVariants as moves
 use Rattle.world_steps.specs.declared.cause.Cause.{Cause}
 use Rattle.world_steps.specs.Asks.{ComesOf}
-use Rattle.world_steps.specs.Moves.{DoneGives}
+use Rattle.world_steps.specs.Moves.{StepOutcome}
 use Rattle.world_steps.proofs.Does.{does_step, does_hold, does_refuse, does_fail}
 use Rattle.world_steps.proofs.packets.Aired.{Carried, carried_is}
 use Rattle.world_steps.proofs.packets.radio.ack_item.Goals as goal
@@ -30,20 +30,20 @@ returns-in-Err-clause-gives g c item rest is some =
     let answer = g.U.Units.answer in
     let world = unit_world codec answer in
     let records = g.U.Units.records in
-    let s = state_of (records c.args.parts.now.units) c.args.parts.now.core c.args.parts.now.ground in
+    let s = state_of (records c.args.run_state.now.units) c.args.run_state.now.core c.args.run_state.now.network in
     let after = records c.ask.new.self.units in
     let shown = c.in-Some.item.now in
     let node = c.sender_of-sender.result in
-    let one : Carried (at entity_cmp silent c.args.parts.now.ground.radios.radios c.args.key) shown =
-    carried_is (at entity_cmp silent c.args.parts.now.ground.radios.radios c.args.key) shown c.in-Some.ensures in
+    let one : Carried (at entity_cmp silent c.args.run_state.now.network.radios.radios c.args.key) shown =
+    carried_is (at entity_cmp silent c.args.run_state.now.network.radios.radios c.args.key) shown c.in-Some.ensures in
     let same : shown ≡ item = cc (one.items, is) in
     let given = confirmed_for shown in
     let came : ComesOf (record { world = world; state = s; node = node; stepped = stepped_by (answer s.units node (input_of given)) }) after (Err c.in-Err.cause) =
     subst (λ (i : Input). ComesOf (record { world = world; state = s; node = node; stepped = stepped_by (answer s.units node (i)) }) after (Err c.in-Err.cause)) c.in_ok-confirm_input-in-Some.ensures
     (c.in-Err.ensures.came) in
-    let new = state_of after c.ask.new.self.core c.ask.new.self.ground in
-    subst (λ (x : Item Octets). DoneGives (confirm_done world c.args.key c.args.home x rest s) (record { state = s; lines = c.args.lines.now }) (record { state = new; lines = c.args.lines.now }) (Err c.in-Err.cause)) same
-    (subst (λ (n : NodeId). DoneGives (does world n given shown.count (confirmed_off world c.args.key rest) s) (record { state = s; lines = c.args.lines.now }) (record { state = new; lines = c.args.lines.now }) (Err c.in-Err.cause)) c.sender_of-sender.ensures
+    let new = state_of after c.ask.new.self.core c.ask.new.self.network in
+    subst (λ (x : Item Octets). StepOutcome (confirm_done world c.args.key c.args.home x rest s) (record { state = s; lines = c.args.lines.now }) (record { state = new; lines = c.args.lines.now }) (Err c.in-Err.cause)) same
+    (subst (λ (n : NodeId). StepOutcome (does world n given shown.count (confirmed_off world c.args.key rest) s) (record { state = s; lines = c.args.lines.now }) (record { state = new; lines = c.args.lines.now }) (Err c.in-Err.cause)) c.sender_of-sender.ensures
     (does_fail codec answer s node given shown.count (confirmed_off world c.args.key rest) after new c.args.lines.now c.in-Err.cause came))
 
 pub returns-in-Does-clause-gives : goal.returns-in-Does-clause-gives
@@ -52,29 +52,29 @@ returns-in-Does-clause-gives g c item rest is some =
     let answer = g.U.Units.answer in
     let world = unit_world codec answer in
     let records = g.U.Units.records in
-    let s = state_of (records c.args.parts.now.units) c.args.parts.now.core c.args.parts.now.ground in
+    let s = state_of (records c.args.run_state.now.units) c.args.run_state.now.core c.args.run_state.now.network in
     let after = records c.ask.new.self.units in
     let shown = c.in-Some.item.now in
     let node = c.sender_of-sender.result in
-    let one : Carried (at entity_cmp silent c.args.parts.now.ground.radios.radios c.args.key) shown =
-    carried_is (at entity_cmp silent c.args.parts.now.ground.radios.radios c.args.key) shown c.in-Some.ensures in
+    let one : Carried (at entity_cmp silent c.args.run_state.now.network.radios.radios c.args.key) shown =
+    carried_is (at entity_cmp silent c.args.run_state.now.network.radios.radios c.args.key) shown c.in-Some.ensures in
     let same : shown ≡ item = cc (one.items, is) in
     let given = confirmed_for shown in
     let came : ComesOf (record { world = world; state = s; node = node; stepped = stepped_by (answer s.units node (input_of given)) }) after (Ok (kinds.Does c.in-Does.outputs)) =
     subst (λ (i : Input). ComesOf (record { world = world; state = s; node = node; stepped = stepped_by (answer s.units node (i)) }) after (Ok (kinds.Does c.in-Does.outputs))) c.in_ok-confirm_input-in-Some.ensures
     (subst (λ (a : Asked). ComesOf (record { world = world; state = s; node = node; stepped = stepped_by (answer s.units node (c.in_ok-confirm_input-in-Some.field-0)) }) after (Ok a)) c.in-Does.is c.in-Ok.ensures.came) in
-    let kept : record s { units = after } ≡ state_of after c.ask.new.self.core c.ask.new.self.ground = cc (c.ask.ensures.core, c.ask.ensures.ground) in
-    let stands : (at entity_cmp silent c.ask.new.self.ground.radios.radios c.args.key).items ≡ item ∷ rest =
-    subst (λ (x : Ground). (at entity_cmp silent x.radios.radios c.args.key).items ≡ item ∷ rest) (sym c.ask.ensures.ground) is in
-    let few : ((at entity_cmp silent c.ask.new.self.ground.radios.radios c.args.key).carried == 0) ≡ false =
-    subst (λ (x : Ground). ((at entity_cmp silent x.radios.radios c.args.key).carried == 0) ≡ false) (sym c.ask.ensures.ground) some in
+    let kept : record s { units = after } ≡ state_of after c.ask.new.self.core c.ask.new.self.network = cc (c.ask.ensures.core, c.ask.ensures.network) in
+    let stands : (at entity_cmp silent c.ask.new.self.network.radios.radios c.args.key).items ≡ item ∷ rest =
+    subst (λ (x : Network). (at entity_cmp silent x.radios.radios c.args.key).items ≡ item ∷ rest) (sym c.ask.ensures.network) is in
+    let few : ((at entity_cmp silent c.ask.new.self.network.radios.radios c.args.key).carried == 0) ≡ false =
+    subst (λ (x : Network). ((at entity_cmp silent x.radios.radios c.args.key).carried == 0) ≡ false) (sym c.ask.ensures.network) some in
     let t = state_of after c.ask.new.self.core c.confirm_off.new.self in
-    let u = state_of (records c.finish.new.self.units) c.finish.new.self.core c.finish.new.self.ground in
+    let u = state_of (records c.finish.new.self.units) c.finish.new.self.core c.finish.new.self.network in
     let takes : GoesTo c.args.lines.now (confirmed_off world c.args.key rest (record s { units = after })) c.args.lines.now t =
     subst (λ (x : OctetState). GoesTo c.args.lines.now (confirmed_off world c.args.key rest x) c.args.lines.now t) (sym kept) (c.confirm_off.ensures.told item rest c.args.lines.now stands few codec answer after c.ask.new.self.core) in
-    subst (λ (x : Item Octets). DoneGives (confirm_done world c.args.key c.args.home x rest s) (record { state = s; lines = c.args.lines.now }) (record { state = u; lines = c.finish.new.lines }) (c.moved_by.result)) same
-    (subst (λ (n : NodeId). DoneGives (does world n given shown.count (confirmed_off world c.args.key rest) s) (record { state = s; lines = c.args.lines.now }) (record { state = u; lines = c.finish.new.lines }) (c.moved_by.result)) c.sender_of-sender.ensures
-    (subst (λ (r : Result Moved Cause). DoneGives (does world node given shown.count (confirmed_off world c.args.key rest) s) (record { state = s; lines = c.args.lines.now })
+    subst (λ (x : Item Octets). StepOutcome (confirm_done world c.args.key c.args.home x rest s) (record { state = s; lines = c.args.lines.now }) (record { state = u; lines = c.finish.new.lines }) (c.moved_by.result)) same
+    (subst (λ (n : NodeId). StepOutcome (does world n given shown.count (confirmed_off world c.args.key rest) s) (record { state = s; lines = c.args.lines.now }) (record { state = u; lines = c.finish.new.lines }) (c.moved_by.result)) c.sender_of-sender.ensures
+    (subst (λ (r : Result Moved Cause). StepOutcome (does world node given shown.count (confirmed_off world c.args.key rest) s) (record { state = s; lines = c.args.lines.now })
     (record { state = u; lines = c.finish.new.lines }) r) (sym c.moved_by.ensures)
     (does_step codec answer s node given shown.count (confirmed_off world c.args.key rest) c.in-Does.outputs after t u c.args.lines.now c.args.lines.now c.finish.new.lines
     c.finish.result came takes c.finish.ensures.gives)))
@@ -85,22 +85,22 @@ returns-in-Holds-clause-gives g c item rest is some =
     let answer = g.U.Units.answer in
     let world = unit_world codec answer in
     let records = g.U.Units.records in
-    let s = state_of (records c.args.parts.now.units) c.args.parts.now.core c.args.parts.now.ground in
+    let s = state_of (records c.args.run_state.now.units) c.args.run_state.now.core c.args.run_state.now.network in
     let after = records c.ask.new.self.units in
     let shown = c.in-Some.item.now in
     let node = c.sender_of-sender.result in
-    let one : Carried (at entity_cmp silent c.args.parts.now.ground.radios.radios c.args.key) shown =
-    carried_is (at entity_cmp silent c.args.parts.now.ground.radios.radios c.args.key) shown c.in-Some.ensures in
+    let one : Carried (at entity_cmp silent c.args.run_state.now.network.radios.radios c.args.key) shown =
+    carried_is (at entity_cmp silent c.args.run_state.now.network.radios.radios c.args.key) shown c.in-Some.ensures in
     let same : shown ≡ item = cc (one.items, is) in
     let given = confirmed_for shown in
     let came : ComesOf (record { world = world; state = s; node = node; stepped = stepped_by (answer s.units node (input_of given)) }) after (Ok (kinds.Holds c.in-Holds.reason)) =
     subst (λ (i : Input). ComesOf (record { world = world; state = s; node = node; stepped = stepped_by (answer s.units node (i)) }) after (Ok (kinds.Holds c.in-Holds.reason))) c.in_ok-confirm_input-in-Some.ensures
     (subst (λ (a : Asked). ComesOf (record { world = world; state = s; node = node; stepped = stepped_by (answer s.units node (c.in_ok-confirm_input-in-Some.field-0)) }) after (Ok a)) c.in-Holds.is c.in-Ok.ensures.came) in
-    let kept : record s { units = after } ≡ state_of after c.ask.new.self.core c.ask.new.self.ground = cc (c.ask.ensures.core, c.ask.ensures.ground) in
-    let new = state_of after c.ask.new.self.core c.ask.new.self.ground in
-    subst (λ (x : Item Octets). DoneGives (confirm_done world c.args.key c.args.home x rest s) (record { state = s; lines = c.args.lines.now }) (record { state = new; lines = c.args.lines.now }) (Ok (moves.Holds c.in-Holds.reason))) same
-    (subst (λ (n : NodeId). DoneGives (does world n given shown.count (confirmed_off world c.args.key rest) s) (record { state = s; lines = c.args.lines.now }) (record { state = new; lines = c.args.lines.now }) (Ok (moves.Holds c.in-Holds.reason))) c.sender_of-sender.ensures
-    (subst (λ (x : OctetState). DoneGives (does world node given shown.count (confirmed_off world c.args.key rest) s) (record { state = s; lines = c.args.lines.now })
+    let kept : record s { units = after } ≡ state_of after c.ask.new.self.core c.ask.new.self.network = cc (c.ask.ensures.core, c.ask.ensures.network) in
+    let new = state_of after c.ask.new.self.core c.ask.new.self.network in
+    subst (λ (x : Item Octets). StepOutcome (confirm_done world c.args.key c.args.home x rest s) (record { state = s; lines = c.args.lines.now }) (record { state = new; lines = c.args.lines.now }) (Ok (moves.Holds c.in-Holds.reason))) same
+    (subst (λ (n : NodeId). StepOutcome (does world n given shown.count (confirmed_off world c.args.key rest) s) (record { state = s; lines = c.args.lines.now }) (record { state = new; lines = c.args.lines.now }) (Ok (moves.Holds c.in-Holds.reason))) c.sender_of-sender.ensures
+    (subst (λ (x : OctetState). StepOutcome (does world node given shown.count (confirmed_off world c.args.key rest) s) (record { state = s; lines = c.args.lines.now })
     (record { state = x; lines = c.args.lines.now }) (Ok (moves.Holds c.in-Holds.reason))) kept
     (does_hold codec answer s node given shown.count (confirmed_off world c.args.key rest) after c.in-Holds.reason c.args.lines.now came)))
 
@@ -110,21 +110,21 @@ returns-in-Refuses-clause-gives g c item rest is some =
     let answer = g.U.Units.answer in
     let world = unit_world codec answer in
     let records = g.U.Units.records in
-    let s = state_of (records c.args.parts.now.units) c.args.parts.now.core c.args.parts.now.ground in
+    let s = state_of (records c.args.run_state.now.units) c.args.run_state.now.core c.args.run_state.now.network in
     let after = records c.ask.new.self.units in
     let shown = c.in-Some.item.now in
     let node = c.sender_of-sender.result in
-    let one : Carried (at entity_cmp silent c.args.parts.now.ground.radios.radios c.args.key) shown =
-    carried_is (at entity_cmp silent c.args.parts.now.ground.radios.radios c.args.key) shown c.in-Some.ensures in
+    let one : Carried (at entity_cmp silent c.args.run_state.now.network.radios.radios c.args.key) shown =
+    carried_is (at entity_cmp silent c.args.run_state.now.network.radios.radios c.args.key) shown c.in-Some.ensures in
     let same : shown ≡ item = cc (one.items, is) in
     let given = confirmed_for shown in
     let came : ComesOf (record { world = world; state = s; node = node; stepped = stepped_by (answer s.units node (input_of given)) }) after (Ok (kinds.Refuses c.in-Refuses.reason)) =
     subst (λ (i : Input). ComesOf (record { world = world; state = s; node = node; stepped = stepped_by (answer s.units node (i)) }) after (Ok (kinds.Refuses c.in-Refuses.reason))) c.in_ok-confirm_input-in-Some.ensures
     (subst (λ (a : Asked). ComesOf (record { world = world; state = s; node = node; stepped = stepped_by (answer s.units node (c.in_ok-confirm_input-in-Some.field-0)) }) after (Ok a)) c.in-Refuses.is c.in-Ok.ensures.came) in
-    let kept : record s { units = after } ≡ state_of after c.ask.new.self.core c.ask.new.self.ground = cc (c.ask.ensures.core, c.ask.ensures.ground) in
-    let new = state_of after c.ask.new.self.core c.ask.new.self.ground in
-    subst (λ (x : Item Octets). DoneGives (confirm_done world c.args.key c.args.home x rest s) (record { state = s; lines = c.args.lines.now }) (record { state = new; lines = c.args.lines.now }) (Ok (moves.Refuses c.in-Refuses.reason))) same
-    (subst (λ (n : NodeId). DoneGives (does world n given shown.count (confirmed_off world c.args.key rest) s) (record { state = s; lines = c.args.lines.now }) (record { state = new; lines = c.args.lines.now }) (Ok (moves.Refuses c.in-Refuses.reason))) c.sender_of-sender.ensures
-    (subst (λ (x : OctetState). DoneGives (does world node given shown.count (confirmed_off world c.args.key rest) s) (record { state = s; lines = c.args.lines.now })
+    let kept : record s { units = after } ≡ state_of after c.ask.new.self.core c.ask.new.self.network = cc (c.ask.ensures.core, c.ask.ensures.network) in
+    let new = state_of after c.ask.new.self.core c.ask.new.self.network in
+    subst (λ (x : Item Octets). StepOutcome (confirm_done world c.args.key c.args.home x rest s) (record { state = s; lines = c.args.lines.now }) (record { state = new; lines = c.args.lines.now }) (Ok (moves.Refuses c.in-Refuses.reason))) same
+    (subst (λ (n : NodeId). StepOutcome (does world n given shown.count (confirmed_off world c.args.key rest) s) (record { state = s; lines = c.args.lines.now }) (record { state = new; lines = c.args.lines.now }) (Ok (moves.Refuses c.in-Refuses.reason))) c.sender_of-sender.ensures
+    (subst (λ (x : OctetState). StepOutcome (does world node given shown.count (confirmed_off world c.args.key rest) s) (record { state = s; lines = c.args.lines.now })
     (record { state = x; lines = c.args.lines.now }) (Ok (moves.Refuses c.in-Refuses.reason))) kept
     (does_refuse codec answer s node given shown.count (confirmed_off world c.args.key rest) after c.in-Refuses.reason c.args.lines.now came)))

@@ -1,5 +1,5 @@
 use Rattle.std.proofs.Common.{◌≡◌, length}
-use Rattle.unit_defs.specs.UpRecords.{UpBearer}
+use Rattle.unit_defs.specs.CuUpRecords.{CuUpBearer}
 use Rattle.unit_defs.specs.octet_defs.Codec.{Codec}
 use Rattle.unit_messages.specs.steps.Steps.{step_after}
 use Rattle.cu_up_bearer.specs.downlink.Downlinks.{IsDown}
@@ -9,7 +9,7 @@ use Rattle.cu_up_bearer.proofs.downlink.down.DownSide.number_each.Given as goal
 -- what was put out, and what is numbered from here on, is all
 abbrev pub invariant-loop-count : goal.invariant-loop-count
 invariant-loop-count l = record {
-  all : (codec : Codec) (b : UpBearer) → step_after l.out (rest codec l.at b l.self) ≡ step_after l.initial.out (rest codec l.at b l.initial.self);
+  all : (codec : Codec) (b : CuUpBearer) → step_after l.out (rest codec l.at b l.self) ≡ step_after l.initial.out (rest codec l.at b l.initial.self);
   of : IsDown l.at l.self;
 }
 

@@ -1,13 +1,13 @@
 use Rattle.std.proofs.Common.{◌≡◌, ℕ, ◌+◌, List, sym, ap, ◌∙◌}
 use Rattle.gnb_types.specs.declared.outputs.Output.{Output}
 use Rattle.gnb_types.specs.declared.outputs.Tag.TheVariants.{Own}
-use Rattle.unit_defs.specs.UpRecords.{UpBearer}
-use Rattle.unit_defs.specs.UpBearers.{sent, sent_again}
+use Rattle.unit_defs.specs.CuUpRecords.{CuUpBearer}
+use Rattle.unit_defs.specs.CuUpBearers.{sent, sent_again}
 use Rattle.unit_defs.specs.octet_defs.Codec.{octet_way}
 use Rattle.unit_defs.specs.octet_defs.Units.{OctetAnswer}
 use Rattle.unit_messages.specs.steps.Steps.{step_after}
 use Rattle.unit_messages.proofs.steps.StepLaws.{step_then}
-use Rattle.pdcp_bearers.specs.ue_bearers.Uplinks.{from_on}
+use Rattle.pdcp_bearers.specs.ue_bearers.Senders.{from_on}
 use Rattle.cu_up_bearer.specs.tunnels.Tunnels.{at_as}
 use Rattle.cu_up_bearer.specs.declared.downlink.down.DownSide.{DownSide}
 use Rattle.cu_up_bearer.specs.downlink.Downlinks.{with_down, taken_of}
@@ -27,7 +27,7 @@ returns-in_err-send-clause-step c = λ codec b.
     (ap (λ (xs : List (ℕ × List ℕ)). step_after c.args.out.now (again codec c.args.at.now (with_down b c.args.self.now) (taken_of c.args.counts.now xs)))
     (sym (all_from c.args.self.now.sending.sender.unconfirmed))
     ∙ sym (l.invariant.all codec b)
-    ∙ ap (λ (x : OctetAnswer UpBearer). step_after l.out x) (these_one codec c.args.at.now now c.args.counts.now (from_on l.from es) (from_on (c.in-Some.count + 1) es) c.in-Some.count c.in-Some.packet.now c.in-Some.ensures.0 (sym c.contains.ensures.value ∙ c.if-contains.true)))
+    ∙ ap (λ (x : OctetAnswer CuUpBearer). step_after l.out x) (these_one codec c.args.at.now now c.args.counts.now (from_on l.from es) (from_on (c.in-Some.count + 1) es) c.in-Some.count c.in-Some.packet.now c.in-Some.ensures.0 (sym c.contains.ensures.value ∙ c.if-contains.true)))
     (ends_with (Unit {0}) (Unit {0}) l.out (sent (octet_way codec) (at_as c.args.at.now) c.in-Some.count c.in-Some.packet.now (Own c.in-Some.count) now)
     (sent_again (octet_way codec) (at_as c.args.at.now) rest) c.send.new.out (with_down b (side l.self.sending c.send.new.self)) c.in_err-send.field-0.0
     (c.in_err-send.ensures codec now) _ _ _ c.from_residual.ensures.1)
@@ -45,7 +45,7 @@ loop-count-preserved c =
             let at_now = λ (os : List Output) (d : DownSide). step_after os (again codec c.args.at.now (with_down b d) (taken_of counts (from_on (c.in-Some.count + 1) d.sending.sender.unconfirmed))) in
             ap (λ (os : List Output). at_now os c.if-contains.self) w.out-is
             ∙ ap (λ (d : DownSide). at_now w.send.new.out d) w.self-is
-            ∙ sym (ap (λ (x : OctetAnswer UpBearer). step_after l.out x)
+            ∙ sym (ap (λ (x : OctetAnswer CuUpBearer). step_after l.out x)
             (these_one codec c.args.at.now now counts (from_on l.from es) more c.in-Some.count c.in-Some.packet.now c.in-Some.ensures.0
             (sym c.contains.ensures.value ∙ w.if-contains.true))
             ∙ step_then l.out w.send.new.out (sent (octet_way codec) (at_as c.args.at.now) c.in-Some.count c.in-Some.packet.now (Own c.in-Some.count) now)
@@ -59,7 +59,7 @@ loop-count-preserved c =
             let at_now = λ (os : List Output) (d : DownSide). step_after os (again codec c.args.at.now (with_down b d) (taken_of counts (from_on (c.in-Some.count + 1) d.sending.sender.unconfirmed))) in
             ap (λ (os : List Output). at_now os c.if-contains.self) w.out-is
             ∙ ap (λ (d : DownSide). at_now l.out d) w.self-is
-            ∙ sym (ap (λ (x : OctetAnswer UpBearer). step_after l.out x)
+            ∙ sym (ap (λ (x : OctetAnswer CuUpBearer). step_after l.out x)
             (these_skip codec c.args.at.now now counts (from_on l.from es) more c.in-Some.count c.in-Some.packet.now c.in-Some.ensures.0
             (sym c.contains.ensures.value ∙ w.if-contains.false)))
             ∙ l.invariant.all codec b;
@@ -74,5 +74,5 @@ returns-clause-step c = λ codec b.
     ap (λ (xs : List (ℕ × List ℕ)). step_after c.args.out.now (again codec c.args.at.now (with_down b c.args.self.now) (taken_of c.args.counts.now xs)))
     (sym (all_from c.args.self.now.sending.sender.unconfirmed))
     ∙ sym (l.invariant.all codec b)
-    ∙ ap (λ (x : OctetAnswer UpBearer). step_after l.out x) (again_none codec c.args.at.now (with_down b l.self) (taken_of c.args.counts.now (from_on l.from es)) (ap (λ (xs : List (ℕ × List ℕ)). taken_of c.args.counts.now xs) c.in_default.ensures))
+    ∙ ap (λ (x : OctetAnswer CuUpBearer). step_after l.out x) (again_none codec c.args.at.now (with_down b l.self) (taken_of c.args.counts.now (from_on l.from es)) (ap (λ (xs : List (ℕ × List ℕ)). taken_of c.args.counts.now xs) c.in_default.ensures))
     ∙ nothing_more l.out (with_down b l.self)

@@ -1,8 +1,8 @@
 use Rattle.std.proofs.Common.{◌≡◌, length}
-use Rattle.unit_defs.specs.UpRecords.{UpBearer}
+use Rattle.unit_defs.specs.CuUpRecords.{CuUpBearer}
 use Rattle.unit_defs.specs.octet_defs.Codec.{Codec}
 use Rattle.unit_messages.specs.steps.Steps.{step_after}
-use Rattle.pdcp_bearers.specs.ue_bearers.Uplinks.{from_on}
+use Rattle.pdcp_bearers.specs.ue_bearers.Senders.{from_on}
 use Rattle.cu_up_bearer.specs.downlink.Downlinks.{with_down, taken_of}
 use Rattle.cu_up_bearer.proofs.downlink.Resends.{again}
 use Rattle.cu_up_bearer.proofs.downlink.down.DownSide.send_these.Given as goal
@@ -10,7 +10,7 @@ use Rattle.cu_up_bearer.proofs.downlink.down.DownSide.send_these.Given as goal
 -- what was sent, and what is sent from this COUNT on, is all
 abbrev pub invariant-loop-count : goal.invariant-loop-count
 invariant-loop-count l = record {
-  all : (codec : Codec) (b : UpBearer) → step_after l.out (again codec l.at (with_down b l.self) (taken_of l.counts (from_on l.from l.self.sending.sender.unconfirmed)))
+  all : (codec : Codec) (b : CuUpBearer) → step_after l.out (again codec l.at (with_down b l.self) (taken_of l.counts (from_on l.from l.self.sending.sender.unconfirmed)))
       ≡ step_after l.initial.out (again codec l.at (with_down b l.initial.self) (taken_of l.counts (from_on 0 l.initial.self.sending.sender.unconfirmed)));
   sending : l.self.sending ≡ l.initial.self.sending;
 }

@@ -1,7 +1,7 @@
 use Rattle.std.proofs.Common.{◌≡◌, true, false, None, Some, ◌∙◌, refl}
 use Rattle.gnb_types.specs.declared.outputs.Tag.TheVariants.{Absent}
 use Rattle.pdcp.specs.Pdus.{radio_data}
-use Rattle.unit_defs.specs.UpBearers.{sent}
+use Rattle.unit_defs.specs.CuUpBearers.{sent}
 use Rattle.unit_defs.specs.octet_defs.Codec.{Codec, octet_way}
 use Rattle.cu_up_bearer.specs.tunnels.Tunnels.{at_as, with_frames}
 use Rattle.cu_up_bearer.proofs.tunnels.FrameSteps.{frames_nothing, frames_spend, frames_put, frames_fail, mark_ends, packet_is}

@@ -1,6 +1,6 @@
 use Rattle.std.proofs.Common.{◌≡◌, ◌≤◌, ℕ, length, List, sym, ap, ◌∙◌, subst, arith}
 use Rattle.std.specs.Global.{Vec}
-use Rattle.unit_defs.specs.UpRecords.{UpContext}
+use Rattle.unit_defs.specs.CuUpRecords.{CuUpContext}
 use Rattle.unit_defs.specs.CuUp.{uplinks_from}
 use Rattle.unit_defs.specs.octet_defs.Codec.{octet_way}
 use Rattle.unit_messages.specs.steps.Steps.{IsStep}
@@ -37,12 +37,12 @@ pub returns : goal.returns
 returns c = λ codec.
     let i = c.self.inside in
     let way = octet_way codec in
-    let whole : List Bearer → UpContext = λ bs. context_as i.instance i.sn i.quota i.flags bs in
+    let whole : List Bearer → CuUpContext = λ bs. context_as i.instance i.sn i.quota i.flags bs in
     let here = whole i.bearers.items in
     let ws = c.add_each-done.new.bearers in
     let size : length ws ≡ i.bearers.len = c.add_each-done.auto.bearers ∙ ap length c.as_mut_slice.ensures.value ∙ sym i.bearers.ok.0 in
     subst
-    (λ (x : UpContext). IsStep (context_after codec c.args.out.now x (uplinks_from way c.args.next x.bearers)) c.add_each-done.new.out
+    (λ (x : CuUpContext). IsStep (context_after codec c.args.out.now x (uplinks_from way c.args.next x.bearers)) c.add_each-done.new.out
     (whole c.forget_if.new.bearers.items) c.add_each-done.result)
     c.self.view_is
     (context_step codec c.args.out.now c.add_each-done.new.out here (whole c.forget_if.new.bearers.items) (uplinks_from way c.args.next here.bearers)

@@ -1,7 +1,7 @@
 use Rattle.std.proofs.Common.{◌≡◌, length, List, sym, ap, ◌∙◌, subst}
 use Rattle.std.specs.Global.{Vec}
 use Rattle.gnb_types.specs.declared.names.BearerId.{BearerId}
-use Rattle.unit_defs.specs.UpRecords.{UpBearer, UpContext, up_at}
+use Rattle.unit_defs.specs.CuUpRecords.{CuUpBearer, CuUpContext, cu_up_scope}
 use Rattle.unit_defs.specs.CuUp.{each_bearer}
 use Rattle.unit_defs.specs.octet_defs.Codec.{octet_way}
 use Rattle.unit_defs.specs.octet_defs.Units.{OctetAnswer}
@@ -17,13 +17,13 @@ use Rattle.cu_up_contexts.proofs.bearer_context.context.Context.carry_out.Goals 
 pub returns : goal.returns
 returns c = λ codec.
     let i = c.self.inside in
-    let whole : List Bearer → UpContext = λ bs. context_as i.instance i.sn i.quota i.flags bs in
+    let whole : List Bearer → CuUpContext = λ bs. context_as i.instance i.sn i.quota i.flags bs in
     let here = whole i.bearers.items in
-    let row : UpContext → BearerId → UpBearer → OctetAnswer UpBearer = λ x id b. row_of codec c.args.order (up_at c.args.ue x id) b in
+    let row : CuUpContext → BearerId → CuUpBearer → OctetAnswer CuUpBearer = λ x id b. row_of codec c.args.order (cu_up_scope c.args.ue x id) b in
     let ws = c.each-done.new.bearers in
     let size : length ws ≡ i.bearers.len = c.each-done.auto.bearers ∙ ap length c.as_mut_slice.ensures.value ∙ sym i.bearers.ok.0 in
     subst
-    (λ (x : UpContext). IsStep (context_after codec c.args.out.now x (each_bearer (octet_way codec) (row x) x.bearers)) c.each-done.new.out
+    (λ (x : CuUpContext). IsStep (context_after codec c.args.out.now x (each_bearer (octet_way codec) (row x) x.bearers)) c.each-done.new.out
     (whole c.forget_if.new.bearers.items) c.each-done.result)
     c.self.view_is
     (context_step codec c.args.out.now c.each-done.new.out here (whole c.forget_if.new.bearers.items) (each_bearer (octet_way codec) (row here) here.bearers)

@@ -3,13 +3,13 @@ use Rattle.std.proofs.Math.ListN.{set, length-set}
 use Rattle.std.specs.Global.{Vec}
 use Rattle.gnb_types.specs.Orders.{bearer_cmp}
 use Rattle.tables.specs.Tables.{find}
-use Rattle.unit_defs.specs.UpRecords.{UpBearer, UpContext}
+use Rattle.unit_defs.specs.CuUpRecords.{CuUpBearer, CuUpContext}
 use Rattle.cu_up_bearer.specs.bearers.Bearers.{kept}
 use Rattle.cu_up_bearer.specs.declared.bearers.bearer.Bearer.{Bearer}
 use Rattle.cu_up_items.specs.items.Coming.{came}
 use Rattle.cu_up_contexts.specs.bearer_context.Bearers.{context_as}
 use Rattle.cu_up_contexts.specs.bearer_context.Contexts.{with_one, at_in}
-use Rattle.cu_up_contexts.specs.bearer_context.Items.{came_in, IsCameIn}
+use Rattle.cu_up_contexts.specs.bearer_context.Items.{came_in, IsReceivedIn}
 use Rattle.cu_up_contexts.proofs.bearer_context.Kept.{on_ok, sound_after, others_served}
 use Rattle.cu_up_contexts.proofs.bearer_context.Found.{found, not_found, with_there, with_back}
 use Rattle.cu_up_contexts.proofs.bearer_context.Polls.{came_step}
@@ -18,13 +18,13 @@ use Rattle.cu_up_contexts.proofs.bearer_context.context.Context.come.Goals as go
 pub returns-in_default : goal.returns-in_default
 returns-in_default c = λ codec lawful.
     let i = c.self.inside in
-    let here : UpContext = context_as i.instance i.sn i.quota i.flags i.bearers.items in
+    let here : CuUpContext = context_as i.instance i.sn i.quota i.flags i.bearers.items in
     subst
-    (λ (x : UpContext). IsCameIn (came_in codec c.args.ue x c.args.bearer c.args.kind c.args.teid c.args.octets.now (find bearer_cmp x.bearers c.args.bearer))
+    (λ (x : CuUpContext). IsReceivedIn (came_in codec c.args.ue x c.args.bearer c.args.kind c.args.teid c.args.octets.now (find bearer_cmp x.bearers c.args.bearer))
     c.args.bearer c.args.out.now c.push.new.self x x (Ok false))
     c.self.view_is
     (subst
-    (λ (o : Option UpBearer). IsCameIn (came_in codec c.args.ue here c.args.bearer c.args.kind c.args.teid c.args.octets.now o)
+    (λ (o : Option CuUpBearer). IsReceivedIn (came_in codec c.args.ue here c.args.bearer c.args.kind c.args.teid c.args.octets.now o)
     c.args.bearer c.args.out.now c.push.new.self here here (Ok false))
     (sym (not_found i.instance i.sn i.quota i.flags i.bearers.items c.args.bearer c.len.result (omega (arith, i.bearers.ok.0)) c.in_default.ensures.none))
     (c.in_ok-push.ensures.ok, refl))
@@ -53,15 +53,15 @@ returns c = λ codec lawful.
     let b = c.index_mut-found.result.now in
     let after = c.come-came.new.bearer in
     let within : at < length bs = omega (arith, c.in-Some.ensures.within.0, i.bearers.ok.0) in
-    let whole : List Bearer → UpContext = λ xs. context_as i.instance i.sn i.quota i.flags xs in
-    let here : UpContext = whole bs in
-    let d : UpContext = whole c.forget_if.new.bearers.items in
+    let whole : List Bearer → CuUpContext = λ xs. context_as i.instance i.sn i.quota i.flags xs in
+    let here : CuUpContext = whole bs in
+    let d : CuUpContext = whole c.forget_if.new.bearers.items in
     subst
-    (λ (x : UpContext). IsCameIn (came_in codec c.args.ue x c.args.bearer c.args.kind c.args.teid c.args.octets.now (find bearer_cmp x.bearers c.args.bearer))
+    (λ (x : CuUpContext). IsReceivedIn (came_in codec c.args.ue x c.args.bearer c.args.kind c.args.teid c.args.octets.now (find bearer_cmp x.bearers c.args.bearer))
     c.args.bearer c.args.out.now c.come-came.new.out x d c.come-came.result)
     c.self.view_is
     (subst
-    (λ (o : Option UpBearer). IsCameIn (came_in codec c.args.ue here c.args.bearer c.args.kind c.args.teid c.args.octets.now o)
+    (λ (o : Option CuUpBearer). IsReceivedIn (came_in codec c.args.ue here c.args.bearer c.args.kind c.args.teid c.args.octets.now o)
     c.args.bearer c.args.out.now c.come-came.new.out here d c.come-came.result)
     (sym (found i.instance i.sn i.quota i.flags bs c.args.bearer at b within c.in-Some.ensures.within.1 c.index_mut-found.ensures.value))
     (came_step c.args.out.now c.come-came.new.out here c.args.bearer (kept b) (kept after)

@@ -2,7 +2,7 @@ use Rattle.std.proofs.Common.{◌≡◌, length, List, sym, ap, ◌∙◌, arith
 use Rattle.std.proofs.lemmas.List.{length-map}
 use Rattle.gnb_types.specs.declared.names.BearerId.{BearerId}
 use Rattle.gnb_types.specs.declared.plans.SnStatus.{SnStatus}
-use Rattle.unit_defs.specs.UpRecords.{UpContext}
+use Rattle.unit_defs.specs.CuUpRecords.{CuUpContext}
 use Rattle.unit_defs.specs.Messages.{are_bearers, statuses_of}
 use Rattle.unit_defs.specs.CuUp.{names, bearers_from}
 use Rattle.unit_defs.specs.octet_defs.Codec.{octet_way}
@@ -13,7 +13,7 @@ pub returns-then-statuses-len : goal.returns-then-statuses-len
 returns-then-statuses-len c = λ codec.
     let i = c.self.inside in
     let named : names (octet_way codec) c.args.self.now ≡ bearers_from 1 (length i.bearers.items) =
-    ap (λ (x : UpContext). names (octet_way codec) x) (sym c.self.view_is) ∙ names_are 1 i.bearers.items in
+    ap (λ (x : CuUpContext). names (octet_way codec) x) (sym c.self.view_is) ∙ names_are 1 i.bearers.items in
     let many : length (statuses_of c.args.statuses.now) ≡ length c.args.statuses.now = length-map c.args.statuses.now (λ (s : SnStatus). s.bearer) in
     sym
     (ap (λ (ids : List BearerId). are_bearers ids (statuses_of c.args.statuses.now)) named
@@ -24,7 +24,7 @@ pub returns-then-from-number : goal.returns-then-from-number
 returns-then-from-number c = λ codec.
     let i = c.self.inside in
     let named : names (octet_way codec) c.args.self.now ≡ bearers_from 1 (length i.bearers.items) =
-    ap (λ (x : UpContext). names (octet_way codec) x) (sym c.self.view_is) ∙ names_are 1 i.bearers.items in
+    ap (λ (x : CuUpContext). names (octet_way codec) x) (sym c.self.view_is) ∙ names_are 1 i.bearers.items in
     let many : length i.bearers.items ≡ length c.args.statuses.now = omega (arith, c.if-statuses-len.false, c.len.ensures, i.bearers.ok.0) in
     sym
     (ap (λ (ids : List BearerId). are_bearers ids (statuses_of c.args.statuses.now)) (named ∙ ap (λ n. bearers_from 1 n) many)
@@ -45,7 +45,7 @@ pub returns : goal.returns
 returns c = λ codec.
     let i = c.self.inside in
     let named : names (octet_way codec) c.args.self.now ≡ bearers_from 1 (length i.bearers.items) =
-    ap (λ (x : UpContext). names (octet_way codec) x) (sym c.self.view_is) ∙ names_are 1 i.bearers.items in
+    ap (λ (x : CuUpContext). names (octet_way codec) x) (sym c.self.view_is) ∙ names_are 1 i.bearers.items in
     let many : length i.bearers.items ≡ length c.args.statuses.now = omega (arith, c.if-statuses-len.false, c.len.ensures, i.bearers.ok.0) in
     sym
     (ap (λ (ids : List BearerId). are_bearers ids (statuses_of c.args.statuses.now)) (named ∙ ap (λ n. bearers_from 1 n) many)

@@ -1,6 +1,6 @@
 use Rattle.std.proofs.Common.{◌≡◌, ◌+◌, drop}
 use Rattle.std.specs.List.{list_all}
-use Rattle.unit_defs.specs.UpBearers.{is_over}
+use Rattle.unit_defs.specs.CuUpBearers.{is_over}
 use Rattle.cu_up_bearer.specs.tunnels.Tunnels.{flags_as}
 use Rattle.cu_up_contexts.specs.bearer_context.Bearers.{numbered}
 use Rattle.cu_up_contexts.proofs.bearer_context.context.Context.is_over.Given as goal

@@ -1,6 +1,6 @@
 use Rattle.std.proofs.Common.{◌≡◌, ◌+◌, ◌++◌, drop}
 use Rattle.std.specs.List.{flat_map}
-use Rattle.unit_defs.specs.UpBearers.{open_teids}
+use Rattle.unit_defs.specs.CuUpBearers.{open_teids}
 use Rattle.cu_up_contexts.specs.bearer_context.Bearers.{numbered}
 use Rattle.cu_up_contexts.proofs.bearer_context.context.Context.open_teids.Given as goal
 

@@ -1,5 +1,5 @@
 use Rattle.std.proofs.Common.{◌≡◌, ◌+◌, ◌++◌, map, drop}
-use Rattle.unit_defs.specs.UpBearers.{status_of}
+use Rattle.unit_defs.specs.CuUpBearers.{status_of}
 use Rattle.cu_up_contexts.specs.bearer_context.Bearers.{numbered}
 use Rattle.cu_up_contexts.proofs.bearer_context.context.Context.statuses.Given as goal
 

@@ -1,6 +1,6 @@
 use Rattle.std.proofs.Common.{◌≡◌, true, length, List, sym, ap, ◌∙◌, subst}
 use Rattle.std.specs.Global.{Vec}
-use Rattle.unit_defs.specs.UpRecords.{UpContext}
+use Rattle.unit_defs.specs.CuUpRecords.{CuUpContext}
 use Rattle.unit_defs.specs.CuUp.{status_each, as_known}
 use Rattle.unit_defs.specs.octet_defs.Codec.{octet_way}
 use Rattle.unit_messages.specs.steps.Steps.{IsStep}
@@ -16,13 +16,13 @@ pub returns : goal.returns
 returns c = λ codec.
     let i = c.self.inside in
     let way = octet_way codec in
-    let here : UpContext = context_as i.instance i.sn i.quota i.flags i.bearers.items in
-    let whole : List Bearer → UpContext = λ bs. context_as i.instance i.sn i.quota (record i.flags { may_serve = true }) bs in
+    let here : CuUpContext = context_as i.instance i.sn i.quota i.flags i.bearers.items in
+    let whole : List Bearer → CuUpContext = λ bs. context_as i.instance i.sn i.quota (record i.flags { may_serve = true }) bs in
     let on = as_known way here in
     let ws = c.go_on_each-done.new.bearers in
     let size : length ws ≡ i.bearers.len = c.go_on_each-done.auto.bearers ∙ ap length c.as_mut_slice.ensures.value ∙ sym i.bearers.ok.0 in
     subst
-    (λ (x : UpContext). IsStep (context_after codec c.args.out.now (as_known way x) (status_each way c.args.ue (as_known way x) c.args.statuses.now x.bearers))
+    (λ (x : CuUpContext). IsStep (context_after codec c.args.out.now (as_known way x) (status_each way c.args.ue (as_known way x) c.args.statuses.now x.bearers))
     c.go_on_each-done.new.out (whole c.forget_if.new.bearers.items) c.go_on_each-done.result)
     c.self.view_is
     (context_step codec c.args.out.now c.go_on_each-done.new.out on (whole c.forget_if.new.bearers.items) (status_each way c.args.ue on c.args.statuses.now here.bearers)

@@ -3,7 +3,7 @@ use Rattle.std.specs.List.{flat_map}
 use Rattle.gnb_types.specs.declared.names.BearerId.{BearerId}
 use Rattle.gnb_types.specs.declared.plans.Tunnel.{Tunnel}
 use Rattle.unit_defs.specs.Messages.{tunnel_of}
-use Rattle.unit_defs.specs.UpRecords.{UpBearer, UpContext}
+use Rattle.unit_defs.specs.CuUpRecords.{CuUpBearer, CuUpContext}
 use Rattle.cu_up_bearer.specs.bearers.Bearers.{kept}
 use Rattle.cu_up_bearer.specs.declared.bearers.bearer.Bearer.{Bearer}
 use Rattle.cu_up_contexts.specs.bearer_context.Answers.{teid_of_kind, tunnels_of}
@@ -16,7 +16,7 @@ loop-bearer-preserved c = record {
   number = omega (arith, c.loop-bearer.invariant.number);
   all = λ codec.
       let l = c.loop-bearer in
-      let f : BearerId × UpBearer → List Tunnel = λ e. tunnel_of e.0 (teid_of_kind codec c.args.kind e.1) in
+      let f : BearerId × CuUpBearer → List Tunnel = λ e. tunnel_of e.0 (teid_of_kind codec c.args.kind e.1) in
       said_turn f c.deref-bearer-items.result.now _ l.bearer-index l.number c.loop-bearer-test.true l.tunnels c.push_tunnel.new.tunnels
       (c.in_ok-push_tunnel.ensures
       ∙ ap (λ o. l.tunnels ++ tunnel_of (record { 0 = l.number }) o) (c.teid_of_kind.ensures codec)
@@ -29,7 +29,7 @@ returns c = λ codec.
     let l = c.loop-bearer in
     let i = c.self.inside in
     let bs = c.deref-bearer-items.result.now in
-    let f : BearerId × UpBearer → List Tunnel = λ e. tunnel_of e.0 (teid_of_kind codec c.args.kind e.1) in
+    let f : BearerId × CuUpBearer → List Tunnel = λ e. tunnel_of e.0 (teid_of_kind codec c.args.kind e.1) in
     said_all f bs l.bearer-index l.number (omega (arith, c.loop-bearer-test.false)) l.tunnels (l.invariant.all codec)
     ∙ ap (λ (xs : List Bearer). flat_map f (numbered 1 xs)) c.deref-bearer-items.ensures.value
-    ∙ ap (λ (x : UpContext). tunnels_of codec c.args.kind x) c.self.view_is
+    ∙ ap (λ (x : CuUpContext). tunnels_of codec c.args.kind x) c.self.view_is

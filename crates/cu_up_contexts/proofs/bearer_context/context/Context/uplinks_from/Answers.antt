@@ -3,7 +3,7 @@ use Rattle.std.proofs.lemmas.List.{drop_all}
 use Rattle.gnb_types.specs.declared.names.BearerId.{BearerId}
 use Rattle.gnb_types.specs.declared.plans.Tunnel.{Tunnel}
 use Rattle.unit_defs.specs.CuUp.{teids_from}
-use Rattle.unit_defs.specs.UpRecords.{UpBearer, UpContext}
+use Rattle.unit_defs.specs.CuUpRecords.{CuUpBearer, CuUpContext}
 use Rattle.unit_defs.specs.octet_defs.Codec.{octet_way}
 use Rattle.cu_up_bearer.specs.declared.bearers.bearer.Bearer.{Bearer}
 use Rattle.cu_up_contexts.specs.bearer_context.Bearers.{numbered}
@@ -32,7 +32,7 @@ loop-bearer-preserved c = record {
       let rest : List Tunnel = teids_from way (l.teid + 1) (numbered (l.number + 1) (drop (l._bearer-index + 1) bs)) in
       ap (λ (ts : List Tunnel). ts ++ rest) c.in_ok-push.ensures.ok
       ∙ append_assoc l.uplinks (t ∷ []) rest
-      ∙ ap (λ (es : List (BearerId × UpBearer)). l.uplinks ++ teids_from way l.teid es) (sym (from_turn bs c._bearer-item.result l._bearer-index l.number c.loop-bearer-test.true))
+      ∙ ap (λ (es : List (BearerId × CuUpBearer)). l.uplinks ++ teids_from way l.teid es) (sym (from_turn bs c._bearer-item.result l._bearer-index l.number c.loop-bearer-test.true))
       ∙ l.invariant.all codec;
 }
 
@@ -46,4 +46,4 @@ returns c = λ codec.
     ∙ ap (λ (xs : List Bearer). l.uplinks ++ teids_from way l.teid (numbered l.number xs)) (sym (drop_all l._bearer-index bs (omega (arith, c.loop-bearer-test.false))))
     ∙ l.invariant.all codec
     ∙ ap (λ (xs : List Bearer). teids_from way c.args.next (numbered 1 xs)) c.deref-bearer-items.ensures.value
-    ∙ ap (λ (x : UpContext). teids_from way c.args.next x.bearers) c.self.view_is
+    ∙ ap (λ (x : CuUpContext). teids_from way c.args.next x.bearers) c.self.view_is

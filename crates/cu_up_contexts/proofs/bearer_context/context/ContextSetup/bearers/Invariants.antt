@@ -1,5 +1,5 @@
 use Rattle.std.proofs.Common.{◌≡◌, ◌+◌, ◌*◌, length}
-use Rattle.unit_defs.specs.UpBearers.{teids_of_bearer}
+use Rattle.unit_defs.specs.CuUpBearers.{teids_of_bearer}
 use Rattle.unit_defs.specs.CuUp.{bearers_from, bearers_made}
 use Rattle.cu_up_contexts.specs.bearer_context.Bearers.{numbered, shared, AreServed}
 use Rattle.cu_up_contexts.specs.bearer_context.Contexts.{flags_at_first}

@@ -1,6 +1,6 @@
 use Rattle.std.proofs.Common.{◌≡◌, ◌+◌, ◌*◌, map}
 use Rattle.std.specs.Prelude.{sum}
-use Rattle.unit_defs.specs.UpRecords.{blocks_of}
+use Rattle.unit_defs.specs.CuUpRecords.{blocks_of}
 use Rattle.cu_up_contexts.proofs.contexts.contexts.Contexts.fits.Given as goal
 
 abbrev pub invariant-loop-context : goal.invariant-loop-context

@@ -4,7 +4,7 @@ use Rattle.tables.specs.Tables.{find}
 use Rattle.unit_defs.specs.CuUp.{as_frozen}
 use Rattle.unit_defs.specs.octet_defs.Codec.{octet_way}
 use Rattle.cu_up_contexts.specs.bearer_context.Orders.{frozen_each}
-use Rattle.cu_up_contexts.specs.contexts.Tables.{UpTables}
+use Rattle.cu_up_contexts.specs.contexts.Tables.{CuUpTables}
 use Rattle.cu_up_contexts.specs.contexts.Rows.{frozen_at}
 use Rattle.cu_up_contexts.proofs.contexts.Steps.{order_step}
 use Rattle.cu_up_contexts.proofs.contexts.contexts.Contexts.freeze.Goals as goal
@@ -12,7 +12,7 @@ use Rattle.cu_up_contexts.proofs.contexts.contexts.Contexts.freeze.Goals as goal
 pub freeze-requires : goal.freeze-requires
 freeze-requires c =
     c.requires c.in-Some.context.now
-    (ap (λ (t : UpTables). find ue_cmp t.contexts c.args.ue) (sym c.self.view_is) ∙ sym c.in-Some.ensures.value)
+    (ap (λ (t : CuUpTables). find ue_cmp t.contexts c.args.ue) (sym c.self.view_is) ∙ sym c.in-Some.ensures.value)
 
 pub returns : goal.returns
 returns c = λ codec r.

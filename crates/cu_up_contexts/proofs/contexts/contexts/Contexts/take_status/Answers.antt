@@ -3,7 +3,7 @@ use Rattle.gnb_types.specs.Orders.{ue_cmp}
 use Rattle.tables.specs.Tables.{find}
 use Rattle.unit_defs.specs.CuUp.{as_known, status_each}
 use Rattle.unit_defs.specs.octet_defs.Codec.{octet_way}
-use Rattle.cu_up_contexts.specs.contexts.Tables.{UpTables}
+use Rattle.cu_up_contexts.specs.contexts.Tables.{CuUpTables}
 use Rattle.cu_up_contexts.specs.contexts.Rows.{known_at}
 use Rattle.cu_up_contexts.proofs.contexts.Steps.{order_step}
 use Rattle.cu_up_contexts.proofs.contexts.contexts.Contexts.take_status.Goals as goal
@@ -11,7 +11,7 @@ use Rattle.cu_up_contexts.proofs.contexts.contexts.Contexts.take_status.Goals as
 pub take_status-requires-clause-new : goal.take_status-requires-clause-new
 take_status-requires-clause-new c =
     c.requires.new c.in-Some.context.now
-    (ap (λ (t : UpTables). find ue_cmp t.contexts c.args.ue) (sym c.self.view_is) ∙ sym c.in-Some.ensures.value)
+    (ap (λ (t : CuUpTables). find ue_cmp t.contexts c.args.ue) (sym c.self.view_is) ∙ sym c.in-Some.ensures.value)
 
 pub returns : goal.returns
 returns c = λ codec r.

@@ -15,4 +15,4 @@ returns g c =
     subst (λ (s : OctetDu). IsStep (step_after c.args.outputs.now (relay_up (octet_way codec) c.args.ue c.args.token s))
     c.relay_up.new.outputs s c.relay_up.result) c.self.view_is
     (c.relay_up.ensures codec r c.args.token refl
-    (c.in_ok-message.ensures ∙ ap (λ (o : List ℕ). codec.spell (f1 (f1s.UlRrcMessageTransfer c.args.ue o))) c.in_ok-container.ensures))
+    (c.in_ok-message.ensures ∙ ap (λ (o : List ℕ). codec.encode (f1 (f1s.UlRrcMessageTransfer c.args.ue o))) c.in_ok-container.ensures))

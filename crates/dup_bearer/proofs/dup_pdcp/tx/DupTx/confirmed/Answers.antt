@@ -2,7 +2,7 @@ use Rattle.std.proofs.Common.{◌≡◌, refl, sym, ap, ◌∙◌, subst}
 use Rattle.gnb_types.specs.declared.names.SnBits.{SnBits}
 use Rattle.pdcp_defs.specs.Counts.{count_below as count_below_of}
 use Rattle.dup_defs.specs.Senders.{DupNumbers, confirmed}
-use Rattle.pdcp_bearers.specs.ue_bearers.Uplinks.{UplinkState}
+use Rattle.pdcp_bearers.specs.ue_bearers.Senders.{SenderState}
 use Rattle.pdcp_entities.specs.Entities.{confirmed_number}
 use Rattle.dup_bearer.specs.dup_pdcp.Entity.{DupTxState}
 use Rattle.dup_bearer.specs.dup_pdcp.inside.Views.{tx_state, sender_state, marks, IsGiven}
@@ -24,5 +24,5 @@ returns-in-Some c =
     let sender_is = c.confirm_to.ensures ∙ ap (λ (k : SnBits). record t.packets { sender = confirmed_number k t.packets.sender c.args.number }) going.0 in
     subst (λ (v : DupTxState). IsGiven (confirmed v.sn v.quota c.args.number v.entity) v c.number_waiting.new.self c.number_waiting.result) c.self.view_is
     (subst (λ (d : DupNumbers). IsGiven d old c.number_waiting.new.self c.number_waiting.result)
-    (confirmed_some t.sn t.quota c.args.number _ old.entity _ (sym found ∙ c.in-Some.is) (ap (λ (u : UplinkState). sender_state u m) sender_is))
+    (confirmed_some t.sn t.quota c.args.number _ old.entity _ (sym found ∙ c.in-Some.is) (ap (λ (u : SenderState). sender_state u m) sender_is))
     c.number_waiting.ensures)

@@ -1,6 +1,6 @@
 use Rattle.std.proofs.Common.{Option, sym, subst, ap, ◌∙◌}
 use Rattle.std.specs.Prelude.{Result}
-use Rattle.pdcp_bearers.specs.declared.ue_bearers.uplink.Counted.{Counted}
+use Rattle.pdcp_bearers.specs.declared.ue_bearers.sender.Counted.{Counted}
 use Rattle.dup_bearer.specs.declared.dup_pdcp.ending.DupEnding.{DupEnding}
 use Rattle.dup_bearer.specs.dup_pdcp.Entity.{DupTxState}
 use Rattle.dup_bearer.specs.dup_pdcp.inside.Views.{tx_state, marks, IsNumbered, counted_of}

@@ -1,7 +1,7 @@
 use Rattle.std.proofs.Common.{ℕ, List, Option, ◌++◌, sym, ap, subst, ◌∙◌, append-nil}
 use Rattle.std.specs.Borrow.{Bor}
 use Rattle.dup_defs.specs.Senders.{all_on}
-use Rattle.pdcp_bearers.specs.ue_bearers.Uplinks.{IsLeastFrom}
+use Rattle.pdcp_bearers.specs.ue_bearers.Senders.{IsLeastFrom}
 use Rattle.dup_bearer.specs.dup_pdcp.Entity.{DupTxState, puts_of_code}
 use Rattle.dup_bearer.proofs.dup_pdcp.PutLemmas.{all_from}
 use Rattle.dup_bearer.proofs.dup_pdcp.tx.DupTx.put_each.Goals as goal

@@ -1,7 +1,7 @@
 use Rattle.std.proofs.Common.{◌≡◌, ◌++◌, length}
 use Rattle.std.specs.List.{AllByRecursion}
 use Rattle.dup_defs.specs.Senders.{all_on}
-use Rattle.pdcp_bearers.specs.ue_bearers.Uplinks.{from_on}
+use Rattle.pdcp_bearers.specs.ue_bearers.Senders.{from_on}
 use Rattle.dup_bearer.specs.dup_pdcp.Entity.{IsPut, puts_of_code}
 use Rattle.dup_bearer.proofs.dup_pdcp.tx.DupTx.put_each.Given as goal
 

@@ -6,11 +6,11 @@ use Rattle.links.proofs.links_bag.bag.Bag.land.Goals as goal
 pub returns-in_default-clause-was : goal.returns-in_default-clause-was
 returns-in_default-clause-was c =
     ap is_some (sym c.in_default.is)
-    ∙ seen_in c.self.inside.letters.items c.self.inside.flight c.args.self.now c.self.view_is c.args.number c.take.result c.take.ensures.value
+    ∙ seen_in c.self.inside.control_messages.items c.self.inside.flight c.args.self.now c.self.view_is c.args.number c.take.result c.take.ensures.value
 
 pub returns-in_default-clause-landed : goal.returns-in_default-clause-landed
 returns-in_default-clause-landed c =
-    seen_landed c.self.inside.letters.items c.self.inside.flight c.args.self.now c.self.view_is c.args.number c.take.new.self c.take.ensures.rest
+    seen_landed c.self.inside.control_messages.items c.self.inside.flight c.args.self.now c.self.view_is c.args.number c.take.new.self c.take.ensures.rest
 
 pub invariant_of-self-2 : goal.invariant_of-self-2
 invariant_of-self-2 c =
@@ -20,8 +20,8 @@ invariant_of-self-2 c =
 pub returns-clause-was : goal.returns-clause-was
 returns-clause-was c =
     ap is_some (sym c.in-Some.is)
-    ∙ seen_in c.self.inside.letters.items c.self.inside.flight c.args.self.now c.self.view_is c.args.number c.take.result c.take.ensures.value
+    ∙ seen_in c.self.inside.control_messages.items c.self.inside.flight c.args.self.now c.self.view_is c.args.number c.take.result c.take.ensures.value
 
 pub returns-clause-landed : goal.returns-clause-landed
 returns-clause-landed c =
-    seen_landed c.self.inside.letters.items c.self.inside.flight c.args.self.now c.self.view_is c.args.number c.take.new.self c.take.ensures.rest
+    seen_landed c.self.inside.control_messages.items c.self.inside.flight c.args.self.now c.self.view_is c.args.number c.take.new.self c.take.ensures.rest

@@ -2,7 +2,7 @@ use Rattle.std.proofs.Common.{List, sym, ap, ◌∙◌}
 use Rattle.gnb_types.specs.declared.outputs.Output.{Output}
 use Rattle.pdcp_defs.specs.Receivers.{deliver as handed_up}
 use Rattle.unit_messages.specs.steps.Steps.{step_after, stepped}
-use Rattle.pdcp_bearers.specs.ue_bearers.Downlinks.{DownlinkState}
+use Rattle.pdcp_bearers.specs.ue_bearers.Receivers.{ReceiverState}
 use Rattle.pdcp_bearers.specs.ue_packets.Bearers.{kept, terminal_of}
 use Rattle.pdcp_bearers.proofs.ue_packets.RowLemmas.{bearer_of, handing, delivers_one, delivers_none, delivered_facts, not_delivered}
 use Rattle.pdcp_bearers.proofs.ue_packets.bearer.Bearer.deliver.Goals as goal
@@ -23,8 +23,8 @@ loop-count-preserved c =
       of = record {
         up_sn = of.up_sn;
         up_quota = of.up_quota;
-        down_sn = ap (λ (d : DownlinkState). d.sn) f.0 ∙ of.down_sn;
-        down_quota = ap (λ (d : DownlinkState). d.quota) f.0 ∙ of.down_quota;
+        down_sn = ap (λ (d : ReceiverState). d.sn) f.0 ∙ of.down_sn;
+        down_quota = ap (λ (d : ReceiverState). d.quota) f.0 ∙ of.down_quota;
       };
     }
 
@@ -35,4 +35,4 @@ returns-clause-step c = λ codec.
     let none = not_delivered _ _ _ c.in_ok-count.ensures c.in_default.is in
     sym (l.invariant.all codec)
     ∙ (delivers_none codec u c.args.bearer l.out (kept l.self) (handed_up l.self.downlink.receiver) none.1
-    ∙ ap (λ (d : DownlinkState). stepped l.out (bearer_of l.self.uplink d.receiver)) (sym none.0))
+    ∙ ap (λ (d : ReceiverState). stepped l.out (bearer_of l.self.uplink d.receiver)) (sym none.0))

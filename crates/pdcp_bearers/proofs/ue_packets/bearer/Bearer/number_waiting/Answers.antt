@@ -2,7 +2,7 @@ use Rattle.std.proofs.Common.{sym, ap, ◌∙◌}
 use Rattle.unit_defs.specs.Ue.{UeBearer}
 use Rattle.unit_defs.specs.octet_defs.Units.{OctetAnswer}
 use Rattle.unit_messages.specs.steps.Steps.{step_after, stepped}
-use Rattle.pdcp_bearers.specs.ue_bearers.Uplinks.{UplinkState}
+use Rattle.pdcp_bearers.specs.ue_bearers.Senders.{SenderState}
 use Rattle.pdcp_bearers.specs.ue_packets.Bearers.{kept, terminal_of}
 use Rattle.pdcp_bearers.proofs.ue_packets.RowLemmas.{bearer_of, numbers_nothing, numbers_connected, numbers_one, numbers_end, numbers_spent, numbers_keeps, numbered_facts, not_numbered, numbers_fails}
 use Rattle.pdcp_bearers.proofs.ue_packets.bearer.Bearer.number_waiting.Goals as goal
@@ -47,4 +47,4 @@ returns-clause-step c = λ codec.
     (numbers_connected codec u c.args.bearer (sym c.is_connected.ensures ∙ c.if-not-is_connected.false) (kept c.args.self.now))
     ∙ (sym (l.invariant.all codec)
     ∙ (numbers_end codec u c.args.bearer l.self.uplink l.self.downlink.receiver l.out l.invariant.of.up_sn l.invariant.of.up_quota none.0
-    ∙ ap (λ (d : UplinkState). stepped l.out (bearer_of d l.self.downlink.receiver)) (sym none.1)))
+    ∙ ap (λ (d : SenderState). stepped l.out (bearer_of d l.self.downlink.receiver)) (sym none.1)))

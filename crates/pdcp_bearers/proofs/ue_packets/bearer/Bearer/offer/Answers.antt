@@ -1,7 +1,7 @@
 use Rattle.std.proofs.Common.{ap, subst}
 use Rattle.unit_defs.specs.Ue.{UeBearer}
 use Rattle.unit_messages.specs.steps.Steps.{Step, IsStep}
-use Rattle.pdcp_bearers.specs.ue_bearers.Uplinks.{UplinkState}
+use Rattle.pdcp_bearers.specs.ue_bearers.Senders.{SenderState}
 use Rattle.pdcp_bearers.specs.ue_packets.Bearers.{kept, terminal_of}
 use Rattle.pdcp_bearers.proofs.ue_packets.RowLemmas.{offers_size, offers_quota, offers_room, bearer_of}
 use Rattle.pdcp_bearers.proofs.ue_packets.bearer.Bearer.offer.Goals as goal
@@ -22,6 +22,6 @@ returns-clause-step c = λ codec.
     let same = offers_room codec (terminal_of c.args.terminal.now) c.args.bearer c.args.out.now c.args.packet (kept c.args.self.now)
     (bearer_of c.offer.new.self c.args.self.now.downlink.receiver) c.len.result c.used.result c.from.result c.if-len-gt-PACKET_LIMIT.false c.len.ensures
     c.if-used-from.false c.from.ensures c.used.ensures
-    (ap (λ (d : UplinkState). bearer_of d c.args.self.now.downlink.receiver) c.in_ok-offer.ensures) in
+    (ap (λ (d : SenderState). bearer_of d c.args.self.now.downlink.receiver) c.in_ok-offer.ensures) in
     subst (λ (s : Step UeBearer). IsStep s c.number_waiting.new.out (kept c.number_waiting.new.self) c.number_waiting.result) same
     (c.number_waiting.ensures.step codec)

@@ -1,6 +1,6 @@
 use Rattle.std.proofs.Common.{ℕ, List, Option, ◌++◌, sym, ap, subst, ◌∙◌}
 use Rattle.std.specs.Borrow.{Bor}
-use Rattle.pdcp_bearers.specs.ue_bearers.Uplinks.{IsLeastFrom}
+use Rattle.pdcp_bearers.specs.ue_bearers.Senders.{IsLeastFrom}
 use Rattle.pdcp_bearers.specs.ue_packets.Bearers.{terminal_of}
 use Rattle.pdcp_bearers.proofs.ue_packets.RowLemmas.{again, all_from, sends_none}
 use Rattle.pdcp_bearers.proofs.ue_packets.bearer.Bearer.send_unconfirmed.Goals as goal

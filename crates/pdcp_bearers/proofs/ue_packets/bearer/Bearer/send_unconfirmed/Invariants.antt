@@ -1,6 +1,6 @@
 use Rattle.std.proofs.Common.{◌≡◌, ◌++◌, length}
 use Rattle.unit_defs.specs.octet_defs.Codec.{Codec}
-use Rattle.pdcp_bearers.specs.ue_bearers.Uplinks.{from_on}
+use Rattle.pdcp_bearers.specs.ue_bearers.Senders.{from_on}
 use Rattle.pdcp_bearers.specs.ue_packets.Bearers.{terminal_of}
 use Rattle.pdcp_bearers.proofs.ue_packets.RowLemmas.{again}
 use Rattle.pdcp_bearers.proofs.ue_packets.bearer.Bearer.send_unconfirmed.Given as goal

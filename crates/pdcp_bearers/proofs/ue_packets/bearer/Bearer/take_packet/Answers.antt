@@ -1,7 +1,7 @@
 use Rattle.std.proofs.Common.{◌≡◌, refl, sym, ap, ◌∙◌, subst}
 use Rattle.gnb_types.specs.declared.names.SnBits.{SnBits}
 use Rattle.pdcp_defs.specs.Counts.{near_count}
-use Rattle.pdcp_bearers.specs.ue_bearers.Downlinks.{received}
+use Rattle.pdcp_bearers.specs.ue_bearers.Receivers.{received}
 use Rattle.unit_defs.specs.Ue.{UeBearer}
 use Rattle.unit_defs.specs.octet_defs.Units.{OctetAnswer}
 use Rattle.unit_messages.specs.steps.Steps.{step_after, IsStep}

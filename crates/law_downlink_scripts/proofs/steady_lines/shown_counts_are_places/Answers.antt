@@ -1,5 +1,0 @@
-use Rattle.law_downlink_scripts.proofs.steady_lines.Runs.{counts_mean}
-use Rattle.law_downlink_scripts.proofs.steady_lines.shown_counts_are_places.Goals as goal
-
-pub returns : goal.returns
-returns c = λ reading events are. counts_mean reading events are

@@ -1,5 +1,0 @@
-use Rattle.law_handover_delivers.proofs.down_report_ties.Quiet.{quiet_keeps}
-use Rattle.law_handover_delivers.proofs.down_report_ties.units_that_put_no_report_keep_them_true.Goals as goal
-
-pub returns : goal.returns
-returns c = quiet_keeps

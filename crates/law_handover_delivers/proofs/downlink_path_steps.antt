@@ -1,0 +1,9 @@
+pub mod Beside
+pub mod Others
+pub mod Frames
+pub mod Dus
+pub mod Rows
+pub mod Receives
+pub mod Terminals
+pub mod Ends
+pub mod Ups

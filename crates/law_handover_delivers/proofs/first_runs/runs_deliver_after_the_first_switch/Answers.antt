@@ -1,5 +1,0 @@
-use Rattle.law_handover_delivers.proofs.first_runs.Runs.{delivers_after}
-use Rattle.law_handover_delivers.proofs.first_runs.runs_deliver_after_the_first_switch.Goals as goal
-
-pub returns : goal.returns
-returns c = λ reading n ue bearer sn quota p q first teid d are. delivers_after reading n ue bearer sn quota p q first teid d are

@@ -1,6 +1,0 @@
-use Rattle.proof_bearer_refinement.proofs.first_ties.Start.{starts, tied}
-use Rattle.law_handover_delivers.proofs.fresh_uplinks.Runs.{delivers_on}
-use Rattle.law_handover_delivers.proofs.fresh_uplinks.a_terminal_delivers_in_order.Goals as goal
-
-pub returns : goal.returns
-returns c = λ reading n. ((starts reading n).0, (starts reading n).1, tied reading n, λ q steps. delivers_on reading n q steps)

@@ -1,6 +1,0 @@
-use Rattle.proof_bearer_refinement.proofs.first_ties.Start.{starts}
-use Rattle.law_handover_delivers.proofs.guarded_runs.Start.{way_there, du_owes, switch_owes}
-use Rattle.law_handover_delivers.proofs.guarded_runs.the_guards_can_be_met.Goals as goal
-
-pub returns : goal.returns
-returns c = λ reading n input. ((starts reading n).0, (starts reading n).1, way_there reading n, du_owes reading n input, switch_owes reading n)

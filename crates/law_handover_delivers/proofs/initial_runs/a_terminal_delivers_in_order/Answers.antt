@@ -1,0 +1,6 @@
+use Rattle.proof_bearer_refinement.proofs.initial.Start.{starts, refined}
+use Rattle.law_handover_delivers.proofs.initial_runs.Runs.{delivers_on}
+use Rattle.law_handover_delivers.proofs.initial_runs.a_terminal_delivers_in_order.Goals as goal
+
+pub returns : goal.returns
+returns c = λ reading n. ((starts reading n).0, (starts reading n).1, refined reading n, λ q steps. delivers_on reading n q steps)

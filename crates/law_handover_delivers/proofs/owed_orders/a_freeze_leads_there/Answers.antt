@@ -1,5 +1,0 @@
-use Rattle.law_handover_delivers.proofs.owed_orders.Hops.{freeze_leads}
-use Rattle.law_handover_delivers.proofs.owed_orders.a_freeze_leads_there.Goals as goal
-
-pub returns : goal.returns
-returns c = λ n ue bearer units to peer down up owned. freeze_leads n ue bearer units owned to peer down up

@@ -1,5 +1,0 @@
-use Rattle.law_handover_delivers.proofs.owed_orders.Worked.{worked}
-use Rattle.law_handover_delivers.proofs.owed_orders.a_worked_freeze_leads_there.Goals as goal
-
-pub returns : goal.returns
-returns c = λ reading n. worked reading n

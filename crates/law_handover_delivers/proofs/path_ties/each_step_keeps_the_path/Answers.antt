@@ -1,8 +1,0 @@
-use Rattle.law_handover_delivers.proofs.path_ties.Runs.{one_step}
-use Rattle.law_handover_delivers.proofs.path_ties.each_step_keeps_the_path.Goals as goal
-
-pub returns : goal.returns
-returns c = λ reading n ue bearer sn quota p q positive before after comes ties fresh steady came leads step.
-    let its = one_step reading n ue bearer sn quota positive p q before after comes
-    (record { ties = ties; fresh = fresh; steady = steady; came = came; leads = leads }) step in
-    (its.0, its.1.came, its.1.leads)

@@ -1,5 +1,0 @@
-use Rattle.law_handover_delivers.proofs.path_ties.Runs.{delivers}
-use Rattle.law_handover_delivers.proofs.path_ties.runs_deliver_after_the_first_switch.Goals as goal
-
-pub returns : goal.returns
-returns c = λ reading n ue bearer sn quota p q first teid d positive. delivers reading n ue bearer sn quota positive p q first teid d

@@ -1,5 +1,0 @@
-use Rattle.law_handover_delivers.proofs.report_ties.Quiet.{quiet_keeps}
-use Rattle.law_handover_delivers.proofs.report_ties.units_without_a_radio_keep_reports_true.Goals as goal
-
-pub returns : goal.returns
-returns c = quiet_keeps

@@ -1,9 +1,0 @@
-pub mod Beside
-pub mod Others
-pub mod Frames
-pub mod Dus
-pub mod Rows
-pub mod Hears
-pub mod Terminals
-pub mod Ends
-pub mod Ups

@@ -1,5 +1,0 @@
-use Rattle.law_handover_delivers.proofs.way_steps.Ups.{cu_up_way}
-use Rattle.law_handover_delivers.proofs.way_steps.a_cu_up_keeps_the_way.Goals as goal
-
-pub returns : goal.returns
-returns c = cu_up_way

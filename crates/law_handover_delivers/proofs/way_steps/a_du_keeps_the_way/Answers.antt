@@ -1,5 +1,0 @@
-use Rattle.law_handover_delivers.proofs.way_steps.Dus.{du_way}
-use Rattle.law_handover_delivers.proofs.way_steps.a_du_keeps_the_way.Goals as goal
-
-pub returns : goal.returns
-returns c = du_way

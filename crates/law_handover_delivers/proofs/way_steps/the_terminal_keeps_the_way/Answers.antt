@@ -1,5 +1,0 @@
-use Rattle.law_handover_delivers.proofs.way_steps.Terminals.{terminal_way}
-use Rattle.law_handover_delivers.proofs.way_steps.the_terminal_keeps_the_way.Goals as goal
-
-pub returns : goal.returns
-returns c = terminal_way

@@ -1,0 +1,3 @@
+pub mod WellLinked
+pub mod Assumed
+pub mod Worked

@@ -1,5 +1,0 @@
-use Rattle.law_terminals_are_isolated.proofs.cp_slice.Same.{cp_same}
-use Rattle.law_terminals_are_isolated.proofs.cp_slice.a_step_of_a_cu_cp_depends_on_the_slice.Goals as goal
-
-pub returns : goal.returns
-returns g c = λ way ue input is r q e. cp_same way ue input is r q e

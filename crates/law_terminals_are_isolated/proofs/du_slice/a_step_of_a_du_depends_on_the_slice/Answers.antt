@@ -1,5 +1,0 @@
-use Rattle.law_terminals_are_isolated.proofs.du_slice.Same.{du_same}
-use Rattle.law_terminals_are_isolated.proofs.du_slice.a_step_of_a_du_depends_on_the_slice.Goals as goal
-
-pub returns : goal.returns
-returns g c = λ way ue input r q e is. du_same way ue input r q e is

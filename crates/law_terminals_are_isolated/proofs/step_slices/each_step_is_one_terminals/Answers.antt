@@ -1,5 +1,0 @@
-use Rattle.law_terminals_are_isolated.proofs.step_slices.Runs.{one_terminals}
-use Rattle.law_terminals_are_isolated.proofs.step_slices.each_step_is_one_terminals.Goals as goal
-
-pub returns : goal.returns
-returns c = λ reading events t lengths node given ue there is. one_terminals reading events t there lengths node given ue is

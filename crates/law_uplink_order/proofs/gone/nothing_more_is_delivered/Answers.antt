@@ -1,5 +1,0 @@
-use Rattle.law_uplink_order.proofs.gone.Gone.{up_same, up_prefix}
-use Rattle.law_uplink_order.proofs.gone.nothing_more_is_delivered.Goals as goal
-
-pub returns : goal.returns
-returns c = record { same = up_same; in_order = up_prefix }

@@ -1,6 +1,0 @@
-use Rattle.proof_bearer_refinement.proofs.frame_ties.Steps.{tunnel_has}
-use Rattle.proof_bearer_refinement.proofs.frame_ties.a_tunnel_has_what_is_sent.Goals as goal
-
-pub returns : goal.returns
-returns c = λ reading ue bearer s t gnb number cause input outputs v du place teid owner items step owned holds_own found own there.
-    tunnel_has reading ue bearer s t gnb number cause input outputs v step owned holds_own du place teid owner found own items there

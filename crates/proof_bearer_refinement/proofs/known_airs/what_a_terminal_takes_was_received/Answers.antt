@@ -1,6 +1,0 @@
-use Rattle.proof_bearer_refinement.proofs.known_airs.Hears.{taken_known}
-use Rattle.proof_bearer_refinement.proofs.known_airs.what_a_terminal_takes_was_received.Goals as goal
-
-pub returns : goal.returns
-returns c = λ reading event s u b ue bearer to sn quota kept some own input cause given stands owed.
-    taken_known u b bearer to sn quota kept some reading event s own ue input cause given stands owed

@@ -1,5 +1,0 @@
-use Rattle.proof_bearer_refinement.proofs.radio_downs.Waits.{silent_down}
-use Rattle.proof_bearer_refinement.proofs.radio_downs.a_silent_radio_is_so.Goals as goal
-
-pub returns : goal.returns
-returns c = silent_down

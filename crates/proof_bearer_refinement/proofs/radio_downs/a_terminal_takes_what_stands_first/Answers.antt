@@ -1,8 +1,0 @@
-use Rattle.proof_bearer_refinement.proofs.radio_downs.Terminals.{owes_rest, down_then}
-use Rattle.proof_bearer_refinement.proofs.radio_downs.a_terminal_takes_what_stands_first.Goals as goal
-
-pub returns : goal.returns
-returns c = λ reading event s t ue bearer b tie sn quota kept down some v cause input outputs step own to. (
-  owes_rest reading event s t ue bearer b tie sn quota kept down some v cause input outputs step own to,
-  down_then reading event s t ue bearer b tie sn quota kept down some v cause input outputs step own to,
-)

@@ -1,7 +1,0 @@
-use Rattle.proof_bearer_refinement.proofs.run_ties.Steps.{step_asks}
-use Rattle.proof_bearer_refinement.proofs.run_ties.oldest_items_stand_first.Goals as goal
-
-pub returns : goal.returns
-returns c = λ reading n ue bearer sn quota s t gnb number cause input outputs v d u b step sound tied all.
-    step_asks reading n ue bearer s t gnb number cause input outputs v step sound.owned sound.standing_there sound.owned_after sound.own d u tied.mirrors b
-    sn quota tied.down tied.up all

@@ -1,5 +1,0 @@
-use Rattle.proof_bearer_refinement.proofs.set_up_ties.SetUp.{is_left}
-use Rattle.proof_bearer_refinement.proofs.set_up_ties.a_set_up_leaves_other_bearers.Goals as goal
-
-pub returns : goal.returns
-returns c = λ reading n ue bearer s plan fair fair_then free teids apart. is_left reading n ue bearer s plan fair fair_then free teids apart

@@ -1,5 +1,0 @@
-use Rattle.proof_bearer_refinement.proofs.shown_orders.Shown.{looks_same}
-use Rattle.proof_bearer_refinement.proofs.shown_orders.a_terminal_shows_what_looks_the_same.Goals as goal
-
-pub returns : goal.returns
-returns c = looks_same

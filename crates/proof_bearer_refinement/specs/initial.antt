@@ -1,0 +1,2 @@
+pub mod First
+pub use Rattle.proof_bearer_refinement.specs.run_unit_inputs as run_unit_inputs

@@ -1,0 +1,3 @@
+pub mod Fair
+pub mod Steps
+pub use Rattle.proof_bearer_refinement.specs.run_unit_inputs as run_unit_inputs

@@ -1,3 +1,0 @@
-pub mod Ties
-pub mod Asked
-pub use Rattle.proof_bearer_refinement.specs.law_run_units as law_run_units

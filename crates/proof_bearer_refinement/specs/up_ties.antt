@@ -1,2 +1,0 @@
-pub mod Fresh
-pub use Rattle.proof_bearer_refinement.specs.law_run_units as law_run_units

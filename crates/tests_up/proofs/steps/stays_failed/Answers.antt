@@ -1,5 +1,0 @@
-use Rattle.tests_up.proofs.InRange.{in_range}
-use Rattle.tests_up.proofs.steps.stays_failed.Goals as goal
-
-pub step-requires : goal.step-requires
-step-requires c = in_range

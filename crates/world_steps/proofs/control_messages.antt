@@ -1,0 +1,4 @@
+pub mod GivenControlMessages
+pub mod NeverSpent
+pub mod NodeTurns
+pub mod Pumping

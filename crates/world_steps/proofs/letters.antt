@@ -1,4 +1,0 @@
-pub mod GivenLetters
-pub mod NeverSpent
-pub mod NodeTurns
-pub mod Pumping

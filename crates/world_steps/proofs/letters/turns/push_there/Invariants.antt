@@ -1,7 +1,0 @@
-use Rattle.std.proofs.Common.{◌≡◌, ◌++◌, drop}
-use Rattle.world_steps.specs.letters.Turns.{nodes_there}
-use Rattle.world_steps.proofs.letters.turns.push_there.Given as goal
-
-abbrev pub invariant-loop-ue : goal.invariant-loop-ue
-invariant-loop-ue l =
-    l.nodes ++ nodes_there l.ground.gone (drop l.ue-index l.terminals) ≡ l.initial.nodes ++ nodes_there l.ground.gone l.terminals

@@ -1,0 +1,2 @@
+pub mod ControlMessages
+pub mod Turns
