@@ -195,6 +195,7 @@ module _ (old new : Reading) (before after : SourceAt) (going : old.phase ≡ Go
       refused_by errors.TooLong r (omega (arith, r.reads.0))
       (record {
         phase = r.reads.1;
+        kept = r.kept;
         at = subst (λ (p : ReadPhase). PhaseFits p new) r.reads.1 r.fits;
         lines = r.lines;
         seen = inl (going, (old.kept, one.0, ap (λ (p : List ℕ). old.kept ++ p) one.1, without_lf));
@@ -231,7 +232,8 @@ module _ (r : Inside) (old : Reading) (source : SourceAt) (is : reading_of r ≡
   pub too_long_again : r.phase ≡ TooLong → NextMeets old old source source (Err errors.TooLong)
   too_long_again phase =
       let p = phase_of TooLong phase in
-      again (Err errors.TooLong) (record { phase = p.0; at = p.1; lines = refl; seen = inr p.0 }) refl (λ e. e)
+      again (Err errors.TooLong)
+      (record { phase = p.0; kept = sym (append-nil old.kept); at = p.1; lines = refl; seen = inr p.0 }) refl (λ e. e)
 
   pub failed_again : r.phase ≡ Failed → NextMeets old old source source (Err errors.Memory)
   failed_again phase = let p = phase_of Failed phase in again (Err errors.Memory) (p.0, p.1) refl (λ e. e)

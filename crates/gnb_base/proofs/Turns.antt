@@ -132,7 +132,7 @@ module _ (old now new : Reading) (before mid after : SourceAt) (s : SoFar old no
         within = h.within;
       }
   same_answer more (Err errors.TooLong) counts h =
-      record { phase = h.phase; at = h.at; lines = h.lines ∙ s.lines; seen = seen h.seen }
+      record { phase = h.phase; kept = h.kept ∙ sym (joined more); at = h.at; lines = h.lines ∙ s.lines; seen = seen h.seen }
     where
       seen : ((now.phase ≡ Going) × ((front : List ℕ) × (last : ℕ) × (now.kept ++ more ≡ front ++ last ∷ []) × HasNoLf front))
           ⊎ (now.phase ≡ TooLong)

@@ -77,9 +77,11 @@ pub record IsFault (old new : Reading) (taken : List ℕ) : Type 0 where
   pub lines : new.lines ≡ old.lines
   pub within : new.taken ≤ input_limit
 
--- The byte after the limit was taken, alone and where no whole line was kept, in this call or an earlier one.
+-- The byte after the limit was taken, alone and where no whole line was kept, in this call or an earlier one. It is kept with those
+-- before it.
 pub record IsTooLong (old new : Reading) (taken : List ℕ) : Type 0 where
   pub phase : new.phase ≡ TooLong
+  pub kept : new.kept ≡ old.kept ++ taken
   pub at : new.taken ≡ input_limit + 1
   pub lines : new.lines ≡ old.lines
   pub seen : ((old.phase ≡ Going)

@@ -113,8 +113,9 @@ impl LineReader {
 
     /// The next line, or `None` at the end of the input where no byte is kept.
     ///
-    /// It reads only where it keeps no whole line. After a failed read it keeps what it took before, and may be called
-    /// again. From the end, from a byte after the limit and from lack of memory on, it answers the same always.
+    /// It reads only where it keeps no whole line. After a failed read, and after the byte past the limit, it keeps what it
+    /// took before; after a failed read it may be called again. From the end, from a byte past the limit and from lack of
+    /// memory on, it answers the same always.
     pub fn next<S: Source>(&mut self, source: &mut S) -> Result<Option<Line>, ReadError>
         ensures { NextMeets self.old self.new (S.at source.old) (S.at source.new) result }
     {

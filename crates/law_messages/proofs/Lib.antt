@@ -1,10 +1,3 @@
-pub mod Fields
-pub mod Elements
-pub mod FromValueF1
-pub mod FromValueE1
-pub mod FromValueXn
-pub mod FromValueCore
-pub mod FromValueTokens
 pub mod KnownFields
 pub mod SaidF1
 pub mod SaidE1

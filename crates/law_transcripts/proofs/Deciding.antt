@@ -1,62 +1,16 @@
 -- A text that breaks no rule at a first place is sound: it can't be that neither holds.
-use Rattle.std.proofs.Common.{◌≡◌, ℕ, ◌+◌, ◌<◌, ◌≤◌, List, [], ◌∷◌, ◌++◌, Option, Some, map, length, refl, ap, ◌∙◌, sym, subst, arith, append_assoc, inl, inr}
+use Rattle.std.proofs.Common.{◌≡◌, ℕ, ◌+◌, ◌<◌, List, [], ◌∷◌, ◌++◌, length, refl, ◌∙◌, subst, arith, inl, inr}
 use Rattle.std.specs.List.{AllByRecursion}
-use Rattle.std.specs.Prelude.{reverse, slice_get}
-use Rattle.std.proofs.lemmas.List.{map-append, append-nil, reverse-append}
+use Rattle.std.proofs.lemmas.List.{append-nil}
 use Rattle.std.proofs.lemmas.Bool.{cases_lt}
 use Rattle.transcript_defs.specs.declared.line.TextLine.{TextLine}
 use Rattle.transcript_defs.specs.declared.rule.Rule.{Rule}
 use Rattle.transcript_defs.specs.declared.rule.Rule.TheVariants as rules
-use Rattle.transcript_defs.specs.Lines.{text_of, IsProper}
+use Rattle.transcript_defs.specs.Lines.{IsProper}
 use Rattle.transcript_defs.specs.Rules.{Spelling, AtPlace, a_line, no_line, the_end, Keeps, rule_number}
 use Rattle.transcript_defs.specs.Sound.{AreSound, texts_of, Stands, Sound, IsUnsound}
-
--- ---- rules by their numbers
-
-all_rules : List Rule
-all_rules = rules.Form ∷ rules.Form ∷ rules.Wire ∷ rules.Packet ∷ rules.Count ∷ rules.Order ∷ rules.Seen ∷ rules.Spelling ∷ rules.End ∷ []
-
-rule_back : (rule : Rule) → slice_get all_rules (rule_number rule) ≡ Some rule
-unfolding all_rules
-rule_back rules.Form = refl
-rule_back rules.Wire = refl
-rule_back rules.Packet = refl
-rule_back rules.Count = refl
-rule_back rules.Order = refl
-rule_back rules.Seen = refl
-rule_back rules.Spelling = refl
-rule_back rules.End = refl
-
-same_found : {X : Type 0} (o : Option X) (a b : X) → o ≡ Some a → o ≡ Some b → a ≡ b
-same_found o a b p q = cc
-
--- two rules of one number are one
-pub one_rule : (a b : Rule) → rule_number a ≡ rule_number b → a ≡ b
-one_rule a b same = same_found (slice_get all_rules (rule_number a)) a b (rule_back a) (ap (slice_get all_rules) same ∙ rule_back b)
-
-pub small : (rule : Rule) → (1 ≤ rule_number rule) × (rule_number rule < 9)
-small rules.Form = (omega arith, omega arith)
-small rules.Wire = (omega arith, omega arith)
-small rules.Packet = (omega arith, omega arith)
-small rules.Count = (omega arith, omega arith)
-small rules.Order = (omega arith, omega arith)
-small rules.Seen = (omega arith, omega arith)
-small rules.Spelling = (omega arith, omega arith)
-small rules.End = (omega arith, omega arith)
-
--- ---- the texts of a list of lines
-
-pub texts_more : (line : TextLine) (past : List TextLine) → texts_of (line ∷ past) ≡ texts_of past ++ text_of line ∷ []
-texts_more line past = ap (map text_of) (reverse-append (line ∷ []) past) ∙ map-append text_of (reverse past) (line ∷ [])
-
-texts_step : (line : TextLine) (past : List TextLine) (text : List ℕ) (rest : List (List ℕ)) → text ≡ text_of line
-    → texts_of past ++ text ∷ rest ≡ texts_of (line ∷ past) ++ rest
-texts_step line past text rest is =
-    ap (λ t. texts_of past ++ t ∷ rest) is
-    ∙ sym (append_assoc (texts_of past) (text_of line ∷ []) rest)
-    ∙ ap (λ ts. ts ++ rest) (sym (texts_more line past))
-
--- ---- neither
+use Rattle.proof_sound_transcripts.proofs.RuleNumbers.{one_rule, small}
+use Rattle.proof_sound_transcripts.proofs.Texts.{texts_step}
 
 pub record Neither (encode : Spelling) (texts : List (List ℕ)) : Type 0 where
   pub not_sound : Sound encode texts → ⊥

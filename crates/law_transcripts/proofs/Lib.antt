@@ -1,4 +1,3 @@
-pub mod Apart
 pub mod Deciding
 pub mod Verified
 pub mod Worked

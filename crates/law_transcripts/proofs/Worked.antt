@@ -34,7 +34,7 @@ use Rattle.transcript_defs.specs.Packets.{Reading}
 use Rattle.transcript_defs.specs.Rules.{Spelling, a_line, the_end, Keeps, KeepsForm, IsOnWire, IsReadable, ShowsCount, IsInOrder, WasSeen, IsSpelled, rule_number}
 use Rattle.transcript_defs.specs.Sound.{Sound, IsUnsound}
 use Rattle.law_transcripts.specs.Worked.{first_packet, counts_no_event, takes_nothing, puts_for_nobody, delivers_no_offer, is_quiet_without_offers, delivers_unseen, spells_nothing, ends_early}
-use Rattle.law_transcripts.proofs.Deciding.{small}
+use Rattle.proof_sound_transcripts.proofs.RuleNumbers.{small}
 
 -- ---- helpers
 

@@ -1,6 +1,6 @@
 -- What the calls of radios give, and what the run makes of them.
-use Rattle.std.proofs.Common.{◌≡◌, ◌==◌, ℕ, ◌+◌, ◌-◌, false, List, [], ◌∷◌, ◌++◌, Option, Some, None, refl, sym, ◌∙◌, ap}
-use Rattle.std.specs.Prelude.{Result, Ok, Err}
+use Rattle.std.proofs.Common.{◌≡◌, ◌==◌, ℕ, ◌+◌, ◌-◌, true, false, List, [], ◌∷◌, ◌++◌, Option, Some, None, refl, sym, ◌∙◌, ap}
+use Rattle.std.specs.Prelude.{Result, Ok, Err, IsSome, is_some}
 use Rattle.std.proofs.lemmas.List.{append-nil}
 use Rattle.gnb_types.specs.declared.keys.EntityKey.{EntityKey}
 use Rattle.gnb_types.specs.Orders.{ue_cmp}
@@ -45,12 +45,16 @@ carries old new key item value h e =
     let k : gives item (with_radio key (record (radio_of old key) { carried = (radio_of old key).carried + 1 }) old) ≡ gives value new = rw e at h in
     (cc, cc)
 
-pub carries_none : {P : Type 0} (old : RadioLinks Octets) (key : EntityKey) (item : Item Octets) (e : LinkError) → carry old key ≡ refuses e
-    → uncarried (radio_of old key) ≡ Some item → P
+-- where one isn't carried no call says that there is none
+pub carries_one : (old : RadioLinks Octets) (key : EntityKey) (e : LinkError) → carry old key ≡ refuses e → IsSome (uncarried (radio_of old key)) → ⊥
 unfolding carry
-carries_none old key item e h is =
-    let k : gives item (with_radio key (record (radio_of old key) { carried = (radio_of old key).carried + 1 }) old) ≡ refuses e = rw is at h in
-    absurd cc
+carries_one old key e h there = by (uncarried (radio_of old key)) refl
+  where
+    by : (o : Option (Item Octets)) → uncarried (radio_of old key) ≡ o → ⊥
+    by None is = (let clash : false ≡ true = sym (ap is_some is) ∙ there in absurd cc)
+    by (Some item) is =
+        let k : gives item (with_radio key (record (radio_of old key) { carried = (radio_of old key).carried + 1 }) old) ≡ refuses e = rw is at h in
+        absurd cc
 
 pub carry_makes : (key : EntityKey) (old new : Network) (item value : Item Octets) (epoch : ℕ) (before lines : List OutLine)
     → carry old.radios key ≡ gives value new.radios → new ≡ record old { radios = new.radios } → uncarried (radio_of old.radios key) ≡ Some item

@@ -8,6 +8,7 @@ pub mod OnControlMessages
 pub mod OnRadios
 pub mod OnTunnels
 pub mod Outstanding
+pub mod PlanLemmas
 pub mod Puts
 pub mod Results
 pub mod Standing

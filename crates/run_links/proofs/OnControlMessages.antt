@@ -50,10 +50,6 @@ gives_control_message : (old new : Bag Octets) (l value : ControlMessage Octets)
     → (value ≡ l) × (new ≡ landed old number)
 gives_control_message old new l value number h there = let k : gives l (landed old number) ≡ gives value new = rw there at h in (cc, cc)
 
-pub gives_none : {P : Type 0} (old : Bag Octets) (l : ControlMessage Octets) (number : ℕ) (error : LinkError) → give old number ≡ refuses error
-    → control_message old number ≡ Some l → P
-gives_none old l number error h there = let k : gives l (landed old number) ≡ refuses error = rw there at h in absurd cc
-
 pub land_makes : (old new : Network) (l value : ControlMessage Octets) (number : ℕ) (before lines : List OutLine) → give old.bag number ≡ gives value new.bag
     → new ≡ record old { bag = new.bag } → control_message old.bag number ≡ Some l
     → lines ≡ before ++ outs.GotMessage (shown_message (λ octets. octets) number value) ∷ []

@@ -1,6 +1,6 @@
 -- Items are put on tunnels and taken from them, and tunnels are closed: what the calls of tunnels give, and what the run makes of it.
 use Rattle.std.proofs.Common.{◌≡◌, ℕ, ◌<◌, ◌≤◌, Bool, true, false, if◌then◌else◌, List, [], ◌∷◌, ◌++◌, length, Option, Some, None, is_some, refl, sym, ◌∙◌, ap, subst, append_assoc, arith}
-use Rattle.std.specs.Prelude.{Result, Ok, Err}
+use Rattle.std.specs.Prelude.{Result, Ok, Err, IsOk, is_ok}
 use Rattle.std.proofs.lemmas.List.{append-nil}
 use Rattle.gnb_types.specs.declared.keys.TunnelEnd.{TunnelEnd}
 use Rattle.gnb_types.specs.declared.reasons.RefuseReason.{RefuseReason}
@@ -20,7 +20,7 @@ use Rattle.run_defs.specs.Events.{taken_off, is_lossy, lose_items, lose_item, lo
 use Rattle.run_defs.specs.UnitRuns.{Records, unit_world}
 use Rattle.run_links.specs.declared.network.Network.{Network}
 use Rattle.run_links.specs.Networks.{Octets, OctetWorld, OctetState, OctetCore, state_of}
-use Rattle.run_links.specs.Told.{GoesTo, EndsAt, Makes, Ends, printed, lost_from, loses}
+use Rattle.run_links.specs.Told.{GoesTo, EndsAt, Makes, Ends, printed, oldest_in, lost_from, loses}
 
 -- ---- an item is put
 
@@ -130,6 +130,17 @@ take_makes end old new item value rest before lines h same there told codec answ
       told ∙ ap (λ (i : Item Octets). before ++ outs.Got (tunnel_link end) (shown i.key i.count i.content) ∷ []) k.0,
       ap (λ (t : OpenTunnels Octets). state_of units core (record old { tunnels = t })) (sym k.1) ∙ ap (λ (g : Network). state_of units core g) (sym same),
     )
+
+-- where one stands no call says that there is none
+pub takes_one : (t : OpenTunnels Octets) (end : TunnelEnd) (e : LinkError) → get t end ≡ refuses e → IsOk (oldest_in (find tunnel_cmp t.tunnels end)) → ⊥
+unfolding get
+takes_one t end e h there = by (find tunnel_cmp t.tunnels end) refl
+  where
+    by : (o : Option (List (Item Octets))) → find tunnel_cmp t.tunnels end ≡ o → ⊥
+    by None is = (let clash : false ≡ true = sym (ap (λ (o : Option (List (Item Octets))). is_ok (oldest_in o)) is) ∙ there in absurd cc)
+    by (Some []) is = (let clash : false ≡ true = sym (ap (λ (o : Option (List (Item Octets))). is_ok (oldest_in o)) is) ∙ there in absurd cc)
+    by (Some (item ∷ rest)) is =
+        let k : gives item (record t { tunnels = put tunnel_cmp t.tunnels end rest }) ≡ refuses e = rw is at h in absurd cc
 
 -- ---- the oldest item is lost
 

@@ -1,3 +1,4 @@
 pub mod Networks
 pub mod Spans
 pub mod Told
+pub mod inside

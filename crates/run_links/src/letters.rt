@@ -1,6 +1,6 @@
 //! Control messages: they are put, given and lost, with the lines of it.
 
-ghost use Rattle.std.specs.Prelude.{◌≡◌, ◌<◌, List, ℕ, IfOk, OnOk, Some, option_copied, length, not, nat_lt, ◌+◌};
+ghost use Rattle.std.specs.Prelude.{◌≡◌, ◌<◌, List, ℕ, IfOk, IsSome, OnOk, Some, option_copied, length, not, nat_lt, ◌+◌};
 ghost use Rattle.transport_defs.specs.declared.ControlMessage.{ControlMessage};
 ghost use Rattle.transport_defs.specs.Links.{control_message, most_control_messages};
 ghost use Rattle.links.specs.links_bag.Bags.{message};
@@ -92,8 +92,9 @@ impl Network {
             Ok(number) => lines.push(OutLine::PutMessage {
                 message: shown_message(number, from, to, ue, bytes),
             }),
-            // There is room, so that only memory is left.
-            Err(_) => Err(Memory::told()),
+            Err(LinkError::Memory) => Err(Memory::told()),
+            // There is room.
+            Err(_) => unreachable!(),
         }
     }
 
@@ -111,8 +112,9 @@ impl Network {
         self.bag.least()
     }
 
-    /// A control message lands at its receiver.
+    /// A control message that was put lands at its receiver.
     pub fn land(&mut self, number: u32, lines: &mut Lines) -> Result<(), Memory>
+        requires { IsSome (control_message self.old.bag number) }
         ensures { OnOk result ((l : ControlMessage (List ℕ)) → control_message self.old.bag number ≡ Some l
             → Makes (λ world. landed_as world number l) self.old self.new lines.old lines.new) }
     {
@@ -120,8 +122,9 @@ impl Network {
             Ok(control_message) => lines.push(OutLine::GotMessage {
                 message: shown_control_message(number, control_message),
             }),
-            // The caller saw the message, so that only memory is left.
-            Err(_) => Err(Memory::told()),
+            Err(LinkError::Memory) => Err(Memory::told()),
+            // The message was put, so that it is given as often as one likes.
+            Err(_) => unreachable!(),
         }
     }
 

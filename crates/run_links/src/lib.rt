@@ -7,7 +7,7 @@ mod control_messages;
 pub mod lines;
 pub mod network;
 mod outputs;
-mod plans;
+pub mod plans;
 mod radios;
 pub mod spans;
 mod tunnels;

@@ -1,12 +1,13 @@
 //! What a run keeps beside its units and its core.
 
-ghost use Rattle.std.specs.Prelude.{◌≡◌, ◌++◌, ◌∷◌, [], IfOk, OnOk, option_copied, true};
+ghost use Rattle.std.specs.Prelude.{◌≡◌, ◌++◌, ◌∷◌, [], IfOk, IfSome, OnOk, option_copied, true};
 ghost use Rattle.gnb_types.specs.Orders.{ue_cmp, entity_cmp};
 ghost use Rattle.tables.specs.Tables.{find, put, at};
 ghost use Rattle.run_defs.specs.States.{new_book};
 ghost use Rattle.run_links.specs.Networks.{new_network, noted_in, offered_in, delivered_in};
 
 use crate::book::Book;
+use crate::plans::Plans;
 use gnb_types::items::{Items, Memory};
 use gnb_types::keys::EntityKey;
 use gnb_types::names::UeId;
@@ -25,7 +26,7 @@ pub struct Network {
     pub bag: Bag,
     pub tunnels: Tunnels,
     pub radios: Radios,
-    pub plans: Table<UeId, Plan>,
+    pub plans: Plans,
     pub gone: Items<UeId>,
     pub books: Table<EntityKey, Book>,
     pub started: bool,
@@ -43,7 +44,7 @@ impl Network {
             bag,
             tunnels,
             radios,
-            plans: Table::new(alloc),
+            plans: Plans::new(alloc),
             gone: Items::new(alloc),
             books: Table::new(alloc),
             started: false,
@@ -66,17 +67,17 @@ impl Network {
 
     /// The plan of a terminal that was ever attached.
     pub fn plan(&self, ue: UeId) -> Option<&Plan>
-        ensures { option_copied result ≡ find ue_cmp self.now.plans ue }
+        ensures plan { option_copied result ≡ find ue_cmp self.now.plans ue }
+        ensures own { IfSome result (λ plan. plan.now.ue ≡ ue) }
     {
-        self.plans.get(&ue)
+        self.plans.get(ue)
     }
 
     /// A terminal is attached by this plan.
     pub fn seat(&mut self, plan: Plan) -> Result<(), Memory>
         ensures { OnOk result (self.new ≡ record self.old { plans = put ue_cmp self.old.plans plan.ue plan }) }
     {
-        self.plans.put(plan.ue, plan)?;
-        Ok(())
+        self.plans.put(plan)
     }
 
     /// How many packets of a bearer and direction there were.

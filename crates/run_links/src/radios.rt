@@ -1,6 +1,6 @@
 //! Radios: items are put, carried and confirmed, with the lines of it; and all that stands on those of a terminal is lost.
 
-ghost use Rattle.std.specs.Prelude.{◌≡◌, ◌==◌, ◌∷◌, List, ℕ, OnOk, Some, option_copied, false};
+ghost use Rattle.std.specs.Prelude.{◌≡◌, ◌==◌, ◌∷◌, List, ℕ, IsSome, OnOk, Some, option_copied, false};
 ghost use Rattle.gnb_types.specs.Orders.{ue_cmp, entity_cmp};
 ghost use Rattle.tables.specs.Tables.{find, at};
 ghost use Rattle.transport_defs.specs.declared.Item.{Item};
@@ -20,6 +20,7 @@ use crate::network::Network;
 use gnb_types::items::Memory;
 use gnb_types::keys::EntityKey;
 use gnb_types::names::UeId;
+use links::error::LinkError;
 use links::items::Item;
 use scenario_text::line::OutLine;
 
@@ -86,8 +87,10 @@ impl Network {
         self.radios.carried(key.ue, key.bearer, key.dir)
     }
 
-    /// The oldest item that isn't carried is carried.
+    /// The oldest item that isn't carried is carried. There is one.
+    #[tactic(auto, using(crate::proofs::Carrying::carries_one))]
     pub fn carry_off(&mut self, key: EntityKey, lines: &mut Lines) -> Result<(), Memory>
+        requires { IsSome (uncarried (at entity_cmp silent self.old.radios.radios key)) }
         ensures told { OnOk result ((item : Item (List ℕ)) → uncarried (at entity_cmp silent self.old.radios.radios key) ≡ Some item
             → Makes (λ world. carried_off world key item) self.old self.new lines.old lines.new) }
         ensures bag { self.new.bag ≡ self.old.bag }
@@ -98,8 +101,9 @@ impl Network {
                 link,
                 item: show_taken(item),
             }),
-            // The caller saw an item there, so that only memory is left.
-            Err(_) => Err(Memory::told()),
+            Err(LinkError::Memory) => Err(Memory::told()),
+            // An item stands there.
+            Err(_) => unreachable!(),
         }
     }
 

@@ -67,7 +67,7 @@ impl Network {
     fn sn(&self, ue: UeId) -> SnBits
         ensures { result ≡ sn_in (find ue_cmp self.now.plans ue) }
     {
-        match self.plans.get(&ue) {
+        match self.plans.get(ue) {
             Some(plan) => plan.sn,
             None => SnBits::Len12,
         }

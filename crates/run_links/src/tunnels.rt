@@ -1,6 +1,6 @@
 //! Tunnels: items are put, taken and lost, with the lines of it; tunnels are opened and closed.
 
-ghost use Rattle.std.specs.Prelude.{◌≡◌, ◌∷◌, [], List, ℕ, IfOk, OnOk, Some};
+ghost use Rattle.std.specs.Prelude.{◌≡◌, ◌∷◌, [], List, ℕ, IfOk, IsOk, OnOk, Some};
 ghost use Rattle.gnb_types.specs.Orders.{tunnel_cmp};
 ghost use Rattle.tables.specs.Tables.{find};
 ghost use Rattle.transport_defs.specs.declared.Item.{Item};
@@ -8,7 +8,7 @@ ghost use Rattle.run_defs.specs.Steps.{put_on_tunnel, with_tunnel, opens, closes
 ghost use Rattle.run_defs.specs.Events.{taken_off, is_lossy, lose_item};
 ghost use Rattle.scenario_text.specs.declared.line.OutLine.{OutLine as ShownLine};
 ghost use Rattle.run_links.specs.Networks.{OctetWorld};
-ghost use Rattle.run_links.specs.Told.{Makes, Ends, ShowsOldest, loses, lost_by, stands_on};
+ghost use Rattle.run_links.specs.Told.{Makes, Ends, ShowsOldest, oldest_in, loses, lost_by, stands_on};
 
 use crate::lines::{Lines, show, show_taken, tunnel_link};
 use crate::network::Network;
@@ -100,8 +100,10 @@ impl Network {
         }
     }
 
-    /// The oldest item of a tunnel is taken.
+    /// The oldest item of a tunnel is taken. There is one.
+    #[tactic(auto, using(crate::proofs::OnTunnels::takes_one))]
     pub fn take_off(&mut self, end: TunnelEnd, lines: &mut Lines) -> Result<(), Memory>
+        requires { IsOk (oldest_in (find tunnel_cmp self.old.tunnels.tunnels end)) }
         ensures told { OnOk result ((item : Item (List ℕ)) (rest : List (Item (List ℕ)))
             → find tunnel_cmp self.old.tunnels.tunnels end ≡ Some (item ∷ rest)
             → Makes (λ world. taken_off world end item rest) self.old self.new lines.old lines.new) }
@@ -113,8 +115,8 @@ impl Network {
                 link,
                 item: show_taken(item),
             }),
-            // The caller saw an item there.
-            Err(_) => Err(Memory::told()),
+            // An item stands there.
+            Err(_) => unreachable!(),
         }
     }
 

@@ -1,10 +1,9 @@
 -- What the calls of units give, against what their meaning says.
-use Rattle.std.specs.Prelude.{◌≡◌, ℕ, Bool, true, false, ◌&&◌, List, [], ◌∷◌, Result, Ok, Err, is_some}
+use Rattle.std.specs.Prelude.{◌≡◌, Bool, true, false, ◌&&◌, List, [], ◌∷◌, Result, Ok, Err, is_some}
 use Rattle.gnb_types.specs.declared.names.NodeId.{NodeId}
 use Rattle.gnb_types.specs.declared.plans.Plan.{Plan}
-use Rattle.gnb_types.specs.declared.names.NodeId.TheVariants.{CuCp, CuUp, Du}
-use Rattle.gnb_types.specs.declared.names.UeId.{UeId}
-use Rattle.gnb_types.specs.Orders.{node_cmp, ue_cmp}
+use Rattle.gnb_types.specs.declared.names.NodeId.TheVariants.{CuUp}
+use Rattle.gnb_types.specs.Orders.{node_cmp}
 use Rattle.gnb_types.specs.declared.inputs.Order.{Order}
 use Rattle.gnb_types.specs.declared.inputs.Order.TheVariants as orders
 use Rattle.gnb_types.specs.declared.inputs.Input.{Input}
@@ -14,11 +13,9 @@ use Rattle.gnb_types.specs.declared.outputs.Output.TheVariants as outs
 use Rattle.gnb_types.specs.declared.reasons.HeldReason.{HeldReason}
 use Rattle.gnb_types.specs.declared.reasons.RefuseReason.{RefuseReason}
 use Rattle.tables.specs.Tables.{find}
-use Rattle.unit_defs.specs.Accessors.{is_set_up}
-use Rattle.unit_defs.specs.CuCpRecords.{CuCpRecord}
 use Rattle.unit_defs.specs.Static.{cu_up_has_room, cu_up_has_teids, du_has_teids}
 use Rattle.unit_defs.specs.Ways.{teids_spent}
-use Rattle.run_defs.specs.Units.{cu_cp_of, cu_up_of, du_of}
+use Rattle.run_defs.specs.Units.{cu_up_of, du_of}
 use Rattle.run_defs.specs.Conditions.{units_placed, all_set_up}
 use Rattle.run_defs.specs.UnitRuns.{Records, Meaning, UnitAnswer, unit_gives, unit_spent}
 use Rattle.unit_messages.specs.declared.steps.StepError.{StepError}
@@ -32,40 +29,26 @@ StepGives answer after (Ok outputs) = answer ≡ unit_gives outputs after
 StepGives answer after (Err (errors.Spent counter)) = answer ≡ unit_spent counter
 StepGives answer after (Err errors.Memory) = Unit {0}
 
--- ---- What a run asks of its units: a CU-CP gets an order for a terminal that it knows, an attach where both units of the plan are set up, and
--- a CU-UP that is there is polled. Whatever else a unit is given may be anything.
+-- ---- A CU-UP that is polled is there: it has a record. One that has none would get one with its answer. Whatever else a unit is given may be
+-- anything.
 
-abbrev pub knows : UeId → CuCpRecord (List ℕ) (List ℕ) → Type 0
-knows ue cp = is_some (find ue_cmp cp.terminals ue) ≡ true
+abbrev pub HasRecord : Records → NodeId → Type 0
+HasRecord r (CuUp gnb number) = is_some (find node_cmp r.ups (CuUp gnb number)) ≡ true
+HasRecord r node = Unit {0}
 
-abbrev pub has_units : Plan → CuCpRecord (List ℕ) (List ℕ) → Type 0
-has_units plan cp = (is_set_up cp (CuUp plan.gnb plan.up) && is_set_up cp (Du plan.gnb plan.du)) ≡ true
+abbrev pub IsOrderedThere : Records → NodeId → Order → Type 0
+IsOrderedThere r node (orders.Poll ue bearer) = HasRecord r node
+IsOrderedThere r node order = Unit {0}
 
-abbrev pub at_cu_cp : (CuCpRecord (List ℕ) (List ℕ) → Type 0) → Records → NodeId → Type 0
-at_cu_cp P r (CuCp gnb) = P (cu_cp_of r gnb)
-at_cu_cp P r node = Unit {0}
+abbrev pub IsThere : Records → NodeId → Input → Type 0
+IsThere r node (ins.Order order) = IsOrderedThere r node order
+IsThere r node input = Unit {0}
 
-abbrev pub at_cu_up : Records → NodeId → Type 0
-at_cu_up r (CuUp gnb number) = is_some (find node_cmp r.ups (CuUp gnb number)) ≡ true
-at_cu_up r node = Unit {0}
-
-abbrev pub IsOrdered : Records → NodeId → Order → Type 0
-IsOrdered r node (orders.Attach plan) = at_cu_cp (has_units plan) r node
-IsOrdered r node (orders.Handover plan) = at_cu_cp (knows plan.ue) r node
-IsOrdered r node (orders.Cancel ue) = at_cu_cp (knows ue) r node
-IsOrdered r node (orders.Release ue) = at_cu_cp (knows ue) r node
-IsOrdered r node (orders.Poll ue bearer) = at_cu_up r node
-IsOrdered r node order = Unit {0}
-
-abbrev pub IsAsked : Records → NodeId → Input → Type 0
-IsAsked r node (ins.Order order) = IsOrdered r node order
-IsAsked r node input = Unit {0}
-
--- where a unit holds what it is asked, or refuses an event, that is its only output and nothing changes
+-- where a unit holds what it is given, or refuses an event, that is its only output and nothing changes
 pub record LeavesAll (answer : Meaning) (r : Records) : Type 0 where
-  pub holding : (after : Records) (node : NodeId) (input : Input) (reason : HeldReason) → IsAsked r node input
+  pub holding : (after : Records) (node : NodeId) (input : Input) (reason : HeldReason) → IsThere r node input
       → answer r node input ≡ unit_gives (outs.Held reason ∷ []) after → after ≡ r
-  pub refusing : (after : Records) (node : NodeId) (input : Input) (reason : RefuseReason) → IsAsked r node input
+  pub refusing : (after : Records) (node : NodeId) (input : Input) (reason : RefuseReason) → IsThere r node input
       → answer r node input ≡ unit_gives (outs.No reason ∷ []) after → after ≡ r
 
 -- a terminal is set up without messages: where there are blocks and TEIDs it is placed; without blocks nothing changes; else the counter

@@ -27,7 +27,7 @@ use unit_messages::MessageCodec;
 use unit_messages::steps::StepError;
 
 /// The units of both gNBs and the terminals. What they are is `records`, and `answer` says what one of them makes of an input: it may
-/// be any function of the records, the unit and the input that leaves all where the unit holds what a run asks of it, or refuses an event.
+/// be any function of the records, the unit and the input that leaves all where the unit holds what it is given, or refuses an event.
 /// `ready` holds once `begin` was called, as long as no call gave an error.
 pub trait Units<C: MessageCodec> {
     ghost records: { Self → Records };

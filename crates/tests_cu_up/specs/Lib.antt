@@ -1,1 +1,2 @@
 pub mod FewMessages
+pub mod ue

@@ -1,4 +1,4 @@
-//! Tests of the steps of a CU-UP, by public calls alone.
+//! Tests of the steps of a CU-UP and of a terminal, between which packets go, by public calls alone.
 #![tactic(auto)]
 
 #[cfg(test)]
@@ -11,3 +11,4 @@ mod reasons;
 mod rows;
 #[cfg(test)]
 mod steps;
+pub mod ue;

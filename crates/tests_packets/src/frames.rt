@@ -95,44 +95,15 @@ fn is_in_packet(alloc: Global, frame: &Frame, packet: &str) -> bool {
 }
 
 /// Packets, and of the data frame in each whether it polls, whether its numbers begin anew, and its number.
+#[rattlefmt::skip]
 const DATA_FRAMES: [(&str, bool, bool, u32); 7] = [
-    (
-        "34FF000F00000001000000840200000000000000800045",
-        false,
-        false,
-        0,
-    ),
-    (
-        "34FF00100000000100000084020000000000000080000045",
-        false,
-        false,
-        0,
-    ),
+    ("34FF000F00000001000000840200000000000000800045", false, false, 0),
+    ("34FF00100000000100000084020000000000000080000045", false, false, 0),
     ("34FF000C00000001000000840201000000010000", true, false, 1),
-    (
-        "34FF000F00000001000000840200010000020000800001",
-        false,
-        true,
-        2,
-    ),
-    (
-        "34FF000F00000001000000840200000000030000800102",
-        false,
-        false,
-        3,
-    ),
-    (
-        "34FF000F00000001000000840200010000030000800102",
-        false,
-        true,
-        3,
-    ),
-    (
-        "34FF000F00000001000000840200000000010000800001",
-        false,
-        false,
-        1,
-    ),
+    ("34FF000F00000001000000840200010000020000800001", false, true, 2),
+    ("34FF000F00000001000000840200000000030000800102", false, false, 3),
+    ("34FF000F00000001000000840200010000030000800102", false, true, 3),
+    ("34FF000F00000001000000840200000000010000800001", false, false, 1),
 ];
 
 fn is_data(alloc: Global, packet: &str, poll: bool, restart: bool, sn: u32) -> bool {
@@ -148,24 +119,13 @@ fn data_frames_in_packets(rt: HostRuntime) {
 }
 
 /// Packets, and of the status in each the ranges that are lost, and the number that was delivered.
+#[rattlefmt::skip]
 const STATUSES: [(&str, &[(u32, u32)], Option<u32>); 4] = [
-    (
-        "34FF00100000000200000084031400000100000000000000",
-        &[],
-        Some(0),
-    ),
+    ("34FF00100000000200000084031400000100000000000000", &[], Some(0)),
     ("34FF000C00000002000000840210000001000000", &[], None),
-    (
-        "34FF0014000000020000008404110000010000010000000000000000",
-        &[(0, 0)],
-        None,
-    ),
+    ("34FF0014000000020000008404110000010000010000000000000000", &[(0, 0)], None),
     // by hand: numbers 1 and 2 and number 5 lost, 258 delivered, all flags of a status
-    (
-        "34FF001C0000000200000084061500000100000200000100000200000500000500010200",
-        &[(1, 2), (5, 5)],
-        Some(258),
-    ),
+    ("34FF001C0000000200000084061500000100000200000100000200000500000500010200", &[(1, 2), (5, 5)], Some(258)),
 ];
 
 fn is_status(alloc: Global, packet: &str, lost: &[(u32, u32)], delivered: Option<u32>) -> bool {

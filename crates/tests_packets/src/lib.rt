@@ -10,6 +10,5 @@ mod gtpu_packets;
 mod links_tests;
 #[cfg(test)]
 mod pdus;
-pub mod tests_forwarding;
 pub mod tests_links;
 pub mod tests_transactions;

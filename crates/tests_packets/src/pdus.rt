@@ -11,59 +11,18 @@ use std::alloc::Global;
 /// COUNT, the number, and the packet.
 type DataPdu = (&'static str, usize, SnBits, u32, u32, &'static str);
 
+#[rattlefmt::skip]
 const DATA_PDUS: [DataPdu; 10] = [
     ("800045", 0, SnBits::Len12, 0, 0, "45"),
-    (
-        "34FF000F00000001000000840200000000000000800045",
-        20,
-        SnBits::Len12,
-        0,
-        0,
-        "45",
-    ),
+    ("34FF000F00000001000000840200000000000000800045", 20, SnBits::Len12, 0, 0, "45"),
     ("30FF000300000002800045", 8, SnBits::Len12, 0, 0, "45"),
-    (
-        "34FF000F00000001000000840200000000010000800001",
-        20,
-        SnBits::Len12,
-        0,
-        0,
-        "01",
-    ),
-    (
-        "34FF000F00000001000000840200010000020000800001",
-        20,
-        SnBits::Len12,
-        0,
-        0,
-        "01",
-    ),
-    (
-        "34FF000F00000001000000840200000000030000800102",
-        20,
-        SnBits::Len12,
-        1,
-        1,
-        "02",
-    ),
-    (
-        "34FF000F00000001000000840200010000030000800102",
-        20,
-        SnBits::Len12,
-        1,
-        1,
-        "02",
-    ),
+    ("34FF000F00000001000000840200000000010000800001", 20, SnBits::Len12, 0, 0, "01"),
+    ("34FF000F00000001000000840200010000020000800001", 20, SnBits::Len12, 0, 0, "01"),
+    ("34FF000F00000001000000840200000000030000800102", 20, SnBits::Len12, 1, 1, "02"),
+    ("34FF000F00000001000000840200010000030000800102", 20, SnBits::Len12, 1, 1, "02"),
     ("8FFF45", 0, SnBits::Len12, 4095, 4095, "45"),
     ("800045", 0, SnBits::Len12, 4096, 0, "45"),
-    (
-        "34FF00100000000100000084020000000000000080000045",
-        20,
-        SnBits::Len18,
-        0,
-        0,
-        "45",
-    ),
+    ("34FF00100000000100000084020000000000000080000045", 20, SnBits::Len18, 0, 0, "45"),
 ];
 
 /// Whether a packet is written with this COUNT as these octets.
@@ -145,6 +104,7 @@ fn status_reports(rt: HostRuntime) {
     assert!(rt; writes_report(alloc, 0, &[], &[0, 0, 0, 0, 0]) == Ok(true));
 }
 
+#[rattlefmt::skip]
 const REFUSALS: [(SnBits, &[u8], PduError); 8] = [
     (SnBits::Len12, &[], PduError::Truncated),
     (SnBits::Len12, &[0x80, 0], PduError::Truncated),
@@ -152,16 +112,8 @@ const REFUSALS: [(SnBits, &[u8], PduError); 8] = [
     (SnBits::Len12, &[0, 0, 0, 0], PduError::Truncated),
     (SnBits::Len18, &[0x10, 0, 0, 0], PduError::Truncated),
     (SnBits::Len12, &[0x10, 0, 0, 0, 0], PduError::ControlKind),
-    (
-        SnBits::Len18,
-        &[0x40, 0, 0, 0, 5, 0x60],
-        PduError::ControlKind,
-    ),
-    (
-        SnBits::Len18,
-        &[0x7f, 0, 0, 0, 5, 0x60],
-        PduError::ControlKind,
-    ),
+    (SnBits::Len18, &[0x40, 0, 0, 0, 5, 0x60], PduError::ControlKind),
+    (SnBits::Len18, &[0x7f, 0, 0, 0, 5, 0x60], PduError::ControlKind),
 ];
 
 fn is_refused(sn: SnBits, octets: &[u8], reason: PduError) -> bool {

@@ -1,1 +1,4 @@
 pub mod AtCuUp
+pub mod FieldLaws
+pub mod LineLaws
+pub mod WideNumbers

@@ -1,4 +1,7 @@
-//! What a checker of transcripts asks of single lines: what the octets of an item say on its link.
+//! A checker of transcripts (what the octets of an item say on its link, what line a text is, and which rules it keeps).
 #![tactic(auto)]
 
+pub mod checker;
+pub mod lines;
 pub mod packets;
+pub mod spells;

@@ -1,2 +1,3 @@
+mod OutLemmas
 pub mod StoredLemmas
 mod UmLemmas

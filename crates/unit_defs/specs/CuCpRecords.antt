@@ -1,6 +1,6 @@
 -- What a CU-CP keeps (TS 38.401, 6.1.2), and how its rows are told: a row is what it says to others, in order, and what it keeps of
 -- the terminal then. What it says is carried out over the requests and replies of the unit.
-use Rattle.std.specs.Prelude.{◌==◌, ℕ, zero, suc, ◌-◌, ◌^◌, Bool, false, not, ◌&&◌, if◌then◌else◌, List, [], ◌∷◌, ◌++◌, map, filter, Option, Some, None}
+use Rattle.std.specs.Prelude.{◌==◌, ℕ, zero, suc, ◌-◌, ◌^◌, Bool, false, not, ◌&&◌, if◌then◌else◌, List, [], ◌∷◌, ◌++◌, map, filter, Option, Some, None, is_none, is_some}
 use Rattle.std.specs.List.{list_any}
 use Rattle.gnb_types.specs.declared.names.Gnb.{Gnb}
 use Rattle.gnb_types.specs.declared.names.NodeId.{NodeId}
@@ -90,8 +90,17 @@ terminal_in (Some t) = t
 abbrev pub terminal_of : {M C : Type 0} → CuCpRecord M C → UeId → CuCpTerminal
 terminal_of r ue = terminal_in (find ue_cmp r.terminals ue)
 
+-- a terminal of which nothing is to be kept
+abbrev pub is_blank : CuCpTerminal → Bool
+is_blank t = is_none t.context && is_none t.taken
+
+-- A terminal has an entry once there was something to keep of it: so a refused order, and a message for a terminal without context, leave a
+-- record as it was.
+abbrev pub kept_terminals : List (UeId × CuCpTerminal) → UeId → CuCpTerminal → List (UeId × CuCpTerminal)
+kept_terminals ts ue t = if is_blank t && not (is_some (find ue_cmp ts ue)) then ts else put ue_cmp ts ue t
+
 abbrev pub with_terminal : {M C : Type 0} → UeId → CuCpRecord M C → CuCpTerminal → CuCpRecord M C
-with_terminal ue r t = record r { terminals = put ue_cmp r.terminals ue t }
+with_terminal ue r t = record r { terminals = kept_terminals r.terminals ue t }
 
 abbrev pub with_transactions : {M C : Type 0} → CuCpRecord M C → Transactions M C → CuCpRecord M C
 with_transactions r t = record r { transactions = t }

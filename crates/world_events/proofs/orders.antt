@@ -1,3 +1,3 @@
 pub mod AsOrders
-pub mod Known
+pub mod Given
 pub mod Released

@@ -14,7 +14,7 @@ use Rattle.unit_defs.specs.octet_defs.Codec.{Codec}
 use Rattle.run_defs.specs.States.{Stop, spent_counter, as_step}
 use Rattle.run_defs.specs.Steps.{is_done, does, carried_out, too_many_control_messages}
 use Rattle.run_defs.specs.UnitRuns.{Records, Meaning, UnitAnswer, unit_gives, OctetGiven, input_of, put_of, stepped_by, unit_world}
-use Rattle.run_units.specs.Steps.{StepGives, IsAsked, LeavesAll}
+use Rattle.run_units.specs.Steps.{StepGives, IsThere, LeavesAll}
 use Rattle.run_links.specs.Networks.{OctetState, OctetWorld, OctetWithin, OctetOutcome}
 use Rattle.run_links.specs.Told.{GoesTo}
 use Rattle.world_steps.specs.declared.cause.Cause.{Cause}
@@ -39,15 +39,15 @@ comes_of_error world s node answer after (errors.Spent counter) h =
 comes_of_error world s node answer after errors.Memory h = tt
 
 pub comes_of_outputs : (world : OctetWorld) (meaning : Meaning) (s : OctetState) (node : NodeId) (input : Input) (outputs : List Output)
-    (after : Records) (room many : Bool) (result : Result Asked Cause) → LeavesAll meaning s.units → IsAsked s.units node input
+    (after : Records) (room many : Bool) (result : Result Asked Cause) → LeavesAll meaning s.units → IsThere s.units node input
     → meaning s.units node input ≡ unit_gives outputs after → many ≡ too_many_control_messages world (map put_of outputs) s → room ≡ not many
     → SortsTo outputs room result
     → ComesOf (record { world = world; state = s; node = node; stepped = stepped_by (meaning s.units node input) }) after result
-comes_of_outputs world meaning s node input outputs after room many result leaves asked is few open_ sorts =
+comes_of_outputs world meaning s node input outputs after room many result leaves there is few open_ sorts =
     subst (λ (a : UnitAnswer). ComesOf (record { world = world; state = s; node = node; stepped = stepped_by a }) after result) (sym is)
     (comes_of world s node outputs after room result (open_ ∙ ap not few) sorts
-    (λ reason h. leaves.holding after node input reason asked (is ∙ ap (λ (os : List Output). unit_gives os after) h))
-    (λ reason h. leaves.refusing after node input reason asked (is ∙ ap (λ (os : List Output). unit_gives os after) h)))
+    (λ reason h. leaves.holding after node input reason there (is ∙ ap (λ (os : List Output). unit_gives os after) h))
+    (λ reason h. leaves.refusing after node input reason there (is ∙ ap (λ (os : List Output). unit_gives os after) h)))
 
 -- ---- a step of a run
 

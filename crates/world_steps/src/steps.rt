@@ -3,7 +3,7 @@
 ghost use Rattle.std.specs.Prelude.{◌≡◌, false, nat_lt, ◌+◌, List, length, map, None, OnOk};
 ghost use Rattle.transport_defs.specs.Links.{most_control_messages};
 ghost use Rattle.run_defs.specs.plain_defs.Plain.{IsGiven};
-ghost use Rattle.run_units.specs.Steps.{IsAsked};
+ghost use Rattle.run_units.specs.Steps.{IsThere};
 ghost use Rattle.run_defs.specs.States.{goes_on};
 ghost use Rattle.run_defs.specs.Steps.{reconnect_node, check_spans, does, step};
 ghost use Rattle.scenario_text.specs.declared.line.OutLine.{OutLine as ShownLine};
@@ -43,7 +43,7 @@ impl<U: Units<C> + Drop, C: MessageCodec + Drop> RunState<U, C> {
     pub fn ask(&mut self, node: NodeId, input: Input) -> Result<Asked, Cause>
         requires ready { U.ready self.old.units }
         requires given { IsGiven input }
-        requires asked { IsAsked (U.records self.old.units) node input }
+        requires there { IsThere (U.records self.old.units) node input }
         ensures ready { OnOk result (U.ready self.new.units) }
         ensures came { ComesOf (record {
           world = unit_world C.codec U.answer;
@@ -123,7 +123,7 @@ impl<U: Units<C> + Drop, C: MessageCodec + Drop> RunState<U, C> {
     ) -> Result<Moved, Cause>
         requires ready { U.ready self.old.units }
         requires given { IsGiven input }
-        requires asked { IsAsked (U.records self.old.units) node input }
+        requires there { IsThere (U.records self.old.units) node input }
         ensures ready { OnOk result (U.ready self.new.units) }
         ensures gives { (given : OctetGiven) → input_of given ≡ input → StepOutcome
             (does (unit_world C.codec U.answer) node given None goes_on (state_of (U.records self.old.units) self.old.core self.old.network))
@@ -145,7 +145,7 @@ impl<U: Units<C> + Drop, C: MessageCodec + Drop> RunState<U, C> {
     pub fn step(&mut self, node: NodeId, input: Input, lines: &mut Lines) -> Result<(), Cause>
         requires ready { U.ready self.old.units }
         requires given { IsGiven input }
-        requires asked { IsAsked (U.records self.old.units) node input }
+        requires there { IsThere (U.records self.old.units) node input }
         ensures ready { OnOk result (U.ready self.new.units) }
         ensures gives { (given : OctetGiven) → input_of given ≡ input → EventGives lines.old
             (step (unit_world C.codec U.answer) node given (state_of (U.records self.old.units) self.old.core self.old.network))

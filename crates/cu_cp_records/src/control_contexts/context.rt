@@ -1,7 +1,7 @@
 //! A terminal: its context, and the greatest epoch that it told.
 
 ghost use Rattle.std.specs.Prelude.{◌≡◌, Some, None, IfOk};
-ghost use Rattle.unit_defs.specs.CuCpRecords.{attempted, serving, no_terminal};
+ghost use Rattle.unit_defs.specs.CuCpRecords.{attempted, serving, no_terminal, is_blank};
 
 use crate::control_contexts::attempt::Attempt;
 use gnb_types::items::Memory;
@@ -118,6 +118,13 @@ impl Terminal {
             context: None,
             taken: None,
         }
+    }
+
+    /// Whether nothing is to be kept of it.
+    pub fn is_blank(&self) -> bool
+        ensures { result ≡ is_blank self.now }
+    {
+        self.context.is_none() && self.taken.is_none()
     }
 
     pub fn copy(&self, alloc: Global) -> Result<Terminal, Memory>

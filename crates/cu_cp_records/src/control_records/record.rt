@@ -89,11 +89,14 @@ impl ControlRecord {
         Ok(ues)
     }
 
-    /// Keeps this of a terminal. Out of memory nothing changes.
+    /// Keeps this of a terminal: it gets an entry once there is something to keep. Out of memory nothing changes.
     pub fn put_terminal(&mut self, ue: UeId, terminal: Terminal) -> Result<(), Memory>
         ensures ok { OnOk result (self.new ≡ with_terminal ue self.old terminal) }
         ensures err { OnErr result (self.new ≡ self.old) }
     {
+        if terminal.is_blank() && !self.terminals.has(&ue) {
+            return Ok(());
+        }
         self.terminals.put(ue, terminal)?;
         Ok(())
     }

@@ -17,7 +17,7 @@ use Rattle.message_defs.specs.Places.{has, the, elements_in}
 use Rattle.message_defs.specs.Known.{known, known_row, known_body, known_message}
 use Rattle.message_defs.specs.FromValue.{Cause, unknown_procedure, first_rejected, unless_rejected, rejected_in}
 use Rattle.message_defs.specs.Core.{written_core, core_at, core_from_value}
-use Rattle.law_messages.proofs.FromValueCore.{from_value}
+use Rattle.proof_heard_messages.proofs.HeardCore.{heard}
 use Rattle.proof_messages.proofs.message_elements.Rounds.{ue_is, word_is, peer_is, tunnels_is}
 use Rattle.proof_messages.proofs.message_elements.Matched.{none, one, must, its_tree, inside, are_its, known_body_is, code_is, outcome_is, answer_is, here}
 
@@ -28,7 +28,7 @@ same_answer : (a b : CoreMessage) → (let x : Result CoreMessage Cause = Ok a i
 same_answer a b h = cc
 
 only : (a b : CoreMessage) → written_core a ≡ written_core b → a ≡ b
-only a b h = same_answer a b (sym (from_value a) ∙ ap core_from_value h ∙ from_value b)
+only a b h = same_answer a b (sym (heard a) ∙ ap core_from_value h ∙ heard b)
 
 path_switch_request_in : Value → CoreMessage
 path_switch_request_in body = cores.PathSwitchRequest (the ies.ue to_ue (elements_in body)) (the ies.instance to_number (elements_in body)) (the ies.peer to_peer (elements_in body)) (the ies.n3 to_tunnels (elements_in body))

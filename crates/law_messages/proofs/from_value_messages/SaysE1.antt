@@ -17,7 +17,7 @@ use Rattle.message_defs.specs.Places.{has, may_have, the, any, elements_in}
 use Rattle.message_defs.specs.Known.{known, known_row, known_body, known_message}
 use Rattle.message_defs.specs.FromValue.{Cause, unknown_procedure, first_rejected, unless_rejected, rejected_in}
 use Rattle.message_defs.specs.E1.{written_e1, e1_at, e1_from_value}
-use Rattle.law_messages.proofs.FromValueE1.{from_value}
+use Rattle.proof_heard_messages.proofs.HeardE1.{heard}
 use Rattle.proof_messages.proofs.message_elements.Rounds.{ue_is, word_is, bearer_is, unit_is, quota_is, cause_is, mode_is, sn_is, flag_is, name_is, peer_is, tunnels_is, statuses_is}
 use Rattle.proof_messages.proofs.message_elements.Matched.{none, one, must, may, its_tree, inside, are_its, known_body_is, code_is, outcome_is, answer_is, here}
 
@@ -28,7 +28,7 @@ same_answer : (a b : E1Message) → (let x : Result E1Message Cause = Ok a in x)
 same_answer a b h = cc
 
 only : (a b : E1Message) → written_e1 a ≡ written_e1 b → a ≡ b
-only a b h = same_answer a b (sym (from_value a) ∙ ap e1_from_value h ∙ from_value b)
+only a b h = same_answer a b (sym (heard a) ∙ ap e1_from_value h ∙ heard b)
 
 e1_setup_request_in : Value → E1Message
 e1_setup_request_in body = e1s.E1SetupRequest (the ies.instance to_number (elements_in body)) (the ies.name to_text (elements_in body))

@@ -16,7 +16,7 @@ use Rattle.message_defs.specs.Places.{has, the, elements_in}
 use Rattle.message_defs.specs.Known.{known, known_row, known_body, known_message}
 use Rattle.message_defs.specs.FromValue.{Cause, unknown_procedure, first_rejected, unless_rejected, rejected_in}
 use Rattle.message_defs.specs.F1.{F1Message, written_f1, f1_at, f1_from_value}
-use Rattle.law_messages.proofs.FromValueF1.{from_value}
+use Rattle.proof_heard_messages.proofs.HeardF1.{heard}
 use Rattle.proof_messages.proofs.message_elements.Rounds.{ue_is, word_is, sn_is, container_is, name_is, peer_is, tunnels_is}
 use Rattle.proof_messages.proofs.message_elements.Matched.{none, one, must, its_tree, inside, are_its, known_body_is, code_is, outcome_is, answer_is, here}
 
@@ -27,7 +27,7 @@ same_answer : (a b : F1Message) → (let x : Result F1Message Cause = Ok a in x)
 same_answer a b h = cc
 
 only : (a b : F1Message) → written_f1 a ≡ written_f1 b → a ≡ b
-only a b h = same_answer a b (sym (from_value a) ∙ ap f1_from_value h ∙ from_value b)
+only a b h = same_answer a b (sym (heard a) ∙ ap f1_from_value h ∙ heard b)
 
 f1_setup_request_in : Value → F1Message
 f1_setup_request_in body = f1s.F1SetupRequest (the ies.instance to_number (elements_in body)) (the ies.name to_text (elements_in body))

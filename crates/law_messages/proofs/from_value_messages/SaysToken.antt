@@ -15,7 +15,7 @@ use Rattle.message_defs.specs.Known.{known, known_components, known_additions, k
 use Rattle.message_defs.specs.Fields.{from_number, to_number, from_ue, to_ue, to_index, gnb_index, gnb_at}
 use Rattle.message_defs.specs.FromValue.{Cause, unknown_procedure}
 use Rattle.message_defs.specs.Tokens.{written_mark, written_token, component_in, components_in, token_from_value}
-use Rattle.law_messages.proofs.FromValueTokens.{from_value}
+use Rattle.proof_heard_messages.proofs.HeardTokens.{heard}
 use Rattle.proof_messages.proofs.message_elements.Rounds.{ue_is, word_is, gnb_is, unit_is}
 
 differs : (let b : Bool = false in b) ≡ true → ⊥
@@ -109,7 +109,7 @@ same_answer : (a b : Token) → (let x : Result Token Cause = Ok a in x) ≡ Ok 
 same_answer a b h = cc
 
 only : (a b : Token) → written_token a ≡ written_token b → a ≡ b
-only a b h = same_answer a b (sym (from_value a) ∙ ap token_from_value h ∙ from_value b)
+only a b h = same_answer a b (sym (heard a) ∙ ap token_from_value h ∙ heard b)
 
 place : Value → ℕ
 place (chosen i body) = i

@@ -19,7 +19,7 @@ use Rattle.message_defs.specs.Places.{has, the, elements_in, additions_in}
 use Rattle.message_defs.specs.Known.{if_some, known, known_additions, known_row, known_body, known_message}
 use Rattle.message_defs.specs.FromValue.{Cause, unknown_procedure, first_rejected, unless_rejected, rejected_in}
 use Rattle.message_defs.specs.Xn.{origin_additions, to_origin, written_xn, xn_at, xn_from_value}
-use Rattle.law_messages.proofs.FromValueXn.{from_value}
+use Rattle.proof_heard_messages.proofs.HeardXn.{heard}
 use Rattle.proof_messages.proofs.message_elements.Rounds.{ue_is, word_is, bearer_is, unit_is, quota_is, cause_is, sn_is, peer_is, tunnels_is, statuses_is}
 use Rattle.proof_messages.proofs.message_elements.Matched.{none, one, must, its_tree, inside, are_its, additions_are, known_body_is, code_is, outcome_is, answer_is, here}
 
@@ -30,7 +30,7 @@ same_answer : (a b : XnMessage) → (let x : Result XnMessage Cause = Ok a in x)
 same_answer a b h = cc
 
 only : (a b : XnMessage) → written_xn a ≡ written_xn b → a ≡ b
-only a b h = same_answer a b (sym (from_value a) ∙ ap xn_from_value h ∙ from_value b)
+only a b h = same_answer a b (sym (heard a) ∙ ap xn_from_value h ∙ heard b)
 
 -- the additions of HandoverRequest in a version
 abbrev pub additions_if : Bool → Components

@@ -30,8 +30,8 @@ use Rattle.message_defs.specs.Places as places
 use Rattle.message_defs.specs.Places.{written_message, written_elements}
 use Rattle.message_defs.specs.FromValue.{Cause}
 use Rattle.message_defs.specs.Xn.{written_xn, xn_at, xn_from_value}
-use Rattle.law_messages.proofs.Fields.{sn_back, peer_back}
-use Rattle.law_messages.proofs.FromValueXn.{from_value}
+use Rattle.proof_heard_messages.proofs.Fields.{sn_back, peer_back}
+use Rattle.proof_heard_messages.proofs.HeardXn.{heard}
 use Rattle.law_messages.specs.message_versions.Versions.{without_origin}
 use Rattle.law_messages.proofs.message_versions.Octets.{octets_of_octets}
 use Rattle.law_messages.proofs.message_versions.SameBits.{IsSame, same_after, whole_same, same_closed, same_count, same_open, same_sequence}
@@ -134,18 +134,18 @@ pub spelled_older : (msg : XnMessage) (octets : List ℕ) → Spells (xn_type 2)
     → (v : Value) × Spells (xn_type 1) v octets × (xn_from_value v ≡ Ok (without_origin msg))
 unfolding xn_type tree parts rows procedures outcome_tree written_xn layout addition_fields body_fields outcome_fields Has HasAdditions HasBody HasOutcome
 spelled_older (xns.HandoverRequest ue instance epoch bearers sn quota peer du None) octets s =
-    (written_xn (xns.HandoverRequest ue instance epoch bearers sn quota peer du None), record { has = s.has; bits = s.bits; short = s.short }, from_value (xns.HandoverRequest ue instance epoch bearers sn quota peer du None))
+    (written_xn (xns.HandoverRequest ue instance epoch bearers sn quota peer du None), record { has = s.has; bits = s.bits; short = s.short }, heard (xns.HandoverRequest ue instance epoch bearers sn quota peer du None))
 spelled_older (xns.HandoverRequest ue instance epoch bearers sn quota peer du (Some origin)) octets s =
     older_origin ue instance epoch bearers sn quota peer du origin octets s
 spelled_older (xns.HandoverRequestAcknowledge ue instance peer forward_down forward_up) octets s =
-    (written_xn (xns.HandoverRequestAcknowledge ue instance peer forward_down forward_up), record { has = s.has; bits = s.bits; short = s.short }, from_value (xns.HandoverRequestAcknowledge ue instance peer forward_down forward_up))
+    (written_xn (xns.HandoverRequestAcknowledge ue instance peer forward_down forward_up), record { has = s.has; bits = s.bits; short = s.short }, heard (xns.HandoverRequestAcknowledge ue instance peer forward_down forward_up))
 spelled_older (xns.HandoverPreparationFailure ue instance cause) octets s =
-    (written_xn (xns.HandoverPreparationFailure ue instance cause), record { has = s.has; bits = s.bits; short = s.short }, from_value (xns.HandoverPreparationFailure ue instance cause))
+    (written_xn (xns.HandoverPreparationFailure ue instance cause), record { has = s.has; bits = s.bits; short = s.short }, heard (xns.HandoverPreparationFailure ue instance cause))
 spelled_older (xns.SnStatusTransfer ue instance statuses) octets s =
-    (written_xn (xns.SnStatusTransfer ue instance statuses), record { has = s.has; bits = s.bits; short = s.short }, from_value (xns.SnStatusTransfer ue instance statuses))
+    (written_xn (xns.SnStatusTransfer ue instance statuses), record { has = s.has; bits = s.bits; short = s.short }, heard (xns.SnStatusTransfer ue instance statuses))
 spelled_older (xns.HandoverCancel ue instance) octets s =
-    (written_xn (xns.HandoverCancel ue instance), record { has = s.has; bits = s.bits; short = s.short }, from_value (xns.HandoverCancel ue instance))
+    (written_xn (xns.HandoverCancel ue instance), record { has = s.has; bits = s.bits; short = s.short }, heard (xns.HandoverCancel ue instance))
 spelled_older (xns.UeContextRelease ue instance) octets s =
-    (written_xn (xns.UeContextRelease ue instance), record { has = s.has; bits = s.bits; short = s.short }, from_value (xns.UeContextRelease ue instance))
+    (written_xn (xns.UeContextRelease ue instance), record { has = s.has; bits = s.bits; short = s.short }, heard (xns.UeContextRelease ue instance))
 spelled_older (xns.TransportConfirm ue instance) octets s =
-    (written_xn (xns.TransportConfirm ue instance), record { has = s.has; bits = s.bits; short = s.short }, from_value (xns.TransportConfirm ue instance))
+    (written_xn (xns.TransportConfirm ue instance), record { has = s.has; bits = s.bits; short = s.short }, heard (xns.TransportConfirm ue instance))

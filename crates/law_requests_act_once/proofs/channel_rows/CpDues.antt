@@ -22,6 +22,7 @@ use Rattle.unit_defs.specs.Ways.{Output, xn, control, Answer, gives, spent, with
 use Rattle.unit_defs.specs.Messages.{channel, other_gnb}
 use Rattle.unit_defs.specs.Transactions.{Waiting, Transactions, Asked, no_instance, ask_at_once}
 use Rattle.unit_defs.specs.CuCpRecords.{Attempt, CuCpContext, CuCpTerminal, CuCpRecord, terminal_in, terminal_of, with_terminal, with_attempt, on_context, serving, waiting_of, after_begun, after_asked, fails, act_one, act_all, carry_out}
+use Rattle.unit_defs.proofs.Terminals.{kept_so}
 use Rattle.unit_defs.specs.CuCpRows.{other_cu_cp, handover_expires}
 use Rattle.unit_defs.specs.CuCp.{at_of, expired_on, due_one, due_each}
 use Rattle.law_requests_act_once.specs.channel.Replies.{Talk}
@@ -47,15 +48,16 @@ module _ {M C : Type 0} where
   put_has : (r : CuCpRecord M C) (ue : UeId) (t : CuCpTerminal) → ((x : CuCpContext) × (t.context ≡ Some x)) → (v : UeId) → HasContext r v
       → HasContext (with_terminal ue r t) v
   put_has r ue t has v was =
-      subst (λ (o : Option CuCpTerminal). (x : CuCpContext) × ((terminal_in o).context ≡ Some x)) (sym (find-put ue_total r.terminals ue t v))
-      (by (eq_by_cmp ue_cmp v ue))
+      kept_so (λ (es : List (UeId × CuCpTerminal)). (x : CuCpContext) × ((terminal_in (find ue_cmp es v)).context ≡ Some x)) r.terminals ue t (λ blank none. was)
+      (subst (λ (o : Option CuCpTerminal). (x : CuCpContext) × ((terminal_in o).context ≡ Some x)) (sym (find-put ue_total r.terminals ue t v))
+      (by (eq_by_cmp ue_cmp v ue)))
     where
       by : (b : Bool) → (x : CuCpContext) × ((terminal_in (cond b (Some t) (find ue_cmp r.terminals v))).context ≡ Some x)
       by true = has
       by false = was
 
   attempt_has : (r : CuCpRecord M C) (ue : UeId) (f : Attempt → Attempt) → HasContext r ue → (v : UeId) → HasContext r v → HasContext (with_attempt ue f r) v
-  attempt_has r ue f has v was = put_has r ue _ (_, ap (on_context f) has.1) v was
+  attempt_has r ue f has v was = put_has r ue (record (terminal_of r ue) { context = on_context f (terminal_of r ue).context }) (_, ap (on_context f) has.1) v was
 
   -- what expires can be cancelled
   abbrev pub MayCancel : CuCpRecord M C → Due M → Type 0

@@ -14,7 +14,6 @@ use Rattle.gnb_types.specs.declared.keys.Channel.{Channel}
 use Rattle.gnb_types.specs.Orders.{ue_cmp, channel_cmp}
 use Rattle.gnb_types.proofs.OrderLemmas.{ue_total, ue_exact, channel_exact}
 use Rattle.tables.specs.Tables.{find, at, IsSorted}
-use Rattle.tables.proofs.TableLaws.{find-put-same, find-put-other}
 use Rattle.unit_defs.specs.declared.StateName.{StateName}
 use Rattle.unit_defs.specs.declared.StateName.TheVariants as states
 use Rattle.unit_defs.specs.declared.AttemptKind.{AttemptKind}
@@ -23,6 +22,7 @@ use Rattle.unit_defs.specs.Ways.{Way}
 use Rattle.unit_defs.specs.Messages.{channel, other_gnb}
 use Rattle.unit_defs.specs.Transactions.{Waiting, Transactions, waits_at}
 use Rattle.unit_defs.specs.CuCpRecords.{Attempt, CuCpContext, CuCpTerminal, CuCpRecord, terminal_in, terminal_of, with_terminal, with_transactions, on_attempt, on_context, with_attempt, not_awaited, unawaited, forgotten}
+use Rattle.unit_defs.proofs.Terminals.{kept_here, kept_apart}
 use Rattle.law_requests_act_once.specs.channel.Ends.{same_node, same_channel, Asking, asking_at}
 use Rattle.law_requests_act_once.proofs.channel.Keys.{node_same, node_apart, channel_apart, channel_told}
 use Rattle.law_requests_act_once.proofs.channel.Projections.{Asks}
@@ -60,10 +60,10 @@ nodes_apart p q e = node_apart q p (λ same. true≢false (sym (node_same q) ∙
 
 module _ {M C : Type 0} where
   pub terminal_here : (r : CuCpRecord M C) (ue : UeId) (t : CuCpTerminal) → terminal_of (with_terminal ue r t) ue ≡ t
-  terminal_here r ue t = ap terminal_in (find-put-same ue_total r.terminals ue t)
+  terminal_here r ue t = kept_here r.terminals ue t
 
   pub terminal_apart : (r : CuCpRecord M C) (ue v : UeId) (t : CuCpTerminal) → same_ue v ue ≡ false → terminal_of (with_terminal ue r t) v ≡ terminal_of r v
-  terminal_apart r ue v t e = ap terminal_in (find-put-other ue_total r.terminals ue t v e)
+  terminal_apart r ue v t e = ap terminal_in (kept_apart r.terminals ue v t e)
 
   pub terminal_cases : (S : CuCpTerminal → Type 0) (r : CuCpRecord M C) (ue v : UeId) (t : CuCpTerminal) → S t → S (terminal_of r v) → S (terminal_of (with_terminal ue r t) v)
   terminal_cases S r ue v t here apart = by (same_ue v ue) refl

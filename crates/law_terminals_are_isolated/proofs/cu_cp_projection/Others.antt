@@ -1,7 +1,6 @@
 -- What a CU-CP does for a terminal: all that it puts out is the terminal's, and the projections of the others stay.
 use Rattle.std.proofs.Common.{◌≡◌, ℕ, Bool, true, false, List, [], ◌∷◌, Option, Some, None, refl, ap, ◌∙◌, subst}
 use Rattle.std.specs.Prelude.{if◌then◌else◌}
-use Rattle.tables.proofs.TableLaws.{find-put-other}
 use Rattle.law_terminals_are_isolated.specs.projections.Steps.{PutsFor, StaysFor}
 use Rattle.law_terminals_are_isolated.proofs.projections.Answers.{puts_then, puts_if}
 use Rattle.law_terminals_are_isolated.proofs.projections.Tables.{apart_numbers, apart_ues}
@@ -14,14 +13,14 @@ use Rattle.gnb_types.specs.declared.names.UeId.{UeId}
 use Rattle.gnb_types.specs.declared.inputs.Order.{Order}
 use Rattle.gnb_types.specs.declared.inputs.Order.TheVariants as orders
 use Rattle.gnb_types.specs.declared.reasons.DropReason.TheVariants.{Unexpected}
-use Rattle.gnb_types.proofs.OrderLemmas.{ue_total}
 use Rattle.message_types.specs.declared.f1.F1.TheVariants as f1s
 use Rattle.message_types.specs.declared.e1.E1Message.TheVariants as e1s
 use Rattle.message_types.specs.declared.xn.XnMessage.TheVariants as xns
 use Rattle.unit_defs.specs.Ways.{Message, f1, e1, xn, Input, control_input, order_input, Way, Answer, ◌then◌, nothing, drops}
 use Rattle.unit_defs.specs.Messages.{channel, shares_interface}
 use Rattle.unit_defs.specs.Transactions.{Kind, request, reply, transfer, kind_of, Transactions, Asked, waits_at, with_waiting, ask, ask_at_once, advance, replied, replied_late}
-use Rattle.unit_defs.specs.CuCpRecords.{Attempt, CuCpTerminal, CuCpRecord, terminal_in, terminal_of, with_terminal, with_transactions, Action, asks, cancels, replies, replies_late, sends, fails, ignores, refuses, forgets, Row, row, row_spent, awaiting, begun, with_attempt, waiting_of, after_begun, after_asked, noted, forgotten, act_one, act_all, carry_out}
+use Rattle.unit_defs.specs.CuCpRecords.{Attempt, CuCpTerminal, CuCpRecord, terminal_in, terminal_of, with_terminal, with_transactions, Action, asks, cancels, replies, replies_late, sends, fails, ignores, refuses, forgets, Row, row, row_spent, awaiting, begun, on_context, with_attempt, waiting_of, after_begun, after_asked, noted, forgotten, act_one, act_all, carry_out}
+use Rattle.unit_defs.proofs.Terminals.{kept_apart}
 use Rattle.unit_defs.specs.CuCp.{at_of, Answered, answers_none, answers_with, answer, without_release, is_setup_failure, after_failed_setup, put_next, closed_at, answered_by, reply_received, with_unit, set_up, asked, token_received, transferred, control_by, control_received, ordered, cu_cp_acts}
 use Rattle.law_terminals_are_isolated.specs.projections.Projections.{requests_of, ue_in, message_ue, order_ue}
 
@@ -45,13 +44,13 @@ module _ {M C P : Type 0} (way : Way M C P) where
 
   kept_stays : (ue : UeId) (t : CuCpTerminal) (r q : CuCpRecord M C) → Stays ue r q → Stays ue r (with_terminal ue q t)
   kept_stays ue t r q stays other apart = λ i. record {
-    terminal = (ap terminal_in (find-put-other ue_total q.terminals ue t other (apart_ues other ue apart))
+    terminal = (ap terminal_in (kept_apart q.terminals ue other t (apart_ues other ue apart))
         ∙ ap (λ (s : CuCpProjection M C). s.terminal) (stays other apart)) i;
     requests = (stays other apart i).requests;
   }
 
   attempt_stays : (ue : UeId) (f : Attempt → Attempt) (r q : CuCpRecord M C) → Stays ue r q → Stays ue r (with_attempt ue f q)
-  attempt_stays ue f r q stays = kept_stays ue _ r q stays
+  attempt_stays ue f r q stays = kept_stays ue (record (terminal_of q ue) { context = on_context f (terminal_of q ue).context }) r q stays
 
   noted_stays : (ue : UeId) (node : NodeId) (awaited : Bool) (r q : CuCpRecord M C) → Stays ue r q → Stays ue r (noted way ue node awaited q)
   noted_stays ue node true r q stays = attempt_stays ue (λ a. awaiting a node) r q stays

@@ -7,16 +7,15 @@ use Rattle.gnb_types.specs.declared.names.UeId.{UeId}
 use Rattle.gnb_types.specs.declared.inputs.Order.{Order}
 use Rattle.gnb_types.specs.declared.inputs.Order.TheVariants as orders
 use Rattle.gnb_types.specs.declared.reasons.DropReason.TheVariants.{Unexpected}
-use Rattle.gnb_types.proofs.OrderLemmas.{ue_total}
-use Rattle.tables.proofs.TableLaws.{find-put-same}
 use Rattle.message_types.specs.declared.f1.F1.TheVariants as f1s
 use Rattle.message_types.specs.declared.e1.E1Message.TheVariants as e1s
 use Rattle.message_types.specs.declared.xn.XnMessage.TheVariants as xns
 use Rattle.unit_defs.specs.Ways.{Message, f1, e1, xn, control, dropped, failed, no, Input, control_input, order_input, Output, Way, Answer, gives, ◌then◌, drops}
 use Rattle.unit_defs.specs.Messages.{channel, shares_interface}
 use Rattle.unit_defs.specs.Transactions.{Kind, request, reply, transfer, kind_of, Transactions, Asked, waits_at, with_waiting, ask, ask_at_once, advance, replied, replied_late}
-use Rattle.unit_defs.specs.CuCpRecords.{Attempt, CuCpTerminal, CuCpRecord, terminal_in, terminal_of, with_terminal, with_transactions, has_unit, Action, asks, cancels, replies, replies_late, sends, fails, ignores, refuses, forgets, Row, row, row_spent, awaiting, begun, on_context, with_attempt, waiting_of, after_begun, after_asked, noted, not_awaited, forgotten, act_one, act_all, carry_out}
+use Rattle.unit_defs.specs.CuCpRecords.{Attempt, CuCpTerminal, CuCpRecord, terminal_of, with_terminal, with_transactions, has_unit, Action, asks, cancels, replies, replies_late, sends, fails, ignores, refuses, forgets, Row, row, row_spent, awaiting, begun, on_context, with_attempt, waiting_of, after_begun, after_asked, noted, not_awaited, forgotten, act_one, act_all, carry_out}
 use Rattle.unit_defs.specs.CuCpRows.{CuCpScope, attach, handover, cancel, release, offer_context, offer, status, xn_cancelled, xn_released}
+use Rattle.unit_defs.proofs.Terminals.{kept_here}
 use Rattle.unit_defs.specs.CuCp.{at_of, Answered, answers_none, answers_with, answer, without_release, is_setup_failure, after_failed_setup, put_next, closed_at, answered_by, reply_received, with_unit, set_up, asked, no_context_first, token_received, transferred, control_by, control_received, ordered, cu_cp_acts}
 use Rattle.law_terminals_are_isolated.specs.projections.Projections.{Requests, requests_of, ue_in, message_ue, order_ue}
 use Rattle.law_terminals_are_isolated.specs.projections.Steps.{seen}
@@ -53,7 +52,7 @@ module _ {M C P : Type 0} (way : Way M C P) where
   kept_same : (ue : UeId) (t : CuCpTerminal) (r q : CuCpRecord M C) → Common ue r q → Common ue (with_terminal ue r t) (with_terminal ue q t)
   kept_same ue t r q e = λ i. (
     record {
-      terminal = (ap terminal_in (find-put-same ue_total r.terminals ue t) ∙ sym (ap terminal_in (find-put-same ue_total q.terminals ue t))) i;
+      terminal = (kept_here r.terminals ue t ∙ sym (kept_here q.terminals ue t)) i;
       requests = (e i).0.requests;
     },
     (e i).1,

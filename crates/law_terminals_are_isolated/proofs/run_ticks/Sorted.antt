@@ -8,18 +8,17 @@ use Rattle.gnb_types.specs.declared.names.NodeId.TheVariants.{CuCp as cp_node}
 use Rattle.gnb_types.specs.declared.names.UeId.{UeId}
 use Rattle.gnb_types.specs.declared.plans.Plan.{Plan}
 use Rattle.gnb_types.specs.Orders.{ue_cmp}
-use Rattle.gnb_types.proofs.OrderLemmas.{ue_total}
 use Rattle.message_types.specs.declared.f1.F1.TheVariants as f1s
 use Rattle.message_types.specs.declared.e1.E1Message.TheVariants as e1s
 use Rattle.message_types.specs.declared.xn.XnMessage.TheVariants as xns
 use Rattle.tables.specs.Tables.{IsSorted}
-use Rattle.tables.proofs.TableLaws.{sorted-put}
 use Rattle.transaction_defs.specs.Callers.{due, Due, repeats, expires}
 use Rattle.unit_defs.specs.Ways.{Message, f1, e1, xn, Input, control_input, packet_input, radio_input, confirm_input, offer_input, tick_input, order_input, Way, Answer, nothing}
 use Rattle.unit_defs.specs.Messages.{channel, shares_interface}
-use Rattle.unit_defs.specs.Static.{cu_cp_placed}
+use Rattle.unit_defs.specs.Static.{cu_cp_context, cu_cp_placed}
 use Rattle.unit_defs.specs.Transactions.{Kind, request, reply, transfer, kind_of, Asked, ask, ask_at_once, advance, replied, replied_late}
-use Rattle.unit_defs.specs.CuCpRecords.{Attempt, CuCpRecord, terminal_of, with_transactions, Action, asks, cancels, replies, replies_late, sends, fails, ignores, refuses, forgets, Row, row, row_spent, with_terminal, with_attempt, waiting_of, after_begun, after_asked, noted, act_one, act_all, carry_out}
+use Rattle.unit_defs.specs.CuCpRecords.{Attempt, CuCpRecord, terminal_of, with_transactions, Action, asks, cancels, replies, replies_late, sends, fails, ignores, refuses, forgets, Row, row, row_spent, with_terminal, awaiting, begun, on_context, with_attempt, waiting_of, after_begun, after_asked, noted, act_one, act_all, carry_out}
+use Rattle.unit_defs.proofs.Terminals.{kept_sorted}
 use Rattle.unit_defs.specs.CuCp.{at_of, Answered, answers_none, answers_with, answer, after_failed_setup, put_next, closed_at, answered_by, reply_received, with_unit, set_up, asked, token_received, transferred, control_by, control_received, due_one, due_each, command_on, command_each, ues_of, tick, ordered, cu_cp_acts}
 use Rattle.proof_unit_steps.specs.answers.After.{HoldsAfter}
 use Rattle.proof_unit_steps.proofs.answers.Answers.{holds_if, holds_then, any_then, holds_request, holds_reply}
@@ -34,10 +33,10 @@ module _ {M C P : Type 0} (way : Way M C P) where
   -- ---- a row is carried out
 
   attempt_stays : (ue : UeId) (f : Attempt → Attempt) (r : CuCpRecord M C) → Ordered r → Ordered (with_attempt ue f r)
-  attempt_stays ue f r h = sorted-put ue_total r.terminals ue _ h
+  attempt_stays ue f r h = kept_sorted r.terminals ue (record (terminal_of r ue) { context = on_context f (terminal_of r ue).context }) h
 
   noted_stays : (ue : UeId) (node : NodeId) (b : Bool) (r : CuCpRecord M C) → Ordered r → Ordered (noted way ue node b r)
-  noted_stays ue node true r h = sorted-put ue_total r.terminals ue _ h
+  noted_stays ue node true r h = attempt_stays ue (λ a. awaiting a node) r h
   noted_stays ue node false r h = h
 
   after_stays : (ue : UeId) (node : NodeId) (r : CuCpRecord M C) (a : Asked M C) → Ordered r → Ordered (after_asked way ue node r a)
@@ -45,7 +44,7 @@ module _ {M C P : Type 0} (way : Way M C P) where
     where
       by : (o : Option ℕ) → Ordered (after_begun way ue node (with_transactions r a.transactions) o)
       by None = h
-      by (Some instance) = sorted-put ue_total r.terminals ue _ h
+      by (Some instance) = attempt_stays ue (λ x. begun x node instance) (with_transactions r a.transactions) h
 
   say_stays : (ue : UeId) (s : Action C) (r : CuCpRecord M C) → Ordered r → Stays (act_one way ue r s)
   unfolding act_one
@@ -72,7 +71,7 @@ module _ {M C P : Type 0} (way : Way M C P) where
 
   carry_stays : (ue : UeId) (x : Row C) (r : CuCpRecord M C) → Ordered r → Stays (carry_out way ue r x)
   unfolding carry_out
-  carry_stays ue (row says after) r h = says_stay ue says (with_terminal ue r after) (sorted-put ue_total r.terminals ue after h)
+  carry_stays ue (row says after) r h = says_stay ue says (with_terminal ue r after) (kept_sorted r.terminals ue after h)
   carry_stays ue (row_spent counter) r h = tt
 
   -- ---- an answer
@@ -170,4 +169,4 @@ module _ {M C P : Type 0} (way : Way M C P) where
 
   pub placed_stays : (r : CuCpRecord M C) (plan : Plan) → Ordered r → Ordered (cu_cp_placed r plan)
   unfolding cu_cp_placed
-  placed_stays r plan h = sorted-put ue_total r.terminals plan.ue _ h
+  placed_stays r plan h = kept_sorted r.terminals plan.ue (record { context = Some (cu_cp_context plan); taken = None }) h

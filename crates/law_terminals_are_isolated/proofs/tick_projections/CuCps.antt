@@ -13,12 +13,12 @@ use Rattle.gnb_types.specs.declared.names.UeId.{UeId}
 use Rattle.gnb_types.specs.Orders.{ue_cmp, channel_cmp}
 use Rattle.gnb_types.proofs.OrderLemmas.{ue_total}
 use Rattle.tables.specs.Tables.{find, IsSorted}
-use Rattle.tables.proofs.TableLaws.{find-put-same, sorted-put}
 use Rattle.transaction_defs.specs.Callers.{due, Due, repeats, expires}
 use Rattle.unit_defs.specs.Ways.{Output, control, tick_input, Way, Answer, gives, spent, with_outputs, ◌then◌, nothing}
 use Rattle.unit_defs.specs.Messages.{channel}
 use Rattle.unit_defs.specs.Transactions.{Asked, ask, ask_at_once, replied, replied_late}
-use Rattle.unit_defs.specs.CuCpRecords.{CuCpTerminal, CuCpRecord, no_terminal, terminal_in, terminal_of, with_terminal, with_transactions, Action, asks, cancels, replies, replies_late, sends, fails, ignores, refuses, forgets, Row, row, row_spent, waiting_of, after_begun, after_asked, noted, act_one, act_all, carry_out}
+use Rattle.unit_defs.specs.CuCpRecords.{Attempt, CuCpTerminal, CuCpRecord, no_terminal, terminal_in, terminal_of, with_terminal, with_transactions, awaiting, begun, on_context, with_attempt, Action, asks, cancels, replies, replies_late, sends, fails, ignores, refuses, forgets, Row, row, row_spent, waiting_of, after_begun, after_asked, noted, act_one, act_all, carry_out}
+use Rattle.unit_defs.proofs.Terminals.{kept_here, kept_sorted}
 use Rattle.unit_defs.specs.CuCp.{at_of, expired_on, due_one, due_each, command_on, command_each, ues_of, tick, cu_cp_acts}
 use Rattle.law_terminals_are_isolated.specs.projections.Steps.{seen, PutsFor, StaysFor}
 use Rattle.law_terminals_are_isolated.proofs.projections.Answers.{same_then}
@@ -53,10 +53,13 @@ module _ {M C P : Type 0} (way : Way M C P) where
   Keeps g s = (cu_cp_shared s ≡ g) × IsSorted ue_cmp s.terminals
 
   terminal_keeps : (g : CuCpShared) (ue : UeId) (t : CuCpTerminal) (q : CuCpRecord M C) → Keeps g q → Keeps g (with_terminal ue q t)
-  terminal_keeps g ue t q h = (h.0, sorted-put ue_total q.terminals ue t h.1)
+  terminal_keeps g ue t q h = (h.0, kept_sorted q.terminals ue t h.1)
+
+  attempt_keeps : (g : CuCpShared) (ue : UeId) (f : Attempt → Attempt) (q : CuCpRecord M C) → Keeps g q → Keeps g (with_attempt ue f q)
+  attempt_keeps g ue f q h = terminal_keeps g ue (record (terminal_of q ue) { context = on_context f (terminal_of q ue).context }) q h
 
   noted_keeps : (g : CuCpShared) (ue : UeId) (node : NodeId) (b : Bool) (q : CuCpRecord M C) → Keeps g q → Keeps g (noted way ue node b q)
-  noted_keeps g ue node true q h = terminal_keeps g ue _ q h
+  noted_keeps g ue node true q h = attempt_keeps g ue (λ a. awaiting a node) q h
   noted_keeps g ue node false q h = h
 
   asked_keeps : (g : CuCpShared) (ue : UeId) (node : NodeId) (q : CuCpRecord M C) (a : Asked M C) → Keeps g q → Keeps g (after_asked way ue node q a)
@@ -64,7 +67,7 @@ module _ {M C P : Type 0} (way : Way M C P) where
     where
       by : (o : Option ℕ) → Keeps g (after_begun way ue node (with_transactions q a.transactions) o)
       by None = h
-      by (Some instance) = terminal_keeps g ue _ (with_transactions q a.transactions) h
+      by (Some instance) = attempt_keeps g ue (λ x. begun x node instance) (with_transactions q a.transactions) h
 
   say_keeps : (g : CuCpShared) (ue : UeId) (s : Action C) (q : CuCpRecord M C) → Keeps g q → Holds (Keeps g) (act_one way ue q s)
   unfolding act_one
@@ -213,7 +216,7 @@ module _ {M C P : Type 0} (way : Way M C P) where
       where
         kept : Common way ue t (with_terminal ue t no_terminal)
         kept = λ i. (
-          record (cu_cp_projection ue t) { terminal = (none ∙ sym (ap terminal_in (find-put-same ue_total t.terminals ue no_terminal))) i },
+          record (cu_cp_projection ue t) { terminal = (none ∙ sym (kept_here t.terminals ue no_terminal)) i },
           cu_cp_shared t,
         )
 

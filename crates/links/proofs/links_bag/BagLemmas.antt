@@ -1,5 +1,5 @@
 -- The numbers of messages, and that what stands beside them stays theirs.
-use Rattle.std.proofs.Common.{◌≡◌, ◌<◌, ◌≤◌, ◌==◌, ℕ, zero, suc, ◌+◌, ◌-◌, ◌^◌, Bool, true, false, cond, not, ◌||◌, List, [], ◌∷◌, ◌++◌, length, Option, Some, None, refl, sym, ap, ◌∙◌, subst, arith, length-append, eq-eqb, eqb-true, add-zero}
+use Rattle.std.proofs.Common.{◌≡◌, ◌<◌, ◌≤◌, ◌==◌, ℕ, zero, suc, ◌+◌, ◌-◌, ◌^◌, Bool, true, false, cond, not, ◌&&◌, ◌||◌, List, [], ◌∷◌, ◌++◌, length, Option, Some, None, refl, sym, ap, ◌∙◌, subst, arith, length-append, eq-eqb, eqb-true, add-zero}
 use Rattle.std.specs.Prelude.{unwrap_or, sum_by, count_by, is_some, nat_lt, nat_le}
 use Rattle.std.specs.Option.{option_map}
 use Rattle.std.specs.declared.cmp.Ordering.{Ordering}
@@ -12,7 +12,7 @@ use Rattle.std.specs.BTreeMap.{is_at, insert_entry}
 use Rattle.std.proofs.lemmas.Cmp.{nat_cmp_total}
 use Rattle.std.proofs.lemmas.Bool.Decides.{nat_tests}
 use Rattle.std.proofs.lemmas.List.Sums.{sum_by-cons, sum_by_push}
-use Rattle.std.proofs.lemmas.Map.Entries.{length-values_of}
+use Rattle.std.proofs.lemmas.Map.Entries.{length-keys_of, length-values_of}
 use Rattle.gnb_types.proofs.Choices.{by_test}
 use Rattle.tables.specs.Tables.{find, put, without, at, first_entry, IsSorted}
 use Rattle.tables.specs.Queues.{first_item}
@@ -23,7 +23,7 @@ use Rattle.links.specs.link_tallies.Tied.{one_if}
 use Rattle.links.specs.link_tallies.Tallies.{key_in}
 use Rattle.links.specs.declared.links_bag.error.LinkError.TheVariants as errors
 use Rattle.links.specs.links_bag.Answers.{gives, refuses}
-use Rattle.links.specs.links_bag.Bags.{put as put_message}
+use Rattle.links.specs.links_bag.Bags.{put as put_message, in_flight, counts as counted_in, IsOneFewer}
 use Rattle.links.specs.links_bag.inside.Messages.{numbered, terminal_of, is_terminal, fewer_of, BagIsKept}
 use Rattle.links.proofs.links_bag.Entries.{sorted_none, without-put, nth_next, nth_is_get}
 
@@ -263,6 +263,10 @@ terminals_le u (v ∷ vs) =
     let rest = terminals_le u vs in
     omega arith
 
+terminal-is : {M : Type 0} (ue t : ℕ) (o : Option (ControlMessage M)) → option_map (λ l. l.ue) o ≡ Some t → is_terminal ue t ≡ cond (is_of ue o) 1 0
+terminal-is ue t None known = absurd cc
+terminal-is ue t (Some l) known = let same : l.ue ≡ t = cc in ap (λ (k : ℕ). one_if (k == ue)) (sym same)
+
 -- the messages of a terminal in flight, by their letters and by what stands beside their numbers
 in_flight_counts : {M : Type 0} (control_messages : List (ControlMessage M)) (flight : List (ℕ × ℕ)) (ue : ℕ)
     → AllByRecursion (λ e. terminal_of control_messages e.0 ≡ Some e.1) flight
@@ -272,12 +276,8 @@ in_flight_counts {M = M} control_messages (e ∷ es) ue all =
     let first = sum_by-cons (is_terminal ue) e.1 (values_of es) in
     let other = sum_by-cons (λ n. cond (is_of ue (find nat_cmp (numbered 1 control_messages) n)) 1 0) e.0 (keys_of es) in
     let rest = in_flight_counts control_messages es ue all.1 in
-    let here : is_terminal ue e.1 ≡ cond (is_of ue (find nat_cmp (numbered 1 control_messages) e.0)) 1 0 = by (find nat_cmp (numbered 1 control_messages) e.0) all.0 in
+    let here = terminal-is ue e.1 (find nat_cmp (numbered 1 control_messages) e.0) all.0 in
     omega arith
-  where
-    by : (o : Option (ControlMessage M)) → option_map (λ l. l.ue) o ≡ Some e.1 → is_terminal ue e.1 ≡ cond (is_of ue o) 1 0
-    by None known = absurd cc
-    by (Some l) known = let same : l.ue ≡ e.1 = cc in ap (λ (k : ℕ). one_if (k == ue)) (sym same)
 
 module _ {M : Type 0} {control_messages : List (ControlMessage M)} {flight counts : List (ℕ × ℕ)} (kept : BagIsKept control_messages flight counts) where
   pub all_below : AllByRecursion (λ e. e.0 < length control_messages + 1) flight
@@ -413,6 +413,73 @@ in_keys (e ∷ es) n = by (is_at (nat_cmp n) e.0) (e.0 == n) (ties n e.0) (in_ke
     by true false same rest = absurd cc
     by false true same rest = absurd cc
 
+-- what holds of all entries holds of the one that is found
+found_entry : {X : Type 0} (P : ℕ × X → Type 0) (m : List (ℕ × X)) (n : ℕ) (x : X) → AllByRecursion P m → find nat_cmp m n ≡ Some x → P (n, x)
+unfolding find
+found_entry P [] n x all found = absurd cc
+found_entry {X = X} P (e ∷ es) n x all found = by (is_at (nat_cmp n) e.0) (ties n e.0) found (found_entry P es n x all.1)
+  where
+    by : (b : Bool) → b ≡ (e.0 == n) → cond b (Some e.1) (lookup (is_at (nat_cmp n)) es) ≡ Some x
+        → (lookup (is_at (nat_cmp n)) es ≡ Some x → P (n, x)) → P (n, x)
+    by true is found rest =
+        let key : e.0 ≡ n = eqb-true e.0 n (sym is) in
+        let value : e.1 ≡ x = cc in
+        subst (λ (k : ℕ). P (k, x)) key (subst (λ (y : X). P (e.0, y)) value all.0)
+    by false is found rest = rest found
+
+ones : (xs : List ℕ) → sum_by (λ (x : ℕ). 1) xs ≡ length xs
+ones [] = refl
+ones (x ∷ xs) =
+    let first = sum_by-cons (λ (x : ℕ). 1) x xs in
+    let rest = ones xs in
+    omega arith
+
+module _ {M : Type 0} {control_messages : List (ControlMessage M)} {flight counts : List (ℕ × ℕ)} (kept : BagIsKept control_messages flight counts) (n : ℕ) where
+  abbrev bag_with : List (ℕ × ℕ) → Bag M
+  bag_with m = record { control_messages = numbered 1 control_messages; flight = keys_of m }
+
+  fewer_in_all : length (keys_of (without nat_cmp flight n)) + one_if (is_in n (keys_of flight)) ≡ length (keys_of flight)
+  fewer_in_all =
+      let gone = sum-without nat_cmp_total (λ (x : ℕ). 1) flight n kept.sorted in
+      let one : unwrap_or (option_map (λ (x : ℕ). 1) (find nat_cmp flight n)) 0 ≡ one_if (is_in n (keys_of flight)) =
+      by (find nat_cmp flight n) ∙ ap one_if (in_keys flight n) in
+      let ones_left = ones (values_of (without nat_cmp flight n)) in
+      let ones_all = ones (values_of flight) in
+      let values_left = length-values_of (without nat_cmp flight n) in
+      let values_all = length-values_of flight in
+      let keys_left = length-keys_of (without nat_cmp flight n) in
+      let keys_all = length-keys_of flight in
+      omega arith
+    where
+      by : (o : Option ℕ) → unwrap_or (option_map (λ (x : ℕ). 1) o) 0 ≡ one_if (is_some o)
+      by None = refl
+      by (Some t) = refl
+
+  fewer_of_terminal : (ue : ℕ) → in_flight_of (bag_with (without nat_cmp flight n)) ue
+      + one_if (is_in n (keys_of flight) && is_of ue (control_message (bag_with flight) n)) ≡ in_flight_of (bag_with flight) ue
+  unfolding in_flight_of control_message without
+  fewer_of_terminal ue =
+      let gone = sum-without nat_cmp_total (is_terminal ue) flight n kept.sorted in
+      let one : unwrap_or (option_map (is_terminal ue) (find nat_cmp flight n)) 0
+      ≡ one_if (is_in n (keys_of flight) && is_of ue (find nat_cmp (numbered 1 control_messages) n)) =
+      by (find nat_cmp flight n) refl
+      ∙ ap (λ (b : Bool). one_if (b && is_of ue (find nat_cmp (numbered 1 control_messages) n))) (in_keys flight n) in
+      let left = in_flight_counts control_messages (without nat_cmp flight n) ue
+      (all-filter (λ e. terminal_of control_messages e.0 ≡ Some e.1) (λ e. not (is_at (nat_cmp n) e.0)) flight kept.terminals) in
+      let all = in_flight_counts control_messages flight ue kept.terminals in
+      omega arith
+    where
+      by : (o : Option ℕ) → find nat_cmp flight n ≡ o
+          → unwrap_or (option_map (is_terminal ue) o) 0 ≡ one_if (is_some o && is_of ue (find nat_cmp (numbered 1 control_messages) n))
+      by None found = refl
+      by (Some t) found =
+          terminal-is ue t (find nat_cmp (numbered 1 control_messages) n)
+          (found_entry (λ e. terminal_of control_messages e.0 ≡ Some e.1) flight n t kept.terminals found)
+
+  one_fewer : (ue : Option ℕ) → in_flight (bag_with (without nat_cmp flight n)) ue + counted_in (bag_with flight) n ue ≡ in_flight (bag_with flight) ue
+  one_fewer None = fewer_in_all
+  one_fewer (Some ue) = fewer_of_terminal ue
+
 module _ {M : Type 0} (control_messages : List (ControlMessage M)) (flight : List (ℕ × ℕ)) (bag : Bag M)
     (view : ◌≡◌ {A = Bag M} (record { control_messages = numbered 1 control_messages; flight = keys_of flight }) bag) where
   pub seen_in : (n : ℕ) (r : Option ℕ) → r ≡ find nat_cmp flight n → is_some r ≡ is_in n bag.flight
@@ -424,6 +491,15 @@ module _ {M : Type 0} (control_messages : List (ControlMessage M)) (flight : Lis
   seen_landed n flight2 is =
       let bag_of : List ℕ → Bag M = λ ks. record { control_messages = numbered 1 control_messages; flight = ks } in
       ap bag_of (ap keys_of is ∙ keys-without flight n) ∙ ap (λ (b : Bag M). record b { flight = filter (λ k. not (k == n)) b.flight }) view
+
+  pub seen_fewer : {counts : List (ℕ × ℕ)} → BagIsKept control_messages flight counts → (n : ℕ) (flight2 : List (ℕ × ℕ)) → flight2 ≡ without nat_cmp flight n
+      → IsOneFewer bag (record { control_messages = numbered 1 control_messages; flight = keys_of flight2 }) n
+  seen_fewer kept n flight2 is ue =
+      let bag_of : List (ℕ × ℕ) → Bag M = λ m. record { control_messages = numbered 1 control_messages; flight = keys_of m } in
+      ap (λ (m : List (ℕ × ℕ)). in_flight (bag_of m) ue + counted_in bag n ue) is
+      ∙ ap (λ (b : Bag M). in_flight (bag_of (without nat_cmp flight n)) ue + counted_in b n ue) (sym view)
+      ∙ one_fewer kept n ue
+      ∙ ap (λ (b : Bag M). in_flight b ue) view
 
   pub seen_first : (r : Option ℕ) → r ≡ key_in (first_entry flight) → r ≡ first_item bag.flight
   unfolding first_entry

@@ -1,10 +1,11 @@
 -- The control messages that were ever put, and what the calls of their bag give. Message n is the n-th that was put.
-use Rattle.std.specs.Prelude.{ℕ, ◌+◌, nat_lt, if◌then◌else◌, List, length, Option, Some, None}
+use Rattle.std.specs.Prelude.{◌≡◌, ℕ, ◌+◌, ◌&&◌, nat_lt, if◌then◌else◌, List, length, Option, Some, None}
 use Rattle.gnb_types.specs.declared.names.NodeId.{NodeId}
 use Rattle.transport_defs.specs.declared.ControlMessage.{ControlMessage}
-use Rattle.transport_defs.specs.Links.{Bag, most_control_messages, put_control_message, control_message, landed, is_in, in_flight_of}
+use Rattle.transport_defs.specs.Links.{Bag, most_control_messages, put_control_message, control_message, landed, is_in, is_of, in_flight_of}
 use Rattle.links.specs.declared.links_bag.error.LinkError.TheVariants as errors
 use Rattle.links.specs.links_bag.Answers.{Answer, gives, refuses}
+use Rattle.links.specs.link_tallies.Tied.{one_if}
 
 abbrev pub message : NodeId → NodeId → ℕ → List ℕ → ControlMessage (List ℕ)
 message from to ue octets = record { from = from; to = to; ue = ue; message = octets }
@@ -34,3 +35,12 @@ module _ {M : Type 0} where
   abbrev pub in_flight : Bag M → Option ℕ → ℕ
   in_flight bag None = length bag.flight
   in_flight bag (Some ue) = in_flight_of bag ue
+
+  -- how many of those in flight this message is, 1 or 0: of its terminal, where one is named
+  abbrev pub counts : Bag M → ℕ → Option ℕ → ℕ
+  counts bag number None = one_if (is_in number bag.flight)
+  counts bag number (Some ue) = one_if (is_in number bag.flight && is_of ue (control_message bag number))
+
+  -- One message fewer is in flight, in all and of its terminal, where this one was in flight; of all others as many are as were.
+  abbrev pub IsOneFewer : Bag M → Bag M → ℕ → Type 0
+  IsOneFewer old new number = (ue : Option ℕ) → in_flight new ue + counts old number ue ≡ in_flight old ue

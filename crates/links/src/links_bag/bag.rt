@@ -7,7 +7,7 @@ ghost use Rattle.tables.specs.Queues.{first_item};
 ghost use Rattle.tables.specs.Tables.{find, put as put_at, at};
 ghost use Rattle.transport_defs.specs.Links.{no_control_messages, most_control_messages, control_message, landed, is_in, in_flight_of};
 ghost use Rattle.links.specs.links_bag.Answers.{Answers, AnswersSurely};
-ghost use Rattle.links.specs.links_bag.Bags.{message, put, give, lose, in_flight};
+ghost use Rattle.links.specs.links_bag.Bags.{message, put, give, lose, in_flight, IsOneFewer};
 ghost use Rattle.links.specs.links_bag.inside.Messages.{fewer_of};
 
 use crate::links_bag::error::LinkError;
@@ -155,6 +155,7 @@ impl Bag {
         ensures was { result ≡ is_in number self.old.flight }
         ensures landed { self.new ≡ landed self.old number }
         ensures same { result ≡ false → self.new ≡ self.old }
+        ensures fewer { IsOneFewer self.old self.new number }
     {
         let Some(ue) = self.flight.take(&number) else {
             return false;
@@ -165,7 +166,8 @@ impl Bag {
 
     /// Gives a message, as often as one likes. Once given it is in flight no more.
     pub fn give(&mut self, number: u32) -> Result<Message, LinkError>
-        ensures { Answers (give self.old number) self.old self.new result }
+        ensures answers { Answers (give self.old number) self.old self.new result }
+        ensures fewer { IfOk result (λ message. IsOneFewer self.old self.new number) }
     {
         let Some(control_message) = self.control_message(number) else {
             return Err(LinkError::NoSuch);
@@ -177,7 +179,8 @@ impl Bag {
 
     /// Loses a message in flight.
     pub fn lose(&mut self, number: u32) -> Result<(), LinkError>
-        ensures { AnswersSurely (lose self.old number) self.old self.new result }
+        ensures answers { AnswersSurely (lose self.old number) self.old self.new result }
+        ensures fewer { IfOk result (λ done. IsOneFewer self.old self.new number) }
     {
         if self.control_message(number).is_none() {
             return Err(LinkError::NoSuch);

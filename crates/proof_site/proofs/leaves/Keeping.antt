@@ -20,8 +20,9 @@ use Rattle.gnb_types.proofs.OrderLemmas.{ue_total, node_total}
 use Rattle.tables.specs.Tables.{find, put, IsSorted}
 use Rattle.tables.proofs.TableLaws.{find-put, sorted-put}
 use Rattle.unit_defs.specs.Ways.{gives, spent}
-use Rattle.unit_defs.specs.CuCpRecords.{CuCpRecord, with_terminal}
-use Rattle.unit_defs.specs.Static.{cu_cp_placed, cu_cp_context, cu_cp_set_up}
+use Rattle.unit_defs.specs.CuCpRecords.{CuCpRecord}
+use Rattle.unit_defs.proofs.Terminals.{kept_sorted}
+use Rattle.unit_defs.specs.Static.{cu_cp_placed, cu_cp_context}
 use Rattle.unit_defs.specs.Ue.{UeNode, new_bearers, new_ue, placed}
 use Rattle.unit_defs.specs.octet_defs.Codec.{Codec}
 use Rattle.unit_defs.specs.octet_defs.Units.{OctetAnswer, cu_cp_steps, cu_up_steps, du_steps, ue_steps}
@@ -29,7 +30,7 @@ use Rattle.run_defs.specs.Units.{new_units, cu_cp_of, with_cu_cp, cu_up_of, with
 use Rattle.run_defs.specs.Conditions.{units_placed, all_set_up}
 use Rattle.run_defs.specs.UnitRuns.{Records, UnitAnswer, unit_gives, unit_spent, answered_with, ue_answers, tables}
 use Rattle.proof_site.specs.lone_units.Lone.{EndsIn}
-use Rattle.proof_site.specs.lone_units.Orders.{HasOrder, IsCpOf}
+use Rattle.proof_site.specs.lone_units.Orders.{HasOrder, AreInOrder}
 use Rattle.proof_site.specs.leaves.Settled.{AreSettled}
 use Rattle.proof_site.proofs.leaves.Steps.{ue_steps_stay, cp_steps_end}
 
@@ -48,11 +49,11 @@ ue_put r ue x s order = record {
     by v u true h = let same : x ≡ u = cc in subst (λ (y : UeNode). HasOrder y) same order
     by v u false h = s.terminals v u h
 
-cp_put : (r : Records) (gnb : Gnb) (c : CuCpRecord (List ℕ) (List ℕ)) → AreSettled r → IsCpOf gnb c → AreSettled (with_cu_cp r gnb c)
+cp_put : (r : Records) (gnb : Gnb) (c : CuCpRecord (List ℕ) (List ℕ)) → AreSettled r → AreInOrder c → AreSettled (with_cu_cp r gnb c)
 cp_put r A c s is = record { cu_cp_a = is; cu_cp_b = s.cu_cp_b; ups = s.ups; ues = s.ues; terminals = s.terminals }
 cp_put r B c s is = record { cu_cp_a = s.cu_cp_a; cu_cp_b = is; ups = s.ups; ues = s.ues; terminals = s.terminals }
 
-cp_is : (r : Records) (gnb : Gnb) → AreSettled r → IsCpOf gnb (cu_cp_of r gnb)
+cp_is : (r : Records) (gnb : Gnb) → AreSettled r → AreInOrder (cu_cp_of r gnb)
 cp_is r A s = s.cu_cp_a
 cp_is r B s = s.cu_cp_b
 
@@ -78,8 +79,8 @@ placed_has_order plan = new_order 1 plan.bearers
 pub settled_begin : AreSettled new_units
 unfolding find IsStrictlySortedBy
 settled_begin = record {
-  cu_cp_a = record { gnb_is = refl; order = tt; units_are = tt };
-  cu_cp_b = record { gnb_is = refl; order = tt; units_are = tt };
+  cu_cp_a = tt;
+  cu_cp_b = tt;
   ups = ((refl, (refl, (refl, tt))), ((refl, (refl, tt)), ((refl, tt), (tt, tt))));
   ues = tt;
   terminals = λ ue u is. absurd cc;
@@ -94,17 +95,14 @@ same_keys : {K X : Type 0} (f : X → X) (m : List (K × X)) → keys_of (map (�
 same_keys f [] = refl
 same_keys f (e ∷ es) = ap (λ ks. e.0 ∷ ks) (same_keys f es)
 
-cp_placed_is : (own : Gnb) (c : CuCpRecord (List ℕ) (List ℕ)) (plan : Plan) → IsCpOf own c → IsCpOf own (cu_cp_placed c plan)
+cp_placed_is : (c : CuCpRecord (List ℕ) (List ℕ)) (plan : Plan) → AreInOrder c → AreInOrder (cu_cp_placed c plan)
 unfolding cu_cp_placed
-cp_placed_is own c plan p = record { gnb_is = p.gnb_is; order = sorted-put ue_total c.terminals plan.ue _ p.order; units_are = p.units_are }
-
-cp_set_up_is : (own : Gnb) (c : CuCpRecord (List ℕ) (List ℕ)) → IsCpOf own c → IsCpOf own (cu_cp_set_up c)
-cp_set_up_is own c p = record { gnb_is = p.gnb_is; order = p.order; units_are = (p.gnb_is, (p.gnb_is, (p.gnb_is, (p.gnb_is, tt)))) }
+cp_placed_is c plan p = kept_sorted c.terminals plan.ue (record { context = Some (cu_cp_context plan); taken = None }) p
 
 set_up_settled : (r : Records) → AreSettled r → AreSettled (all_set_up r)
 set_up_settled r s = record {
-  cu_cp_a = cp_set_up_is A r.cu_cp_a s.cu_cp_a;
-  cu_cp_b = cp_set_up_is B r.cu_cp_b s.cu_cp_b;
+  cu_cp_a = s.cu_cp_a;
+  cu_cp_b = s.cu_cp_b;
   ups = subst (λ (ks : List NodeId). IsStrictlySortedBy node_cmp ks) (sym (same_keys _ r.ups)) s.ups;
   ues = s.ues;
   terminals = s.terminals;
@@ -122,7 +120,7 @@ settled_place r plan s =
     set_up_settled (units_placed plan r)
     (cp_put _ plan.gnb (cu_cp_placed (cu_cp_of r plan.gnb) plan)
     (du_put _ plan.gnb plan.du _ (up_put _ plan.gnb plan.up _ (ue_put r plan.ue (placed (new_ue plan)) s (placed_has_order plan))))
-    (cp_placed_is plan.gnb (cu_cp_of r plan.gnb) plan (cp_is r plan.gnb s)))
+    (cp_placed_is (cu_cp_of r plan.gnb) plan (cp_is r plan.gnb s)))
 
 -- ---- answers
 
@@ -131,7 +129,7 @@ SettledAfter (unit_gives outputs after) = AreSettled after
 SettledAfter (unit_spent counter) = Unit {0}
 
 module _ (codec : Codec) (r : Records) (s : AreSettled r) where
-  cp_after : (gnb : Gnb) (a : OctetAnswer (CuCpRecord (List ℕ) (List ℕ))) → EndsIn (λ c. IsCpOf gnb c) a → SettledAfter (answered_with codec (with_cu_cp r gnb) a)
+  cp_after : (gnb : Gnb) (a : OctetAnswer (CuCpRecord (List ℕ) (List ℕ))) → EndsIn (λ c. AreInOrder c) a → SettledAfter (answered_with codec (with_cu_cp r gnb) a)
   unfolding SettledAfter
   cp_after gnb (gives outputs c) h = cp_put r gnb c s h
   cp_after gnb (spent counter) h = tt
@@ -154,7 +152,7 @@ module _ (codec : Codec) (r : Records) (s : AreSettled r) where
 
   tables_settle : (node : NodeId) (input : Input) → SettledAfter (tables codec r node input)
   unfolding tables SettledAfter
-  tables_settle (CuCp gnb) input = cp_after gnb (cu_cp_steps codec (cu_cp_of r gnb) input) (cp_steps_end codec gnb (cu_cp_of r gnb) input (cp_is r gnb s))
+  tables_settle (CuCp gnb) input = cp_after gnb (cu_cp_steps codec (cu_cp_of r gnb) input) (cp_steps_end codec (cu_cp_of r gnb) input (cp_is r gnb s))
   tables_settle (up_id gnb number) input = any_after (with_cu_up r gnb number) (λ x. up_put r gnb number x s) (cu_up_steps codec (cu_up_of r gnb number) input)
   tables_settle (du_id gnb number) input = any_after (with_du r gnb number) (λ x. du_put r gnb number x s) (du_steps codec (du_of r gnb number) input)
   tables_settle (Ue ue) input = ue_settles ue input (ue_of r (record { 0 = ue })) refl

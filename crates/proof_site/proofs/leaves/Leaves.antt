@@ -1,8 +1,7 @@
--- Units that do what the tables say leave all where they hold what a run asks or refuse an event.
-use Rattle.std.proofs.Common.{◌≡◌, ℕ, Bool, true, false, ◌&&◌, ◌||◌, List, [], ◌∷◌, Option, Some, None, refl, sym, ap, ◌∙◌, subst}
+-- Units that do what the tables say leave all where they hold what they are given or refuse an event.
+use Rattle.std.proofs.Common.{◌≡◌, ℕ, true, false, List, [], ◌∷◌, Option, Some, None, refl, sym, ap, ◌∙◌, subst}
 use Rattle.std.specs.Prelude.{is_some, unwrap_or}
-use Rattle.std.specs.Cmp.{Equal-is}
-use Rattle.std.specs.List.{AllByRecursion, list_any}
+use Rattle.std.specs.List.{list_any}
 use Rattle.gnb_types.specs.declared.names.Gnb.{Gnb}
 use Rattle.gnb_types.specs.declared.names.Gnb.TheVariants.{A, B}
 use Rattle.gnb_types.specs.declared.names.NodeId.{NodeId}
@@ -15,72 +14,38 @@ use Rattle.gnb_types.specs.declared.inputs.Order.{Order}
 use Rattle.gnb_types.specs.declared.inputs.Order.TheVariants as orders
 use Rattle.gnb_types.specs.declared.outputs.Output.{Output}
 use Rattle.gnb_types.specs.declared.outputs.Output.TheVariants as outs
-use Rattle.gnb_types.specs.Orders.{ue_cmp, node_cmp}
-use Rattle.gnb_types.proofs.OrderLemmas.{ue_total, node_total, node_exact}
+use Rattle.gnb_types.specs.Orders.{node_cmp}
+use Rattle.gnb_types.proofs.OrderLemmas.{ue_total, node_total}
 use Rattle.tables.specs.Tables.{find, put, at}
-use Rattle.unit_defs.specs.CuCpRecords.{CuCpRecord, has_unit, same_node}
 use Rattle.unit_defs.specs.CuUpRecords.{CuUp}
 use Rattle.unit_defs.specs.CuUp.{new_cu_up}
 use Rattle.unit_defs.specs.Ue.{UeNode}
 use Rattle.unit_defs.specs.octet_defs.Codec.{Codec}
 use Rattle.unit_defs.specs.octet_defs.Units.{cu_cp_steps, cu_up_steps, du_steps, ue_steps}
-use Rattle.run_defs.specs.Units.{cu_cp_of, with_cu_cp, cu_up_of, with_cu_up, du_of, with_du, ue_of, with_ue}
+use Rattle.run_defs.specs.Units.{with_cu_cp, cu_up_of, with_cu_up, du_of, with_du, ue_of, with_ue}
 use Rattle.run_defs.specs.UnitRuns.{Records, unit_gives, ue_answers, tables}
-use Rattle.run_units.specs.Steps.{IsAsked, has_units, LeavesAll}
+use Rattle.run_units.specs.Steps.{IsThere, LeavesAll}
 use Rattle.proof_site.specs.lone_units.Lone.{Makes, StaysWhereLone}
-use Rattle.proof_site.specs.lone_units.Orders.{IsOf, IsCpOf, HasOrder}
 use Rattle.proof_site.proofs.lone_units.Standing.{put_back}
 use Rattle.proof_site.specs.leaves.Settled.{AreSettled}
 use Rattle.proof_site.proofs.leaves.Alone.{IsAlone, made_apart, alone_after}
-use Rattle.proof_site.proofs.leaves.Steps.{IsAskedThere, IsNoPoll, up_steps_stay, new_up_makes, du_steps_make, ue_steps_stay, cp_steps_stay}
+use Rattle.proof_site.proofs.leaves.Steps.{IsNoPoll, up_steps_stay, new_up_makes, du_steps_make, ue_steps_stay, cp_steps_stay}
 
--- ---- units that are set up at a CU-CP are those of its gNB
-
-own_in : (own gnb : Gnb) (node u : NodeId) (us : List NodeId) (t : Bool) → same_node u node ≡ t → IsOf own u → (has_unit us node ≡ true → IsOf own node)
-    → t || has_unit us node ≡ true → IsOf own node
-own_in own gnb node u us true same here later is = subst (λ (n : NodeId). IsOf own n) (node_exact u node ((Equal-is (node_cmp u node)).0 same)) here
-own_in own gnb node u us false same here later is = later is
-
-unit_is_own : (own gnb : Gnb) (node : NodeId) (units : List NodeId) → AllByRecursion (λ n. IsOf own n) units → has_unit units node ≡ true → IsOf own node
-unit_is_own own gnb node [] all is = absurd cc
-unit_is_own own gnb node (u ∷ us) all is = own_in own gnb node u us (same_node u node) refl all.0 (unit_is_own own gnb node us all.1) is
-
-first_of : (a b : Bool) → a && b ≡ true → a ≡ true
-first_of true b h = refl
-first_of false b h = absurd cc
-
-abbrev Cp : Type 0
-Cp = CuCpRecord (List ℕ) (List ℕ)
-
-asked_there : (own : Gnb) (c : Cp) (input : Input) (r : Records) → IsCpOf own c → IsAsked r (CuCp own) input → cu_cp_of r own ≡ c → IsAskedThere c input
-asked_there own c (ins.Order (orders.Attach plan)) r p is same =
-    let there : has_units plan c = subst (λ (x : Cp). has_units plan x) same is in
-    let own_is : plan.gnb ≡ own =
-    unit_is_own own plan.gnb (up_id plan.gnb plan.up) c.units p.units_are
-    (first_of (has_unit c.units (up_id plan.gnb plan.up)) (has_unit c.units (du_id plan.gnb plan.du)) there) in
-    subst (λ (g : Gnb). has_unit c.units (up_id g plan.up) && has_unit c.units (du_id g plan.du) ≡ true) (own_is ∙ sym p.gnb_is) there
-asked_there own c (ins.Order (orders.Handover plan)) r p is same = subst (λ (x : Cp). is_some (find ue_cmp x.terminals plan.ue) ≡ true) same is
-asked_there own c (ins.Order (orders.Cancel ue)) r p is same = subst (λ (x : Cp). is_some (find ue_cmp x.terminals ue) ≡ true) same is
-asked_there own c (ins.Order (orders.Release ue)) r p is same = subst (λ (x : Cp). is_some (find ue_cmp x.terminals ue) ≡ true) same is
-asked_there own c input r p is same = tt
-
-no_poll : (r : Records) (gnb : Gnb) (number : ℕ) (input : Input) → find node_cmp r.ups (up_id gnb number) ≡ None → IsAsked r (up_id gnb number) input → IsNoPoll input
+no_poll : (r : Records) (gnb : Gnb) (number : ℕ) (input : Input) → find node_cmp r.ups (up_id gnb number) ≡ None → IsThere r (up_id gnb number) input → IsNoPoll input
 no_poll r gnb number (ins.Order (orders.Poll ue bearer)) none is = let both : false ≡ true = sym (ap (λ o. is_some o) none) ∙ is in absurd cc
 no_poll r gnb number input none is = tt
 
 module _ (codec : Codec) (r : Records) (settled : AreSettled r) where
   -- an answer of one output leaves all
   abbrev Lone : NodeId → Type 0
-  Lone node = (input : Input) (o : Output) (after : Records) → IsAlone o → IsAsked r node input → tables codec r node input ≡ unit_gives (o ∷ []) after → after ≡ r
+  Lone node = (input : Input) (o : Output) (after : Records) → IsAlone o → IsThere r node input → tables codec r node input ≡ unit_gives (o ∷ []) after → after ≡ r
 
   cp_lone : (gnb : Gnb) → Lone (CuCp gnb)
   unfolding tables
-  cp_lone A input o after is asked e =
-      alone_after codec (with_cu_cp r A) r.cu_cp_a (cu_cp_steps codec r.cu_cp_a input)
-      (cp_steps_stay codec A r.cu_cp_a input settled.cu_cp_a (asked_there A r.cu_cp_a input r settled.cu_cp_a asked refl)) o after is e
-  cp_lone B input o after is asked e =
-      alone_after codec (with_cu_cp r B) r.cu_cp_b (cu_cp_steps codec r.cu_cp_b input)
-      (cp_steps_stay codec B r.cu_cp_b input settled.cu_cp_b (asked_there B r.cu_cp_b input r settled.cu_cp_b asked refl)) o after is e
+  cp_lone A input o after is there e =
+      alone_after codec (with_cu_cp r A) r.cu_cp_a (cu_cp_steps codec r.cu_cp_a input) (cp_steps_stay codec r.cu_cp_a input settled.cu_cp_a) o after is e
+  cp_lone B input o after is there e =
+      alone_after codec (with_cu_cp r B) r.cu_cp_b (cu_cp_steps codec r.cu_cp_b input) (cp_steps_stay codec r.cu_cp_b input settled.cu_cp_b) o after is e
 
   up_lone : (gnb : Gnb) (number : ℕ) → Lone (up_id gnb number)
   unfolding tables at

@@ -3,7 +3,6 @@ use Rattle.std.proofs.Common.{◌≡◌, ℕ, Bool, true, false, List, [], ◌�
 use Rattle.std.specs.Prelude.{if◌then◌else◌, Result, Ok, Err}
 use Rattle.gnb_types.specs.declared.names.Gnb.{Gnb}
 use Rattle.gnb_types.specs.declared.names.NodeId.{NodeId}
-use Rattle.gnb_types.specs.declared.names.NodeId.TheVariants.{CuCp}
 use Rattle.gnb_types.specs.declared.inputs.Input.{Input as OctetInput}
 use Rattle.gnb_types.specs.declared.inputs.Input.TheVariants as ins
 use Rattle.gnb_types.specs.declared.inputs.Order.{Order}
@@ -23,7 +22,7 @@ use Rattle.unit_defs.specs.octet_defs.Codec.{Codec, octet_way}
 use Rattle.unit_defs.specs.octet_defs.Reading.{ReadInput, message_read, read_message, read_at_cu_cp, read_at_cu_up, read_at_du, read_at_ue}
 use Rattle.unit_defs.specs.octet_defs.Units.{OctetAnswer, acts_on, cu_cp_steps, cu_up_steps, du_steps, ue_steps}
 use Rattle.proof_site.specs.lone_units.Lone.{Makes, EndsIn, StaysWhereLone, StaysIn}
-use Rattle.proof_site.specs.lone_units.Orders.{HasOrder, IsCpOf, IsAskedOf}
+use Rattle.proof_site.specs.lone_units.Orders.{HasOrder, AreInOrder}
 use Rattle.proof_site.proofs.lone_units.CuUps.{cu_up_stays, cu_up_makes, IsOther}
 use Rattle.proof_site.proofs.lone_units.Dus.{du_makes}
 use Rattle.proof_site.proofs.lone_units.Terminals.{ue_stays}
@@ -31,11 +30,6 @@ use Rattle.proof_site.proofs.lone_units.CuCps.{cu_cp_ends, cu_cp_stays}
 
 abbrev Octets : Type 0
 Octets = List ℕ
-
--- an order at a CU-CP is asked; whatever else it is given may be anything
-abbrev pub IsAskedThere : CuCpRecord Octets Octets → OctetInput → Type 0
-IsAskedThere c (ins.Order order) = IsAskedOf {P = Octets} c (order_input order)
-IsAskedThere c input = Unit {0}
 
 abbrev pub IsNoPoll : OctetInput → Type 0
 IsNoPoll (ins.Order (orders.Poll ue bearer)) = ⊥
@@ -90,20 +84,18 @@ module _ (codec : Codec) where
       by (Ok heard) = ue_stays (octet_way codec) u heard p
       by (Err reason) = (tt, p)
 
-  pub cp_steps_end : (own : Gnb) (r : CuCpRecord Octets Octets) (input : OctetInput) → IsCpOf own r → EndsIn (λ c. IsCpOf own c) (cu_cp_steps codec r input)
+  pub cp_steps_end : (r : CuCpRecord Octets Octets) (input : OctetInput) → AreInOrder r → EndsIn (λ c. AreInOrder c) (cu_cp_steps codec r input)
   unfolding cu_cp_steps
-  cp_steps_end own r input p = by (read_at_cu_cp codec r input)
+  cp_steps_end r input p = by (read_at_cu_cp codec r input)
     where
-      by : (read : ReadInput) → EndsIn (λ c. IsCpOf own c) (acts_on (cu_cp_acts (octet_way codec) r) r read)
-      by (Ok heard) = cu_cp_ends (octet_way codec) own r heard p
+      by : (read : ReadInput) → EndsIn (λ c. AreInOrder c) (acts_on (cu_cp_acts (octet_way codec) r) r read)
+      by (Ok heard) = cu_cp_ends (octet_way codec) r heard p
       by (Err reason) = p
 
-  pub cp_steps_stay : (own : Gnb) (r : CuCpRecord Octets Octets) (input : OctetInput) → IsCpOf own r → IsAskedThere r input
-      → StaysWhereLone r (cu_cp_steps codec r input)
-  unfolding cu_cp_steps read_at_cu_cp
-  cp_steps_stay own r (ins.Control from octets) p is =
-      read_so (λ a. StaysWhereLone r a) (cu_cp_acts (octet_way codec) r) r from
-      (λ m. cu_cp_stays (octet_way codec) own r (control_input from m) p tt) (λ reason. tt) (shares_interface (CuCp r.gnb) from) (codec.read from (CuCp r.gnb) octets)
-  cp_steps_stay own r ins.Tick p is = cu_cp_stays (octet_way codec) own r tick_input p tt
-  cp_steps_stay own r (ins.Order order) p is = cu_cp_stays (octet_way codec) own r (order_input order) p is
-  cp_steps_stay own r input p is = tt
+  pub cp_steps_stay : (r : CuCpRecord Octets Octets) (input : OctetInput) → AreInOrder r → StaysWhereLone r (cu_cp_steps codec r input)
+  unfolding cu_cp_steps
+  cp_steps_stay r input p = by (read_at_cu_cp codec r input)
+    where
+      by : (read : ReadInput) → StaysWhereLone r (acts_on (cu_cp_acts (octet_way codec) r) r read)
+      by (Ok heard) = cu_cp_stays (octet_way codec) r heard p
+      by (Err reason) = tt

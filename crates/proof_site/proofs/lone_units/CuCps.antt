@@ -1,11 +1,9 @@
--- A CU-CP: where it refuses an order for a terminal that it knows its record stays; each other step is made. Its terminals go on to be in order.
-use Rattle.std.proofs.Common.{◌≡◌, ◌==◌, ℕ, ◌+◌, Bool, true, false, not, ◌&&◌, ◌||◌, List, [], ◌∷◌, ◌++◌, Option, Some, None, ◌⊎◌, inl, inr, refl, sym, ap, ◌∙◌, subst}
+-- A CU-CP: where it refuses an order its record stays; each other step is made. Its terminals go on to be in order.
+use Rattle.std.proofs.Common.{◌≡◌, ◌==◌, ℕ, ◌+◌, Bool, true, false, not, ◌&&◌, ◌||◌, List, [], ◌∷◌, Option, Some, None, ◌⊎◌, inl, inr, refl, sym, ap, subst}
 use Rattle.std.specs.Prelude.{if◌then◌else◌, is_some}
 use Rattle.std.specs.List.{AllByRecursion}
-use Rattle.gnb_types.specs.declared.names.Gnb.{Gnb}
-use Rattle.gnb_types.specs.declared.names.Gnb.TheVariants.{A, B}
 use Rattle.gnb_types.specs.declared.names.NodeId.{NodeId}
-use Rattle.gnb_types.specs.declared.names.NodeId.TheVariants.{CuCp, CuUp, Du, Core, Ue}
+use Rattle.gnb_types.specs.declared.names.NodeId.TheVariants.{CuCp}
 use Rattle.gnb_types.specs.declared.names.UeId.{UeId}
 use Rattle.gnb_types.specs.declared.keys.Channel.{Channel}
 use Rattle.gnb_types.specs.declared.plans.Plan.{Plan}
@@ -17,8 +15,7 @@ use Rattle.gnb_types.specs.declared.reasons.RefuseReason.{RefuseReason}
 use Rattle.gnb_types.specs.declared.reasons.RefuseReason.TheVariants.{NotStarted, Attached, Same, NotAllowed, Busy, Empty, TooLate}
 use Rattle.gnb_types.specs.Orders.{ue_cmp}
 use Rattle.gnb_types.proofs.OrderLemmas.{ue_total}
-use Rattle.tables.specs.Tables.{find, put}
-use Rattle.tables.proofs.TableLaws.{sorted-put}
+use Rattle.tables.specs.Tables.{find, put, IsSorted}
 use Rattle.transaction_defs.specs.Callers.{close, due, after_tick, Due, repeats, expires}
 use Rattle.message_types.specs.declared.f1.F1.TheVariants as f1s
 use Rattle.message_types.specs.declared.e1.E1Message.TheVariants as e1s
@@ -33,61 +30,52 @@ use Rattle.unit_defs.specs.declared.AttemptKind.TheVariants as kinds
 use Rattle.unit_defs.specs.Ways.{Message, f1, e1, xn, core, Input, control_input, tick_input, order_input, Way, Answer, gives, spent, ◌then◌, nothing, drops}
 use Rattle.unit_defs.specs.Messages.{cause_name, channel, is_same_gnb, shares_interface, are_bearers, statuses_of}
 use Rattle.unit_defs.specs.Transactions.{Kind, request, reply, transfer, kind_of, Transactions, Asked, ask, ask_at_once, advance, replied, replied_late}
-use Rattle.unit_defs.specs.CuCpRecords.{Attempt, CuCpContext, CuCpTerminal, CuCpRecord, terminal_in, terminal_of, with_terminal, with_transactions, with_attempt, awaiting, begun, same_node, has_unit, bearers_in, awaits_answer, answered, waiting_of, after_begun, after_asked, noted, Action, asks, cancels, replies, replies_late, sends, fails, ignores, refuses, forgets, act_one, act_all, Row, row, row_spent, carry_out}
+use Rattle.unit_defs.specs.CuCpRecords.{Attempt, CuCpContext, CuCpTerminal, CuCpRecord, no_terminal, terminal_in, terminal_of, is_blank, kept_terminals, with_terminal, with_transactions, with_attempt, awaiting, begun, on_context, same_node, has_unit, bearers_in, awaits_answer, answered, waiting_of, after_begun, after_asked, noted, Action, asks, cancels, replies, replies_late, sends, fails, ignores, refuses, forgets, act_one, act_all, Row, row, row_spent, carry_out}
+use Rattle.unit_defs.proofs.Terminals.{kept_sorted}
 use Rattle.unit_defs.specs.CuCpRows.{CuCpScope, own_up, own_du, name_bearers, is_between_dus, is_between_gnbs, attach_begins, attach_on, attach, move_begins, handover_begins, epoch_of, is_serving, handover_on, handover, cancel_attempt, cancel_of, cancel_on, cancel, release_on, release, accepted_action}
 use Rattle.unit_defs.specs.CuCp.{at_of, listed, caused, only_closes, in_attaching, in_moving, in_preparing, in_prepared, in_offered, in_switching, in_releasing, in_state, Answered, answers_none, answers_with, answer_of, answer_on, answer, after_failed_setup, put_next, closed_at, answered_by, reply_received, with_unit, set_up, asked, is_complete, is_reestablish, is_epoch, is_own_command, may_return, is_too_early, is_ready, token_in_ready, token_of_return, token_of_attempt, token_while_serving, token_by_attempt, token_on, token_row, token_ue, container_row, no_context_first, token_received, transferred, control_by, control_received, expired_on, due_one, due_each, command_by, command_on, command_each, ues_of, tick, ordered, cu_cp_acts}
 use Rattle.proof_site.specs.lone_units.Lone.{IsMade, Makes, MakesTo, EndsIn, StaysWhereLone}
-use Rattle.proof_site.specs.lone_units.Orders.{IsOf, IsCpOf, IsAskedOf}
-use Rattle.proof_site.proofs.lone_units.Steps.{all_append, either_to, after_to, made_to, made_stays, ask_made, at_once_made, advance_made, replied_made, late_made, on_request_to, on_reply_to}
+use Rattle.proof_site.specs.lone_units.Orders.{AreInOrder}
+use Rattle.proof_site.proofs.lone_units.Steps.{either_to, after_to, made_to, made_stays, ask_made, at_once_made, advance_made, replied_made, late_made, on_request_to, on_reply_to}
 use Rattle.proof_site.proofs.lone_units.Standing.{put_back}
 use Rattle.proof_site.proofs.lone_units.CpSays.{IsSaid, RowSays, row_if, attach_has_says, attach_placed_says, attach_fails_says, move_begins_says, move_has_says, move_placed_says, handover_begins_says, acknowledged_says, declined_says, expires_says, frozen_says, not_frozen_says, command_says, offer_says, offer_has_says, offer_declined_says, offer_placed_says, status_says, xn_cancelled_says, xn_released_says, renewed_says, switched_says, path_says, completes_says, completes_again_says, returns_says, arrives_says, arrives_again_says}
 
 -- ---- the record
 
-own_of : (gnb : Gnb) (from : NodeId) → shares_interface (CuCp gnb) from ≡ true → IsOf gnb from
-own_of gnb (CuCp other) h = tt
-own_of A (CuUp A number) h = refl
-own_of A (CuUp B number) h = absurd cc
-own_of B (CuUp A number) h = absurd cc
-own_of B (CuUp B number) h = refl
-own_of A (Du A number) h = refl
-own_of A (Du B number) h = absurd cc
-own_of B (Du A number) h = absurd cc
-own_of B (Du B number) h = refl
-own_of gnb Core h = tt
-own_of gnb (Ue ue) h = tt
+-- what is kept of a terminal is kept again
+kept_again : (ts : List (UeId × CuCpTerminal)) (ue : UeId) → IsSorted ue_cmp ts → kept_terminals ts ue (terminal_in (find ue_cmp ts ue)) ≡ ts
+kept_again ts ue sorted = by (find ue_cmp ts ue) refl
+  where
+    either : (b : Bool) (t : CuCpTerminal) → put ue_cmp ts ue t ≡ ts → (if b then ts else put ue_cmp ts ue t) ≡ ts
+    either true t back = refl
+    either false t back = back
 
--- a terminal with a context is one that is known
-known_by_context : (o : Option CuCpTerminal) (c : CuCpContext) → (terminal_in o).context ≡ Some c → o ≡ Some (terminal_in o)
-known_by_context None c is = absurd cc
-known_by_context (Some t) c is = refl
+    by : (o : Option CuCpTerminal) → find ue_cmp ts ue ≡ o → kept_terminals ts ue (terminal_in o) ≡ ts
+    by None none = subst (λ (o : Option CuCpTerminal). (if not (is_some o) then ts else put ue_cmp ts ue no_terminal) ≡ ts) (sym none) refl
+    by (Some t) there = either (is_blank t && not (is_some (find ue_cmp ts ue))) t (put_back ue_total ts ue t sorted there)
 
-known_by_find : (o : Option CuCpTerminal) → is_some o ≡ true → o ≡ Some (terminal_in o)
-known_by_find None is = absurd cc
-known_by_find (Some t) is = refl
-
-module _ {M C P : Type 0} (way : Way M C P) (own : Gnb) where
+module _ {M C P : Type 0} (way : Way M C P) where
   abbrev Good : CuCpRecord M C → Type 0
-  Good r = IsCpOf own r
+  Good r = AreInOrder r
 
   abbrev Keeps : Answer M P (CuCpRecord M C) → Type 0
   Keeps a = MakesTo Good a
 
   terminal_put : (ue : UeId) (r : CuCpRecord M C) (t : CuCpTerminal) → Good r → Good (with_terminal ue r t)
-  terminal_put ue r t p = record { gnb_is = p.gnb_is; order = sorted-put ue_total r.terminals ue t p.order; units_are = p.units_are }
+  terminal_put ue r t p = kept_sorted r.terminals ue t p
 
-  transactions_put : (r : CuCpRecord M C) (t : Transactions M C) → Good r → Good (with_transactions r t)
-  transactions_put r t p = record { gnb_is = p.gnb_is; order = p.order; units_are = p.units_are }
+  attempt_put : (ue : UeId) (f : Attempt → Attempt) (r : CuCpRecord M C) → Good r → Good (with_attempt ue f r)
+  attempt_put ue f r p = terminal_put ue r (record (terminal_of r ue) { context = on_context f (terminal_of r ue).context }) p
 
   after_asked_good : (ue : UeId) (node : NodeId) (r : CuCpRecord M C) (a : Asked M C) → Good r → Good (after_asked way ue node r a)
   after_asked_good ue node r a p = by a.awaited
     where
       by : (o : Option ℕ) → Good (after_begun way ue node (with_transactions r a.transactions) o)
-      by None = transactions_put r a.transactions p
-      by (Some instance) = terminal_put ue (with_transactions r a.transactions) _ (transactions_put r a.transactions p)
+      by None = p
+      by (Some instance) = attempt_put ue (λ x. begun x node instance) (with_transactions r a.transactions) p
 
   noted_good : (ue : UeId) (node : NodeId) (awaited : Bool) (r : CuCpRecord M C) → Good r → Good (noted way ue node awaited r)
-  noted_good ue node true r p = terminal_put ue r _ p
+  noted_good ue node true r p = attempt_put ue (λ a. awaiting a node) r p
   noted_good ue node false r p = p
 
   -- ---- what a row says is carried out
@@ -103,15 +91,15 @@ module _ {M C P : Type 0} (way : Way M C P) (own : Gnb) where
       (at_once_made way r.transactions (channel ue.0 to) (waiting_of way m None false)) (λ a. (after_asked_good ue to r a p, tt))
   says_one ue r (replies to m) is p =
       made_to Good (replied way r.transactions (channel ue.0 to) m) (λ t. nothing (with_transactions r t)) (replied_made way r.transactions (channel ue.0 to) m)
-      (λ t. (transactions_put r t p, tt))
+      (λ t. (p, tt))
   says_one ue r (replies_late to instance m) is p =
       made_to Good (replied_late way r.transactions (channel ue.0 to) instance m) (λ t. nothing (with_transactions r t))
-      (late_made way r.transactions (channel ue.0 to) instance m) (λ t. (transactions_put r t p, tt))
+      (late_made way r.transactions (channel ue.0 to) instance m) (λ t. (p, tt))
   says_one ue r (sends to m) is p = (p, (tt, tt))
   says_one ue r (fails cause) is p = (p, (tt, tt))
   says_one ue r (ignores reason) is p = (p, (tt, tt))
   says_one ue r (refuses reason) is p = absurd is
-  says_one ue r forgets is p = (transactions_put r _ p, tt)
+  says_one ue r forgets is p = (p, tt)
 
   says_all : (ue : UeId) (ss : List (Action C)) (r : CuCpRecord M C) → AllByRecursion IsSaid ss → Good r → Keeps (act_all way ue ss r)
   unfolding act_all
@@ -231,11 +219,11 @@ module _ {M C P : Type 0} (way : Way M C P) (own : Gnb) where
       (λ a. (after_asked_good ue ch.peer r a p, tt))
 
   answered_keeps : (ue : UeId) (ch : Channel) (m : Message C) (r : CuCpRecord M C) (a : Answered way) → AnswerSays a → Good r → Keeps (answered_by way ue ch m r a)
-  answered_keeps ue ch m r answers_none says p = next_keeps ue ch _ (transactions_put (closed_at way ch r) _ (transactions_put r _ p))
+  answered_keeps ue ch m r answers_none says p = next_keeps ue ch _ p
   answered_keeps ue ch m r (answers_with None) says p = (p, (tt, tt))
   answered_keeps ue ch m r (answers_with (Some what)) says p =
       after_to Good Good (carry_out way ue (closed_at way ch r) what) (put_next way ue ch)
-      (carried_out ue (closed_at way ch r) what says (transactions_put r _ p)) (next_keeps ue ch)
+      (carried_out ue (closed_at way ch r) what says p) (next_keeps ue ch)
 
   reply_keeps : (ue : UeId) (ch : Channel) (instance : ℕ) (m : Message C) (r : CuCpRecord M C) → Good r → Keeps (reply_received way ue ch instance m r)
   unfolding reply_received
@@ -244,30 +232,23 @@ module _ {M C P : Type 0} (way : Way M C P) (own : Gnb) where
 
   -- ---- requests and tokens
 
-  unit_put : (from : NodeId) (r : CuCpRecord M C) → IsOf own from → Good r → Good (with_unit way from r)
-  unit_put from r is p = record { gnb_is = p.gnb_is; order = p.order; units_are = by (has_unit r.units from) }
-    where
-      by : (t : Bool) → AllByRecursion (IsOf own) (if t then r.units else r.units ++ from ∷ [])
-      by true = p.units_are
-      by false = all_append (IsOf own) r.units (from ∷ []) p.units_are (is, tt)
-
-  set_up_keeps : (from : NodeId) (m : Message C) (r : CuCpRecord M C) → IsOf own from → Good r → Keeps (set_up way from m r)
-  set_up_keeps from m r is p =
+  set_up_keeps : (from : NodeId) (m : Message C) (r : CuCpRecord M C) → Good r → Keeps (set_up way from m r)
+  set_up_keeps from m r p =
       made_to Good (replied way r.transactions (channel 0 from) m) (λ t. nothing (with_transactions (with_unit way from r) t))
-      (replied_made way r.transactions (channel 0 from) m) (λ t. (transactions_put (with_unit way from r) t (unit_put from r is p), tt))
+      (replied_made way r.transactions (channel 0 from) m) (λ t. (p, tt))
 
-  asked_keeps : (from : NodeId) (m : Message C) (r : CuCpRecord M C) → IsOf own from → Good r → Keeps (asked way from m r)
-  asked_keeps from (f1 (f1s.F1SetupRequest instance name)) r is p = set_up_keeps from (f1 (f1s.F1SetupResponse instance)) r is p
-  asked_keeps from (e1 (e1s.E1SetupRequest instance name)) r is p = set_up_keeps from (e1 (e1s.E1SetupResponse instance)) r is p
-  asked_keeps from (xn (xns.HandoverRequest ue instance epoch bearers sn quota peer du origin)) r is p =
+  asked_keeps : (from : NodeId) (m : Message C) (r : CuCpRecord M C) → Good r → Keeps (asked way from m r)
+  asked_keeps from (f1 (f1s.F1SetupRequest instance name)) r p = set_up_keeps from (f1 (f1s.F1SetupResponse instance)) r p
+  asked_keeps from (e1 (e1s.E1SetupRequest instance name)) r p = set_up_keeps from (e1 (e1s.E1SetupResponse instance)) r p
+  asked_keeps from (xn (xns.HandoverRequest ue instance epoch bearers sn quota peer du origin)) r p =
       carried_out ue r _ (offer_says way (at_of r ue) from instance _ (terminal_of r ue)) p
-  asked_keeps from (xn (xns.SnStatusTransfer ue instance statuses)) r is p =
+  asked_keeps from (xn (xns.SnStatusTransfer ue instance statuses)) r p =
       carried_out ue r _ (status_says way (at_of r ue) from instance statuses (terminal_of r ue)) p
-  asked_keeps from (xn (xns.HandoverCancel ue instance)) r is p =
+  asked_keeps from (xn (xns.HandoverCancel ue instance)) r p =
       carried_out ue r _ (xn_cancelled_says way (at_of r ue) from instance (terminal_of r ue)) p
-  asked_keeps from (xn (xns.UeContextRelease ue instance)) r is p =
+  asked_keeps from (xn (xns.UeContextRelease ue instance)) r p =
       carried_out ue r _ (xn_released_says way (at_of r ue) from instance (terminal_of r ue)) p
-  asked_keeps from m r is p = (p, (tt, tt))
+  asked_keeps from m r p = (p, (tt, tt))
 
   module _ (at : CuCpScope) (from : NodeId) (t : CuCpTerminal) where
     ready_says : (token : Token) (epoch : ℕ) (c : CuCpContext) (a : Attempt) → RowSays (token_in_ready way at from token epoch t c a)
@@ -315,23 +296,22 @@ module _ {M C P : Type 0} (way : Way M C P) (own : Gnb) where
       carried_out ue r _ (container_says (at_of r ue) from (terminal_of r ue) (terminal_of r ue).context (way.unwrap container)) p
   transferred_keeps from m r p = (p, (tt, tt))
 
-  control_by_keeps : (from : NodeId) (m : Message C) (r : CuCpRecord M C) (k : Kind) → IsOf own from → Good r → Keeps (control_by way from m r k)
-  control_by_keeps from m r (request ue i) is p =
+  control_by_keeps : (from : NodeId) (m : Message C) (r : CuCpRecord M C) (k : Kind) → Good r → Keeps (control_by way from m r k)
+  control_by_keeps from m r (request ue i) p =
       on_request_to way Good r r.transactions (channel ue from) i (λ t. asked way from m (with_transactions r t)) p
-      (λ t. asked_keeps from m (with_transactions r t) is (transactions_put r t p))
-  control_by_keeps from m r (reply ue i) is p =
+      (λ t. asked_keeps from m (with_transactions r t) p)
+  control_by_keeps from m r (reply ue i) p =
       on_reply_to way Good r r.transactions (channel ue from) i (reply_received way (record { 0 = ue }) (channel ue from) i m r) p
       (reply_keeps (record { 0 = ue }) (channel ue from) i m r p)
-  control_by_keeps from m r (transfer ue) is p = transferred_keeps from m r p
+  control_by_keeps from m r (transfer ue) p = transferred_keeps from m r p
 
   control_keeps : (from : NodeId) (m : Message C) (r : CuCpRecord M C) → Good r → Keeps (control_received way from m r)
   unfolding control_received
-  control_keeps from m r p = by (shares_interface (CuCp r.gnb) from) refl
+  control_keeps from m r p = by (shares_interface (CuCp r.gnb) from)
     where
-      by : (t : Bool) → shares_interface (CuCp r.gnb) from ≡ t → Keeps (if t then control_by way from m r (kind_of m) else drops Unexpected r)
-      by true shares =
-          control_by_keeps from m r (kind_of m) (own_of own from (ap (λ (g : Gnb). shares_interface (CuCp g) from) (sym p.gnb_is) ∙ shares)) p
-      by false shares = (p, (tt, tt))
+      by : (t : Bool) → Keeps (if t then control_by way from m r (kind_of m) else drops Unexpected r)
+      by true = control_by_keeps from m r (kind_of m) p
+      by false = (p, (tt, tt))
 
   -- ---- a tick
 
@@ -369,7 +349,7 @@ module _ {M C P : Type 0} (way : Way M C P) (own : Gnb) where
   tick_keeps r p =
       let on : CuCpRecord M C = with_transactions r (record r.transactions { caller = after_tick r.transactions.caller }) in
       after_to Good Good (due_each way (due r.transactions.caller) on) (λ s. command_each way (ues_of way s) s)
-      (due_each_keeps (due r.transactions.caller) on (transactions_put r _ p)) (λ s q. command_each_keeps (ues_of way s) s q)
+      (due_each_keeps (due r.transactions.caller) on p) (λ s q. command_each_keeps (ues_of way s) s q)
 
   -- ---- orders: a row that refuses nothing, or one that refuses and keeps the terminal
 
@@ -381,8 +361,8 @@ module _ {M C P : Type 0} (way : Way M C P) (own : Gnb) where
   order_if t false x y p q = q
 
   -- what such a row comes to
-  abbrev Comes : UeId → CuCpRecord M C → Answer M P (CuCpRecord M C) → Type 0
-  Comes ue r a = EndsIn Good a × (find ue_cmp r.terminals ue ≡ Some (terminal_of r ue) → StaysWhereLone r a)
+  abbrev Comes : CuCpRecord M C → Answer M P (CuCpRecord M C) → Type 0
+  Comes r a = EndsIn Good a × StaysWhereLone r a
 
   made_ends : (a : Answer M P (CuCpRecord M C)) → Keeps a → EndsIn Good a
   made_ends (gives outputs after) p = p.0
@@ -395,18 +375,16 @@ module _ {M C P : Type 0} (way : Way M C P) (own : Gnb) where
       by (gives outputs after) p = p.1
       by (spent counter) p = tt
 
-  refused_comes : (ue : UeId) (r : CuCpRecord M C) (reason : RefuseReason) → Good r → Comes ue r (carry_out way ue r (row (refuses reason ∷ []) (terminal_of r ue)))
+  refused_comes : (ue : UeId) (r : CuCpRecord M C) (reason : RefuseReason) → Good r → Comes r (carry_out way ue r (row (refuses reason ∷ []) (terminal_of r ue)))
   unfolding carry_out act_all act_one
-  refused_comes ue r reason p = (
-    terminal_put ue r (terminal_of r ue) p,
-    λ known. ap (λ (es : List (UeId × CuCpTerminal)). record r { terminals = es }) (put_back ue_total r.terminals ue (terminal_of r ue) p.order known),
-  )
+  refused_comes ue r reason p =
+      (terminal_put ue r (terminal_of r ue) p, ap (λ (ts : List (UeId × CuCpTerminal)). record r { terminals = ts }) (kept_again r.terminals ue p))
 
-  order_comes : (ue : UeId) (r : CuCpRecord M C) (what : Row C) → Good r → IsOrderRow (terminal_of r ue) what → Comes ue r (carry_out way ue r what)
+  order_comes : (ue : UeId) (r : CuCpRecord M C) (what : Row C) → Good r → IsOrderRow (terminal_of r ue) what → Comes r (carry_out way ue r what)
   order_comes ue r what p (inl says) =
-      (made_ends (carry_out way ue r what) (carried_out ue r what says p), λ known. made_stands r (carry_out way ue r what) (carried_out ue r what says p))
+      (made_ends (carry_out way ue r what) (carried_out ue r what says p), made_stands r (carry_out way ue r what) (carried_out ue r what says p))
   order_comes ue r what p (inr refused) =
-      subst (λ (x : Row C). Comes ue r (carry_out way ue r x)) (sym refused.1) (refused_comes ue r refused.0 p)
+      subst (λ (x : Row C). Comes r (carry_out way ue r x)) (sym refused.1) (refused_comes ue r refused.0 p)
 
   handover_row : (at : CuCpScope) (goal : Plan) (t : CuCpTerminal) → IsOrderRow t (handover way at goal t)
   unfolding handover
@@ -459,46 +437,18 @@ module _ {M C P : Type 0} (way : Way M C P) (own : Gnb) where
       by (Some c) = inr (Attached, refl)
       by None = order_if t (not (has_unit at.units (own_up at plan.up)) || not (has_unit at.units (own_du at plan.du))) _ _ (inr (NotStarted, refl)) (inl (tt, tt))
 
-  -- where both units of the plan are set up, an attach is refused for a terminal alone that is there
-  begins : (a b : Bool) (x y : Row C) → a && b ≡ true → RowSays y → RowSays (if not a || not b then x else y)
-  begins true true x y h p = p
-  begins true false x y h p = absurd cc
-  begins false b x y h p = absurd cc
-
-  attach_says : (r : CuCpRecord M C) (plan : Plan) (t : CuCpTerminal) → has_unit r.units (CuUp r.gnb plan.up) && has_unit r.units (Du r.gnb plan.du) ≡ true
-      → t.context ≡ None → RowSays (attach way (at_of r plan.ue) plan t)
-  unfolding attach
-  attach_says r plan t there is = by t.context is
-    where
-      by : (c : Option CuCpContext) → c ≡ None → RowSays (attach_on way (at_of r plan.ue) plan t c)
-      by None h = begins (has_unit r.units (CuUp r.gnb plan.up)) (has_unit r.units (Du r.gnb plan.du)) _ _ there (tt, tt)
-      by (Some c) h = absurd cc
-
-  attach_stays : (r : CuCpRecord M C) (plan : Plan) → Good r → has_unit r.units (CuUp r.gnb plan.up) && has_unit r.units (Du r.gnb plan.du) ≡ true
-      → StaysWhereLone r (carry_out way plan.ue r (attach way (at_of r plan.ue) plan (terminal_of r plan.ue)))
-  attach_stays r plan p there = by (terminal_of r plan.ue).context refl
-    where
-      by : (c : Option CuCpContext) → (terminal_of r plan.ue).context ≡ c
-          → StaysWhereLone r (carry_out way plan.ue r (attach way (at_of r plan.ue) plan (terminal_of r plan.ue)))
-      by (Some c) is =
-          (order_comes plan.ue r (attach way (at_of r plan.ue) plan (terminal_of r plan.ue)) p (attach_row (at_of r plan.ue) plan (terminal_of r plan.ue))).1
-          (known_by_context (find ue_cmp r.terminals plan.ue) c is)
-      by None is =
-          made_stands r (carry_out way plan.ue r (attach way (at_of r plan.ue) plan (terminal_of r plan.ue)))
-          (carried_out plan.ue r (attach way (at_of r plan.ue) plan (terminal_of r plan.ue)) (attach_says r plan (terminal_of r plan.ue) there is) p)
-
   -- ---- the table
 
-  attach_comes : (r : CuCpRecord M C) (plan : Plan) → Good r → Comes plan.ue r (carry_out way plan.ue r (attach way (at_of r plan.ue) plan (terminal_of r plan.ue)))
+  attach_comes : (r : CuCpRecord M C) (plan : Plan) → Good r → Comes r (carry_out way plan.ue r (attach way (at_of r plan.ue) plan (terminal_of r plan.ue)))
   attach_comes r plan p = order_comes plan.ue r _ p (attach_row (at_of r plan.ue) plan (terminal_of r plan.ue))
 
-  handover_comes : (r : CuCpRecord M C) (plan : Plan) → Good r → Comes plan.ue r (carry_out way plan.ue r (handover way (at_of r plan.ue) plan (terminal_of r plan.ue)))
+  handover_comes : (r : CuCpRecord M C) (plan : Plan) → Good r → Comes r (carry_out way plan.ue r (handover way (at_of r plan.ue) plan (terminal_of r plan.ue)))
   handover_comes r plan p = order_comes plan.ue r _ p (handover_row (at_of r plan.ue) plan (terminal_of r plan.ue))
 
-  cancel_comes : (r : CuCpRecord M C) (ue : UeId) → Good r → Comes ue r (carry_out way ue r (cancel way (at_of r ue) (terminal_of r ue)))
+  cancel_comes : (r : CuCpRecord M C) (ue : UeId) → Good r → Comes r (carry_out way ue r (cancel way (at_of r ue) (terminal_of r ue)))
   cancel_comes r ue p = order_comes ue r _ p (cancel_row (at_of r ue) (terminal_of r ue))
 
-  release_comes : (r : CuCpRecord M C) (ue : UeId) → Good r → Comes ue r (carry_out way ue r (release way (at_of r ue) (terminal_of r ue)))
+  release_comes : (r : CuCpRecord M C) (ue : UeId) → Good r → Comes r (carry_out way ue r (release way (at_of r ue) (terminal_of r ue)))
   release_comes r ue p = order_comes ue r _ p (release_row (at_of r ue) (terminal_of r ue))
 
   pub cu_cp_ends : (r : CuCpRecord M C) (input : Input C P) → Good r → EndsIn Good (cu_cp_acts way r input)
@@ -511,12 +461,12 @@ module _ {M C P : Type 0} (way : Way M C P) (own : Gnb) where
   cu_cp_ends r (order_input (orders.Release ue)) p = (release_comes r ue p).0
   cu_cp_ends r input p = p
 
-  pub cu_cp_stays : (r : CuCpRecord M C) (input : Input C P) → Good r → IsAskedOf r input → StaysWhereLone r (cu_cp_acts way r input)
+  pub cu_cp_stays : (r : CuCpRecord M C) (input : Input C P) → Good r → StaysWhereLone r (cu_cp_acts way r input)
   unfolding cu_cp_acts
-  cu_cp_stays r (control_input from m) p is = made_stands r (control_received way from m r) (control_keeps from m r p)
-  cu_cp_stays r tick_input p is = made_stands r (tick way r) (tick_keeps r p)
-  cu_cp_stays r (order_input (orders.Attach plan)) p is = attach_stays r plan p is
-  cu_cp_stays r (order_input (orders.Handover plan)) p is = (handover_comes r plan p).1 (known_by_find (find ue_cmp r.terminals plan.ue) is)
-  cu_cp_stays r (order_input (orders.Cancel ue)) p is = (cancel_comes r ue p).1 (known_by_find (find ue_cmp r.terminals ue) is)
-  cu_cp_stays r (order_input (orders.Release ue)) p is = (release_comes r ue p).1 (known_by_find (find ue_cmp r.terminals ue) is)
-  cu_cp_stays r input p is = tt
+  cu_cp_stays r (control_input from m) p = made_stands r (control_received way from m r) (control_keeps from m r p)
+  cu_cp_stays r tick_input p = made_stands r (tick way r) (tick_keeps r p)
+  cu_cp_stays r (order_input (orders.Attach plan)) p = (attach_comes r plan p).1
+  cu_cp_stays r (order_input (orders.Handover plan)) p = (handover_comes r plan p).1
+  cu_cp_stays r (order_input (orders.Cancel ue)) p = (cancel_comes r ue p).1
+  cu_cp_stays r (order_input (orders.Release ue)) p = (release_comes r ue p).1
+  cu_cp_stays r input p = tt

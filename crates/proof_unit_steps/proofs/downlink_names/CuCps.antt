@@ -32,6 +32,7 @@ use Rattle.unit_defs.specs.Ways.{Message, f1, e1, xn, Input, control_input, pack
 use Rattle.unit_defs.specs.Messages.{channel, shares_interface}
 use Rattle.unit_defs.specs.Transactions.{Kind, request, reply, transfer, kind_of, Waiting, Transactions, Asked, waits_at, with_waiting, ask, ask_at_once, advance, replied, replied_late, answered_again, request_by, on_request, on_reply}
 use Rattle.unit_defs.specs.CuCpRecords.{Attempt, CuCpContext, CuCpTerminal, CuCpRecord, terminal_in, terminal_of, with_terminal, with_transactions, awaiting, begun, on_attempt, on_context, with_attempt, waiting_of, after_begun, after_asked, noted, not_awaited, unawaited, forgotten, Action, asks, cancels, replies, replies_late, sends, fails, ignores, refuses, forgets, act_one, act_all, Row, row, row_spent, carry_out}
+use Rattle.unit_defs.proofs.Terminals.{kept_so, kept_here}
 use Rattle.unit_defs.specs.CuCp.{at_of, Answered, answers_none, answers_with, answer, is_cu_up_release, without_release, is_setup_failure, after_failed_setup, put_next, closed_at, answered_by, reply_received, set_up, asked as asked_row, token_received, transferred, control_by, control_received, expired_on, due_one, due_each, command_by, command_on, command_each, ues_of, tick, ordered, cu_cp_acts}
 use Rattle.intervals.proofs.Intervals.{all_append, all_filter}
 use Rattle.proof_unit_steps.proofs.packets.Answers.{found, each_put}
@@ -39,7 +40,6 @@ use Rattle.proof_unit_steps.specs.tunnel_names.Names.{Property, Names, NamesFor,
 use Rattle.proof_unit_steps.specs.tunnel_names.CuCps.{CuCpNames}
 use Rattle.proof_unit_steps.proofs.tunnel_names.Kept.{all_mapped}
 use Rattle.proof_unit_steps.proofs.tunnel_names.CuCps.{terminal_names}
-use Rattle.proof_unit_steps.proofs.tunnels.Keyed.{put_found}
 use Rattle.proof_unit_steps.specs.downlink_names.Places.{DownlinkTeid, du_of_teid, Grant, Place, away, known, waits, asked, placed, Story, Granted, OnAnswer, NoSwitch, AnswerIs, SwitchIs}
 use Rattle.proof_unit_steps.specs.downlink_names.Claims.{HasClosed, IsClosed, KeptIs, PutIs, RequestIs, AreMarked, TransactionsAre, HeldIn, HeldBy, CuCpIs, CuCpHas, InputIs, CuCpGoes}
 use Rattle.proof_unit_steps.proofs.downlink_names.Moves.{gives_by, on_answer, from_known, nowhere, same_channel, Moves, stays_there, moves_then, take, take_keeps, Asks}
@@ -77,7 +77,8 @@ module _ (d : DownlinkTeid) {C P : Type 0} (way : Way (Message C) C P) (same : (
 
   held_put : (q : Place) (r : Record) (ue : UeId) (t : CuCpTerminal) → Held q r → HeldBy d q ue t.context → Held q (with_terminal ue r t)
   held_put q r ue t h here v =
-      subst (λ (o : Option CuCpTerminal). HeldBy d q v (terminal_in o).context) (sym (find-put ue_total r.terminals ue t v)) (by (eq_by_cmp ue_cmp v ue) refl)
+      kept_so (λ (es : List (UeId × CuCpTerminal)). HeldBy d q v (terminal_in (find ue_cmp es v)).context) r.terminals ue t (λ blank none. h v)
+      (subst (λ (o : Option CuCpTerminal). HeldBy d q v (terminal_in o).context) (sym (find-put ue_total r.terminals ue t v)) (by (eq_by_cmp ue_cmp v ue) refl))
     where
       by : (b : Bool) → eq_by_cmp ue_cmp v ue ≡ b → HeldBy d q v (terminal_in (cond b (Some t) (find ue_cmp r.terminals v))).context
       by true tie = subst (λ (w : UeId). HeldBy d q w t.context) (sym (ue_exact v ue ((Equal-is (ue_cmp v ue)).0 tie))) here
@@ -285,7 +286,7 @@ module _ (d : DownlinkTeid) {C P : Type 0} (way : Way (Message C) C P) (same : (
   carried p high ue r (row (s ∷ ss) t) (inr is) h =
       let on : Record = with_terminal ue r t in
       goes_then p (act_one way ue on s) (act_all way ue ss)
-      (say_switch p high ue on s is.0 (subst (λ (x : CuCpTerminal). Settled d ue x.context) (sym (ap terminal_in (put_found r.terminals ue t))) is.1)
+      (say_switch p high ue on s is.0 (subst (λ (x : CuCpTerminal). Settled d ue x.context) (sym (kept_here r.terminals ue t)) is.1)
       (record { transactions = h.transactions; contexts = held_put p r ue t h.contexts (is.1 p) }))
       (λ q i x moves k. same_place q (act_all way ue ss x) (all_plain q i ue ss x is.2 k))
   carried p high ue r (row_spent counter) is h = (p, stays_there p, tt)

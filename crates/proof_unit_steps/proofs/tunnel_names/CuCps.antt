@@ -3,7 +3,7 @@ use Rattle.std.proofs.Common.{◌≡◌, ℕ, Bool, true, false, cond, List, [],
 use Rattle.std.specs.Prelude.{if◌then◌else◌}
 use Rattle.std.specs.List.{AllByRecursion}
 use Rattle.std.specs.Ordering.{eq_by_cmp}
-use Rattle.std.specs.Cmp.{Equal-is, tied_itself}
+use Rattle.std.specs.Cmp.{Equal-is}
 use Rattle.gnb_types.specs.declared.names.Gnb.{Gnb}
 use Rattle.gnb_types.specs.declared.names.NodeId.{NodeId}
 use Rattle.gnb_types.specs.declared.names.NodeId.TheVariants.{CuCp}
@@ -17,7 +17,7 @@ use Rattle.gnb_types.proofs.OrderLemmas.{ue_total, ue_exact}
 use Rattle.message_types.specs.declared.f1.F1.TheVariants as f1s
 use Rattle.message_types.specs.declared.e1.E1Message.TheVariants as e1s
 use Rattle.message_types.specs.declared.xn.XnMessage.TheVariants as xns
-use Rattle.tables.specs.Tables.{find, put}
+use Rattle.tables.specs.Tables.{find}
 use Rattle.tables.proofs.TableLaws.{find-put}
 use Rattle.transaction_defs.specs.Callers.{due, Due, repeats, expires, after_tick, close}
 use Rattle.unit_defs.specs.declared.StateName.{StateName}
@@ -26,6 +26,7 @@ use Rattle.unit_defs.specs.Ways.{Message, f1, e1, xn, Input, control_input, pack
 use Rattle.unit_defs.specs.Messages.{channel, shares_interface}
 use Rattle.unit_defs.specs.Transactions.{Kind, request, reply, transfer, kind_of, Waiting, Transactions, Asked, waits_at, with_waiting, ask, ask_at_once, advance, replied, replied_late}
 use Rattle.unit_defs.specs.CuCpRecords.{Awaited, Attempt, CuCpContext, CuCpTerminal, CuCpRecord, terminal_in, terminal_of, with_terminal, with_transactions, with_instance_of, is_from, awaiting, begun, on_attempt, on_context, with_attempt, waiting_of, after_begun, after_asked, noted, not_awaited, unawaited, forgotten, Action, asks, cancels, replies, replies_late, sends, fails, ignores, refuses, forgets, act_one, act_all, Row, row, row_spent, carry_out}
+use Rattle.unit_defs.proofs.Terminals.{kept_so, kept_here}
 use Rattle.unit_defs.specs.CuCp.{at_of, Answered, answers_none, answers_with, answer, is_cu_up_release, without_release, is_setup_failure, after_failed_setup, put_next, closed_at, answered_by, reply_received, with_unit, set_up, asked, token_received, transferred, control_by, control_received, expired_on, due_one, due_each, command_by, command_on, command_each, ues_of, tick, ordered, cu_cp_acts}
 use Rattle.intervals.proofs.Intervals.{all_append}
 use Rattle.proof_unit_steps.specs.tunnel_names.Names.{Property, Names, NamesFor, ue_of, OrderNames, InputNames, AnswerNames, KeptNames}
@@ -51,7 +52,9 @@ module _ {M C P : Type 0} {way : Way M C P} (is : Property way) where
       → CuCpNames is gnb (with_terminal ue r t)
   with_terminal_names gnb r ue t p h = record {
     own = p.own;
-    terminals = λ v x e. by v x (eq_by_cmp ue_cmp v ue) refl (sym (find-put ue_total r.terminals ue t v) ∙ e);
+    terminals =
+        kept_so (λ (es : List (UeId × CuCpTerminal)). (v : UeId) (x : CuCpTerminal) → find ue_cmp es v ≡ Some x → TerminalNames is gnb v x.context) r.terminals ue t
+        (λ blank none. p.terminals) (λ v x e. by v x (eq_by_cmp ue_cmp v ue) refl (sym (find-put ue_total r.terminals ue t v) ∙ e));
     kept = p.kept;
   }
     where
@@ -64,11 +67,7 @@ module _ {M C P : Type 0} {way : Way M C P} (is : Property way) where
 
   -- the terminal that was put is found
   put_terminal : (r : Record) (ue : UeId) (t : CuCpTerminal) → terminal_of (with_terminal ue r t) ue ≡ t
-  put_terminal r ue t =
-      let tie : eq_by_cmp ue_cmp ue ue ≡ true = (Equal-is (ue_cmp ue ue)).1 (tied_itself ue_total ue) in
-      let there : find ue_cmp (put ue_cmp r.terminals ue t) ue ≡ Some t =
-      find-put ue_total r.terminals ue t ue ∙ subst (λ (b : Bool). cond b (Some t) (find ue_cmp r.terminals ue) ≡ Some t) (sym tie) refl in
-      subst (λ (o : Option CuCpTerminal). terminal_in o ≡ t) (sym there) refl
+  put_terminal r ue t = kept_here r.terminals ue t
 
   -- ---- what is carried out of a row, with these that may be awaited
 

@@ -171,15 +171,9 @@ fn counts_across_the_wrap(rt: HostRuntime) -> Result<(), Fail> {
 }
 
 /// A packet that waits for the one before it: its COUNT is 4,097.
+#[rattlefmt::skip]
 const WAITS: [Call; 7] = [
-    Call::Take(
-        1,
-        7,
-        Ok(Taken {
-            count: Some(4_097),
-            stored: true,
-        }),
-    ),
+    Call::Take(1, 7, Ok(Taken { count: Some(4_097), stored: true })),
     Call::HandUp(7, None),
     Call::Stored(0, Some(4_097)),
     Call::Stored(4_098, None),
@@ -189,30 +183,18 @@ const WAITS: [Call; 7] = [
 ];
 
 /// Four COUNTs from 0 on have room; that of the last number would be below 0.
+#[rattlefmt::skip]
 const NOT_STORED: [Call; 3] = [
     Call::Take(4, 7, Err(Ahead)),
-    Call::Take(
-        4_095,
-        7,
-        Ok(Taken {
-            count: None,
-            stored: false,
-        }),
-    ),
+    Call::Take(4_095, 7, Ok(Taken { count: None, stored: false })),
     Call::DelivAndUsed(0, 0),
 ];
 
 /// While it is frozen nothing goes up.
+#[rattlefmt::skip]
 const FROZEN: [Call; 6] = [
     Call::Freeze,
-    Call::Take(
-        4_095,
-        7,
-        Ok(Taken {
-            count: Some(4_095),
-            stored: true,
-        }),
-    ),
+    Call::Take(4_095, 7, Ok(Taken { count: Some(4_095), stored: true })),
     Call::HandUp(7, None),
     Call::Resume,
     Call::HandUp(7, Some(4_095)),

@@ -33,13 +33,11 @@ enum Put {
     Radio(&'static str),
 }
 
+#[rattlefmt::skip]
 const CALLS: [(Call, &[Put]); 13] = [
     (Call::Up(1, "800045"), &[Put::Drop(DropReason::NoContext)]),
     (Call::SetUp, &[Put::Opened(1)]),
-    (
-        Call::Frame(1, "34FF000F00000001000000840200000000000000800045"),
-        &[Put::Radio("800045")],
-    ),
+    (Call::Frame(1, "34FF000F00000001000000840200000000000000800045"), &[Put::Radio("800045")]),
     // Number 1 is missing: it is told, and the payload is dropped.
     (
         Call::Frame(1, "34FF000F00000001000000840200000000020000800245"),
@@ -52,30 +50,15 @@ const CALLS: [(Call, &[Put]); 13] = [
         ],
     ),
     // A poll in a gap is answered.
-    (
-        Call::Frame(1, "34FF000C00000001000000840201000000030000"),
-        &[Put::Packet(Dir::Dl, "34FF000C00000002000000840210000001000000")],
-    ),
+    (Call::Frame(1, "34FF000C00000001000000840201000000030000"), &[Put::Packet(Dir::Dl, "34FF000C00000002000000840210000001000000")]),
     // The restart mark ends the gap.
-    (
-        Call::Frame(1, "34FF000F00000001000000840200010000040000800345"),
-        &[Put::Radio("800345")],
-    ),
+    (Call::Frame(1, "34FF000F00000001000000840200010000040000800345"), &[Put::Radio("800345")]),
     (Call::Frame(9, "00"), &[Put::Drop(DropReason::NoTunnel)]),
     (Call::Frame(1, "00"), &[Put::Drop(DropReason::Undecodable)]),
-    (
-        Call::Up(1, "800045"),
-        &[Put::Packet(Dir::Ul, "30FF000300000002800045")],
-    ),
-    (
-        Call::Confirm(1, "800045"),
-        &[Put::Packet(Dir::Dl, "34FF00100000000200000084031400000100000000000000")],
-    ),
+    (Call::Up(1, "800045"), &[Put::Packet(Dir::Ul, "30FF000300000002800045")]),
+    (Call::Confirm(1, "800045"), &[Put::Packet(Dir::Dl, "34FF00100000000200000084031400000100000000000000")]),
     (Call::Confirm(1, "0000000000"), &[]),
-    (
-        Call::Release,
-        &[Put::Packet(Dir::Ul, "30FE000000000002"), Put::Closed(1)],
-    ),
+    (Call::Release, &[Put::Packet(Dir::Ul, "30FE000000000002"), Put::Closed(1)]),
     (Call::Frame(1, "00"), &[Put::Drop(DropReason::NoTunnel)]),
 ];
 

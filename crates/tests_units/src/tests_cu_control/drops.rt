@@ -11,19 +11,14 @@ const NOTHING: &[Put] = &[];
 const UNEXPECTED: &[Put] = &[Put::Drop(DropReason::Unexpected)];
 
 /// What is dropped for the message that it is, or isn't.
+#[rattlefmt::skip]
 const MESSAGES: [(Call, &[Put]); 15] = [
     // No terminal is served: what relays a token, whatever it is.
-    (
-        Call::Give(DU, "01020101"),
-        &[Put::Drop(DropReason::NoContext)],
-    ),
+    (Call::Give(DU, "01020101"), &[Put::Drop(DropReason::NoContext)]),
     (Call::Place, NOTHING),
     // Octets that are no message, and a message with an element that it must know.
     (Call::Give(DU, ""), &[Put::Drop(DropReason::Undecodable)]),
-    (
-        Call::Give(OTHER, "000000"),
-        &[Put::Drop(DropReason::Undecodable)],
-    ),
+    (Call::Give(OTHER, "000000"), &[Put::Drop(DropReason::Undecodable)]),
     (Call::Give(UP, "00"), &[Put::Drop(DropReason::Criticality)]),
     // Nodes that share no interface with it, whatever they say.
     (Call::Give(NodeId::Du(Gnb::B, 1), "00"), UNEXPECTED),
@@ -32,10 +27,7 @@ const MESSAGES: [(Call, &[Put]); 15] = [
     (Call::Give(NodeId::Ue(1), "00"), UNEXPECTED),
     // Replies that nobody awaits.
     (Call::Give(UP, "230101"), &[Put::Drop(DropReason::Stale)]),
-    (
-        Call::Give(NodeId::Core, "410101"),
-        &[Put::Drop(DropReason::Stale)],
-    ),
+    (Call::Give(NodeId::Core, "410101"), &[Put::Drop(DropReason::Stale)]),
     // A cancel of nothing is confirmed, and again; an older one is not.
     (Call::Give(OTHER, "350102"), &[Put::Say(OTHER, 1, "370102")]),
     (Call::Give(OTHER, "350102"), &[Put::Say(OTHER, 1, "370102")]),

@@ -25,9 +25,11 @@ pub record UmWorldState : Type 0 where
   pub run : UmRun
   -- why it has ended, if it has
   pub ended : Option UmEnd
+  -- memory ran out in an event
+  pub lacks_memory : Bool
 
 abbrev pub new_world : SnBits → ℕ → UmWorldState
-new_world sn ticks = record { sn = sn; ticks = ticks; run = new_run; ended = None }
+new_world sn ticks = record { sn = sn; ticks = ticks; run = new_run; ended = None; lacks_memory = false }
 
 -- an offered packet isn't empty, and messages have numbers from 1 on
 abbrev pub IsEvent : UmEvent → Type 0
@@ -71,16 +73,22 @@ EndsIn sn outcome after (ends.Outstanding far window) printed =
     × (far ≡ span after) × (window ≡ half sn) × (half sn < span after)
 EndsIn sn outcome after (ends.Spent counter) printed = (outcome ≡ spends counter) × (printed ≡ [])
 
+-- memory ran out in no event
+abbrev pub HasMemory : UmWorldState → UmWorldState → Type 0
+HasMemory old new = (old.lacks_memory ≡ false) × (new.lacks_memory ≡ false)
+
 abbrev pub IsEnding : UmEvent → UmWorldState → UmWorldState → UmEnd → List UmLine → Type 0
 IsEnding event old new end printed =
     ((old.ended ≡ Some end) × (printed ≡ []) × (new ≡ old))
     ⊎ ((old.ended ≡ None) × (new.ended ≡ Some end) × EndsIn old.sn (does_event old.sn old.ticks event old.run) new.run end printed)
 
--- what the code gave: lines and the run that goes on; or how the run ends, or has ended. Out of memory nothing is said.
+-- what the code gave: lines and the run that goes on; or how the run ends, or has ended. Out of memory it answers that from then on, and
+-- stays as it is.
 abbrev pub IsApplied : UmEvent → UmWorldState → UmWorldState → Result (List UmLine) UmStop → Type 0
 IsApplied event old new (Ok printed) =
     (old.ended ≡ None) × (does_event old.sn old.ticks event old.run ≡ goes_on printed new.run) × (span new.run ≤ half old.sn)
-    × (new ≡ record old { run = new.run })
-IsApplied event old new (Err (stops.Outstanding far window printed)) = IsEnding event old new (ends.Outstanding far window) printed
-IsApplied event old new (Err (stops.Spent counter printed)) = IsEnding event old new (ends.Spent counter) printed
-IsApplied event old new (Err stops.Memory) = Unit {0}
+    × (new ≡ record old { run = new.run }) × (old.lacks_memory ≡ false)
+IsApplied event old new (Err (stops.Outstanding far window printed)) =
+    IsEnding event old new (ends.Outstanding far window) printed × HasMemory old new
+IsApplied event old new (Err (stops.Spent counter printed)) = IsEnding event old new (ends.Spent counter) printed × HasMemory old new
+IsApplied event old new (Err stops.Memory) = (new.lacks_memory ≡ true) × (old.lacks_memory ≡ true → new ≡ old)

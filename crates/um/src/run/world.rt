@@ -1,6 +1,6 @@
 //! The sender, the link and the receiving entity of one unacknowledged bearer.
 
-ghost use Rattle.std.specs.Prelude.{◌≡◌, ◌≤◌, ◌%◌, ℕ, length, List, Some, None, IfOk, IfErr, IfSome, IfNone, IsSome, ◌-◌, ◌⊎◌};
+ghost use Rattle.std.specs.Prelude.{◌≡◌, ◌≤◌, ◌%◌, ℕ, true, length, List, Some, None, IfOk, IfErr, IfSome, IfNone, IsSome, ◌-◌, ◌⊎◌};
 ghost use Rattle.std.specs.Ordering.{nat_cmp};
 ghost use Rattle.tables.specs.Tables.{find};
 ghost use Rattle.um_defs.specs.um_run_defs.Run.{UmOutcome, does_event, offered, of_message, taken, landed, lost, ticks_by, asked, refused, span};
@@ -9,6 +9,8 @@ ghost use Rattle.pdcp.specs.Pdus.{radio_data};
 ghost use Rattle.um_defs.specs.Receivers.{ticked, takes};
 ghost use Rattle.um_defs.specs.declared.types.error.UmError.TheVariants as errors;
 ghost use Rattle.um.specs.run.Worlds.{new_world, IsEvent, IsOutcome, IsReception, left_on, given, IsApplied, stop_of};
+ghost use Rattle.um.specs.run.inside.Views.{IsSameBeside};
+ghost use Rattle.um_defs.specs.declared.types.stop.UmStop.TheVariants as stops;
 
 use crate::run::lines::{put_delivered, refused};
 use crate::um_pdcp::rx::UmRx;
@@ -40,7 +42,10 @@ pub struct UmWorld {
     puts: u32,
     flight: Table<u32, Octets>,
     rx: UmRx,
+    /// Why the run has ended, if it has.
     ended: Option<UmEnd>,
+    /// Memory ran out in an event.
+    lacks_memory: bool,
 }
 
 impl Model for UmWorld {
@@ -49,7 +54,7 @@ impl Model for UmWorld {
 
     ghost Value = { UmWorldState };
 
-    ghost view = { λ w. world_state w.sn w.puts w.flight w.rx w.ended };
+    ghost view = { λ w. world_state w.sn w.puts w.flight w.rx w.ended w.lacks_memory };
 
     ghost invariant = { λ w. IsUmWorld w.sn w.puts w.flight w.rx };
 }
@@ -68,6 +73,7 @@ impl UmWorld {
             flight: Table::new(alloc),
             rx,
             ended: None,
+            lacks_memory: false,
         })
     }
 
@@ -76,7 +82,7 @@ impl UmWorld {
         requires { 1 ≤ length packet.now }
         ensures outcome { IsOutcome (offered self.old.sn packet.now self.old.run) self.new.run result }
         ensures same { IfOk result (λ lines. self.new ≡ record self.old { run = self.new.run }) }
-        ensures ended { IfErr result (λ fault. (self.new.sn ≡ self.old.sn) × (self.new.ended ≡ self.old.ended)) }
+        ensures ended { IfErr result (λ fault. IsSameBeside self.old self.new) }
     {
         if packet.len() > PACKET_LIMIT {
             return Ok(refused(alloc, RefuseReason::Size)?);
@@ -98,7 +104,7 @@ impl UmWorld {
     fn tick(&mut self, alloc: Global) -> Result<UmLines, UmFault>
         ensures outcome { IsOutcome (ticks_by self.old.run (ticked self.old.ticks self.old.run.entity)) self.new.run result }
         ensures same { IfOk result (λ lines. self.new ≡ record self.old { run = self.new.run }) }
-        ensures ended { IfErr result (λ fault. (self.new.sn ≡ self.old.sn) × (self.new.ended ≡ self.old.ended)) }
+        ensures ended { IfErr result (λ fault. IsSameBeside self.old self.new) }
     {
         let Ok(outs) = self.rx.tick(alloc) else {
             return Err(UmFault::Memory);
@@ -140,7 +146,7 @@ impl UmWorld {
     fn lose(&mut self, alloc: Global, number: u32) -> Result<UmLines, UmFault>
         ensures outcome { IsOutcome (lost number self.old.run) self.new.run result }
         ensures same { IfOk result (λ lines. self.new ≡ record self.old { run = self.new.run }) }
-        ensures ended { IfErr result (λ fault. (self.new.sn ≡ self.old.sn) × (self.new.ended ≡ self.old.ended)) }
+        ensures ended { IfErr result (λ fault. IsSameBeside self.old self.new) }
     {
         if let Some(reason) = self.refusal(number) {
             return Ok(refused(alloc, reason)?);
@@ -156,7 +162,8 @@ impl UmWorld {
             → IsReception (takes self.old.sn self.old.ticks self.old.run.entity (count % space self.old.sn) packet)
             self.old.run self.new.run result }
         ensures same { (self.new.sn ≡ self.old.sn) × (self.new.run.puts ≡ self.old.run.puts)
-            × (self.new.run.flight ≡ self.old.run.flight) × (self.new.ended ≡ self.old.ended) }
+            × (self.new.run.flight ≡ self.old.run.flight) × (self.new.ended ≡ self.old.ended)
+            × (self.new.lacks_memory ≡ self.old.lacks_memory) }
         ensures ticks { IfOk result (λ outs. self.new ≡ record self.old { run = self.new.run }) }
         ensures refused { IfErr result (λ e. (e ≡ errors.Memory) ⊎ (self.new ≡ self.old)) }
     {
@@ -194,7 +201,7 @@ impl UmWorld {
         requires { 1 ≤ number }
         ensures outcome { IsOutcome (given self.old.sn self.old.ticks stays number self.old.run) self.new.run result }
         ensures same { IfOk result (λ lines. self.new ≡ record self.old { run = self.new.run }) }
-        ensures ended { IfErr result (λ fault. (self.new.sn ≡ self.old.sn) × (self.new.ended ≡ self.old.ended)) }
+        ensures ended { IfErr result (λ fault. IsSameBeside self.old self.new) }
     {
         if let Some(reason) = self.refusal(number) {
             return Ok(refused(alloc, reason)?);
@@ -219,7 +226,7 @@ impl UmWorld {
         requires { IsEvent event.now }
         ensures outcome { IsOutcome (does_event self.old.sn self.old.ticks event.now self.old.run) self.new.run result }
         ensures same { IfOk result (λ lines. self.new ≡ record self.old { run = self.new.run }) }
-        ensures ended { IfErr result (λ fault. (self.new.sn ≡ self.old.sn) × (self.new.ended ≡ self.old.ended)) }
+        ensures ended { IfErr result (λ fault. IsSameBeside self.old self.new) }
     {
         match event {
             UmEvent::Offer { packet } => self.offer(alloc, packet.as_slice()),
@@ -248,11 +255,14 @@ impl UmWorld {
     }
 
     /// Applies an event, and gives its lines. The run stops after the first event that leaves more than half a space of COUNTs outstanding,
-    /// and where a counter would pass its last value; from then on it answers that stop again, without lines.
+    /// and where a counter would pass its last value; from then on it answers that stop again, without lines, and so it does out of memory.
     pub fn apply(&mut self, alloc: Global, event: &UmEvent) -> Result<UmLines, UmStop>
         requires { IsEvent event.now }
         ensures { IsApplied event.now self.old self.new result }
     {
+        if self.lacks_memory {
+            return Err(UmStop::Memory);
+        }
         if let Some(end) = self.ended {
             return Err(stop(end, UmLines::new(alloc)));
         }
@@ -262,14 +272,16 @@ impl UmWorld {
                 UmEnd::Spent { counter },
                 UmLines::new(alloc),
             )),
-            Err(UmFault::Memory) => return Err(UmStop::Memory),
+            Err(UmFault::Memory) => return Err(self.run_out()),
         };
         let span = self.span();
         let window = half_space(self.sn);
         if span <= window {
             return Ok(lines);
         }
-        lines.push(UmLine::Outstanding { span, window })?;
+        if lines.push(UmLine::Outstanding { span, window }).is_err() {
+            return Err(self.run_out());
+        }
         Err(self.end(UmEnd::Outstanding { span, window }, lines))
     }
 
@@ -279,6 +291,14 @@ impl UmWorld {
     {
         self.ended = Some(end);
         stop(end, lines)
+    }
+
+    /// Memory ran out.
+    fn run_out(&mut self) -> UmStop
+        ensures { (result ≡ stops.Memory) × (self.new ≡ record self.old { lacks_memory = true }) }
+    {
+        self.lacks_memory = true;
+        UmStop::Memory
     }
 }
 

@@ -6,7 +6,7 @@ ghost use Rattle.pdcp.specs.Near.{last_count};
 ghost use Rattle.pdcp_defs.specs.Counts.{near_count};
 ghost use Rattle.um_defs.specs.declared.types.error.UmError.TheVariants as errors;
 ghost use Rattle.um_defs.specs.Receivers.{refuses, takes, ticked, expired, arrived, kept, stopped, started, entries};
-ghost use Rattle.um.specs.um_pdcp.Entity.{new_um_state, with_entity};
+ghost use Rattle.um.specs.um_pdcp.Entity.{new_um_state, with_entity, runs_out, StaysOut};
 
 use crate::um_pdcp::stored::{hand_up, hand_up_below};
 use gnb_types::items::Memory;
@@ -32,6 +32,8 @@ pub struct UmRx {
     reord: u32,
     left: Option<u16>,
     stored: Table<u32, Octets>,
+    /// Memory ran out in a call.
+    lacks_memory: bool,
 }
 
 impl Model for UmRx {
@@ -40,7 +42,7 @@ impl Model for UmRx {
 
     ghost Value = { UmState };
 
-    ghost view = { λ r. um_state r.sn r.ticks (um_receiver r.deliv r.next r.reord r.left r.stored) };
+    ghost view = { λ r. um_state r.sn r.ticks (um_receiver r.deliv r.next r.reord r.left r.stored) r.lacks_memory };
 
     ghost invariant = { λ r. IsUmRx r.deliv r.next r.reord r.stored };
 }
@@ -60,11 +62,32 @@ impl UmRx {
             reord: 0,
             left: None,
             stored: Table::new(alloc),
+            lacks_memory: false,
         })
     }
 
-    /// Takes a packet with this number (read modulo the sequence space), and hands up what can be handed up in order.
+    /// Takes a packet with this number (read modulo the sequence space), and hands up what can be handed up in order. Out of memory it
+    /// answers that from then on.
     pub fn take(&mut self, alloc: Global, number: u32, packet: &[u8]) -> Result<Outs, UmError>
+        ensures taken { IfOk result (λ outs. takes self.old.sn self.old.ticks self.old.entity number packet.now
+            ≡ Ok (record { packets = entries outs; after = self.new.entity })) }
+        ensures same { IfOk result (λ outs. self.new ≡ with_entity self.old self.new.entity) }
+        ensures refused { IfErr result (λ e. (e ≡ errors.Memory)
+            ⊎ ((takes self.old.sn self.old.ticks self.old.entity number packet.now ≡ Err e)
+            × (self.new ≡ self.old))) }
+        ensures numbers { self.new.sn ≡ self.old.sn }
+        ensures out { StaysOut self.old self.new result }
+    {
+        if self.lacks_memory {
+            return Err(UmError::Memory);
+        }
+        let answer = self.receive(alloc, number, packet);
+        self.note(runs_out(&answer));
+        answer
+    }
+
+    /// Takes a packet, where memory hasn't run out.
+    fn receive(&mut self, alloc: Global, number: u32, packet: &[u8]) -> Result<Outs, UmError>
         ensures taken { IfOk result (λ outs. takes self.old.sn self.old.ticks self.old.entity number packet.now
             ≡ Ok (record { packets = entries outs; after = self.new.entity })) }
         ensures same { IfOk result (λ outs. self.new ≡ with_entity self.old self.new.entity) }
@@ -82,8 +105,25 @@ impl UmRx {
         Ok(outs)
     }
 
-    /// One tick of the timer: where it expires, what was received below RX_REORD is handed up.
+    /// One tick of the timer: where it expires, what was received below RX_REORD is handed up. Out of memory it answers that from then on.
     pub fn tick(&mut self, alloc: Global) -> Result<Outs, UmError>
+        ensures ticked { IfOk result (λ outs. ticked self.old.ticks self.old.entity
+            ≡ record { packets = entries outs; after = self.new.entity }) }
+        ensures same { IfOk result (λ outs. self.new ≡ with_entity self.old self.new.entity) }
+        ensures memory { IfErr result (λ e. e ≡ errors.Memory) }
+        ensures numbers { self.new.sn ≡ self.old.sn }
+        ensures out { StaysOut self.old self.new result }
+    {
+        if self.lacks_memory {
+            return Err(UmError::Memory);
+        }
+        let answer = self.count_tick(alloc);
+        self.note(runs_out(&answer));
+        answer
+    }
+
+    /// One tick, where memory hasn't run out.
+    fn count_tick(&mut self, alloc: Global) -> Result<Outs, UmError>
         ensures ticked { IfOk result (λ outs. ticked self.old.ticks self.old.entity
             ≡ record { packets = entries outs; after = self.new.entity }) }
         ensures same { IfOk result (λ outs. self.new ≡ with_entity self.old self.new.entity) }
@@ -119,6 +159,13 @@ impl UmRx {
         ensures { result ≡ length self.now.entity.receiver.stored }
     {
         self.stored.len() as u32
+    }
+
+    /// Whether memory ran out in a call.
+    fn note(&mut self, lacks_memory: bool)
+        ensures { self.new ≡ record self.old { lacks_memory = lacks_memory } }
+    {
+        self.lacks_memory = lacks_memory;
     }
 
     /// The COUNT of a number, if a packet of it is taken.
@@ -204,4 +251,11 @@ impl UmRx {
         self.start_timer();
         Ok(outs)
     }
+}
+
+/// Whether memory ran out.
+fn runs_out(answer: &Result<Outs, UmError>) -> bool
+    ensures { result ≡ runs_out answer.now }
+{
+    matches!(answer, Err(UmError::Memory))
 }

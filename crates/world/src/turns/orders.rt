@@ -6,7 +6,7 @@ ghost use Rattle.run_defs.specs.Settling.{attached_plans, attached_bearers, quie
 ghost use Rattle.run_defs.specs.Conditions.{serving_place, state_at};
 ghost use Rattle.run_defs.specs.UnitRuns.{unit_world};
 ghost use Rattle.run_links.specs.Networks.{state_of};
-ghost use Rattle.run_units.specs.Steps.{IsAsked};
+ghost use Rattle.run_units.specs.Steps.{IsThere};
 ghost use Rattle.world_steps.specs.Gives.{EventGives};
 ghost use Rattle.world.specs.turns.Turns.{move_terminals};
 
@@ -28,7 +28,7 @@ fn quiet_order<U: Units<C> + Drop, C: MessageCodec + Drop>(
     lines: &mut Lines,
 ) -> Result<(), Cause>
     requires ready { U.ready run_state.old.units }
-    requires asked { IsAsked (U.records run_state.old.units) node (ins.Order order) }
+    requires there { IsThere (U.records run_state.old.units) node (ins.Order order) }
     ensures ready { OnOk result (U.ready run_state.new.units) }
     ensures gives { EventGives lines.old
         (quiet_order (unit_world C.codec U.answer) node order (state_of (U.records run_state.old.units) run_state.old.core run_state.old.network))

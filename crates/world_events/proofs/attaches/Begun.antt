@@ -63,12 +63,3 @@ pub attach_stops : (world : OctetWorld) (plan : Plan) (s t : OctetState) (cause 
 attach_stops world plan s t cause before lines h gives =
     subst (λ (o : OctetOutcome). EventGives before o lines t (Err cause)) (sym (attach_by world plan s None h))
     (refused_stops world s t (begun world plan s) (stop_by cause) before lines gives)
-
--- one that isn't refused is asked of a CU-CP with both units set up
-pub started_of : (plan : Plan) (s : OctetState) → None ≡ attach_refusal plan s → has_started plan s ≡ true
-started_of plan s = by (was_attached s plan.ue) (has_started plan s)
-  where
-    by : (there started : Bool) → None ≡ (if there then Some Attached else (if not started then Some NotStarted else None)) → started ≡ true
-    by true started h = absurd cc
-    by false true h = refl
-    by false false h = absurd cc

@@ -24,7 +24,7 @@ use Rattle.run_defs.specs.Events.{poll, poll_at as polls_at}
 use Rattle.run_links.specs.Networks.{Octets, OctetWorld, OctetState, OctetOutcome}
 use Rattle.world_steps.specs.declared.cause.Cause.{Cause}
 use Rattle.world_steps.specs.Gives.{EventGives}
-use Rattle.run_units.specs.Steps.{IsAsked}
+use Rattle.run_units.specs.Steps.{IsThere}
 use Rattle.world_events.specs.bearers.Places.{poll_at, poll_node}
 
 module _ (world : OctetWorld) (ue : UeId) (bearer : BearerId) (s : OctetState) where
@@ -69,18 +69,18 @@ module _ (world : OctetWorld) (ue : UeId) (bearer : BearerId) (s : OctetState) w
       by None h = cc
       by (Some r) h = refl
 
-  pub is_asked_there : (node : NodeId) → Ok node ≡ poll_node s ue bearer → IsAsked s.units node (ins.Order (orders.Poll ue bearer))
-  is_asked_there node h = by (has_bearer s ue bearer) (serving_place s ue) h
+  pub is_there : (node : NodeId) → Ok node ≡ poll_node s ue bearer → IsThere s.units node (ins.Order (orders.Poll ue bearer))
+  is_there node h = by (has_bearer s ue bearer) (serving_place s ue) h
     where
       asked : (up : ℕ) (b : Bool) → is_unconfirmed (cu_up_of s.units (serving_gnb s ue) up) ue bearer ≡ b
-          → Ok node ≡ (if b then Ok (CuUp (serving_gnb s ue) up) else Err Empty) → IsAsked s.units node (ins.Order (orders.Poll ue bearer))
+          → Ok node ≡ (if b then Ok (CuUp (serving_gnb s ue) up) else Err Empty) → IsThere s.units node (ins.Order (orders.Poll ue bearer))
       asked up true e h =
           let same : CuUp (serving_gnb s ue) up ≡ node = cc in
-          subst (λ (n : NodeId). IsAsked s.units n (ins.Order (orders.Poll ue bearer))) same (unconfirmed_is_there up e)
+          subst (λ (n : NodeId). IsThere s.units n (ins.Order (orders.Poll ue bearer))) same (unconfirmed_is_there up e)
       asked up false e h = absurd cc
 
       by : (b : Bool) (o : Option (ℕ × ℕ)) → Ok node ≡ (if b then poll_at s ue bearer o else Err NoBearer)
-          → IsAsked s.units node (ins.Order (orders.Poll ue bearer))
+          → IsThere s.units node (ins.Order (orders.Poll ue bearer))
       by false o h = absurd cc
       by true None h = absurd cc
       by true (Some place) h = asked place.0 (is_unconfirmed (cu_up_of s.units (serving_gnb s ue) place.0) ue bearer) refl h

@@ -1,5 +1,5 @@
 -- Internal: which unit an event gives which order, or why the event can't apply.
-use Rattle.std.specs.Prelude.{ℕ, ◌==◌, Bool, true, not, if◌then◌else◌, Option, Some, None, is_some, Result, Ok, Err}
+use Rattle.std.specs.Prelude.{ℕ, not, if◌then◌else◌, Option, Some, None, is_some, Result, Ok, Err}
 use Rattle.gnb_types.specs.declared.names.Gnb.{Gnb}
 use Rattle.gnb_types.specs.declared.names.Gnb.TheVariants.{A, B}
 use Rattle.gnb_types.specs.declared.names.NodeId.{NodeId}
@@ -20,14 +20,14 @@ use Rattle.run_defs.specs.Steps.{step}
 use Rattle.run_defs.specs.Conditions.{serving_gnb, serving_place, state_at, goal_of, is_same_place, is_other_up, is_busy_with}
 use Rattle.run_defs.specs.UnitRuns.{Records}
 use Rattle.run_links.specs.Networks.{OctetWorld, OctetState, OctetOutcome}
-use Rattle.run_units.specs.Steps.{IsOrdered}
+use Rattle.run_units.specs.Steps.{IsOrderedThere}
 
 abbrev pub Ordered : Type 0
 Ordered = Result (NodeId × Order) RefuseReason
 
 -- a run may give that order
 abbrev pub MayBeGiven : Records → Ordered → Type 0
-MayBeGiven r (Ok to) = IsOrdered r to.0 to.1
+MayBeGiven r (Ok to) = IsOrderedThere r to.0 to.1
 MayBeGiven r (Err reason) = Unit {0}
 
 -- what an event comes to that is no more than an order to a unit
@@ -65,15 +65,6 @@ handover_order s ue gnb up du =
     (if is_same_place gnb du serving (serving_place s ue) then Err Same else
     (if is_other_up gnb up serving (serving_place s ue) then Err NotAllowed else
     (if is_busy_with s ue then Err Busy else goal_order serving (goal_of (find ue_cmp s.plans ue) ue gnb up du))))
-
--- a handover is one of this terminal
-abbrev pub names_in : Order → UeId → Bool
-names_in (orders.Handover goal) ue = goal.ue.0 == ue.0
-names_in order ue = true
-
-abbrev pub names : Ordered → UeId → Bool
-names (Ok to) ue = names_in to.1 ue
-names (Err reason) ue = true
 
 abbrev pub cancel_order : OctetState → UeId → Ordered
 cancel_order s ue =

@@ -4,14 +4,12 @@ ghost use Rattle.std.specs.Prelude.{◌≡◌, OnOk, None};
 ghost use Rattle.gnb_types.specs.declared.names.NodeId.TheVariants.{CuCp};
 ghost use Rattle.gnb_types.specs.declared.inputs.Order.TheVariants as orders;
 ghost use Rattle.run_defs.specs.plain_defs.Plain.{IsPlanned};
-ghost use Rattle.run_defs.specs.Units.{cu_cp_of};
 ghost use Rattle.run_defs.specs.States.{order_for};
 ghost use Rattle.run_defs.specs.Steps.{does};
 ghost use Rattle.run_defs.specs.Conditions.{has_started};
 ghost use Rattle.run_defs.specs.Events.{with_terminal, attach};
 ghost use Rattle.run_defs.specs.UnitRuns.{unit_world};
 ghost use Rattle.run_links.specs.Networks.{state_of};
-ghost use Rattle.run_units.specs.Steps.{has_units};
 ghost use Rattle.world_steps.specs.Gives.{EventGives};
 ghost use Rattle.world_steps.specs.Moves.{StepOutcome};
 ghost use Rattle.world_events.specs.attaches.Comings.{attach_refusal, with_seat};
@@ -81,7 +79,6 @@ fn bring<U: Units<C> + Drop, C: MessageCodec + Drop>(
 ) -> Result<Moved, Cause>
     requires ready { U.ready run_state.old.units }
     requires planned { IsPlanned plan }
-    requires started { has_units plan (cu_cp_of (U.records run_state.old.units) plan.gnb) }
     ensures ready { OnOk result (U.ready run_state.new.units) }
     ensures gives { StepOutcome
         (does (unit_world C.codec U.answer) (CuCp plan.gnb) (order_for (orders.Attach plan)) None

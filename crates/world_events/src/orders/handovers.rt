@@ -6,7 +6,7 @@ ghost use Rattle.run_defs.specs.Events.{handover, cancel};
 ghost use Rattle.run_defs.specs.UnitRuns.{unit_world};
 ghost use Rattle.run_links.specs.Networks.{state_of};
 ghost use Rattle.world_steps.specs.Gives.{EventGives};
-ghost use Rattle.world_events.specs.orders.Orders.{handover_order, names, cancel_order};
+ghost use Rattle.world_events.specs.orders.Orders.{handover_order, cancel_order};
 
 use crate::orders::looks::{is_busy_with, is_source};
 use crate::orders::ordering::{Ordered, give_order};
@@ -79,16 +79,6 @@ fn handover_order<U: Units<C> + Drop, C: MessageCodec + Drop>(
     }
 }
 
-/// Whether a handover is one of this terminal.
-fn names(order: Ordered, ue: UeId) -> bool
-    ensures { result ≡ names order ue }
-{
-    match order {
-        Ok((_, Order::Handover(goal))) => goal.ue.0 == ue.0,
-        _ => true,
-    }
-}
-
 fn cancel_order<U: Units<C> + Drop, C: MessageCodec + Drop>(
     run_state: &RunState<U, C>,
     ue: UeId,
@@ -124,10 +114,6 @@ pub fn handover<U: Units<C> + Drop, C: MessageCodec + Drop>(
         lines.new (state_of (U.records run_state.new.units) run_state.new.core run_state.new.network) result }
 {
     let order = handover_order(run_state, ue, gnb, up, du);
-    if !names(order, ue) {
-        // A plan is kept under its own terminal, so that this doesn't happen.
-        return Err(Cause::Memory);
-    }
     give_order(run_state, order, lines)
 }
 

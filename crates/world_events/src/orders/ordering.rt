@@ -26,7 +26,7 @@ pub fn give_order<U: Units<C> + Drop, C: MessageCodec + Drop>(
     lines: &mut Lines,
 ) -> Result<(), Cause>
     requires ready { U.ready run_state.old.units }
-    requires asked { MayBeGiven (U.records run_state.old.units) order }
+    requires there { MayBeGiven (U.records run_state.old.units) order }
     ensures ready { OnOk result (U.ready run_state.new.units) }
     ensures gives { EventGives lines.old
         (ordered (unit_world C.codec U.answer) (state_of (U.records run_state.old.units) run_state.old.core run_state.old.network) order)

@@ -3,13 +3,11 @@
 ghost use Rattle.std.specs.Prelude.{◌≡◌, OnOk, None};
 ghost use Rattle.gnb_types.specs.declared.names.NodeId.TheVariants.{CuCp};
 ghost use Rattle.gnb_types.specs.declared.inputs.Order.TheVariants as orders;
-ghost use Rattle.run_defs.specs.Units.{cu_cp_of};
 ghost use Rattle.run_defs.specs.States.{order_for};
 ghost use Rattle.run_defs.specs.Steps.{does};
 ghost use Rattle.run_defs.specs.Events.{leaves, release};
 ghost use Rattle.run_defs.specs.UnitRuns.{unit_world};
 ghost use Rattle.run_links.specs.Networks.{state_of};
-ghost use Rattle.run_units.specs.Steps.{knows};
 ghost use Rattle.world_steps.specs.Gives.{EventGives};
 ghost use Rattle.world_steps.specs.Moves.{StepOutcome};
 ghost use Rattle.world_events.specs.orders.Orders.{releaser_of};
@@ -51,7 +49,6 @@ fn let_go<U: Units<C> + Drop, C: MessageCodec + Drop>(
     lines: &mut Lines,
 ) -> Result<Moved, Cause>
     requires ready { U.ready run_state.old.units }
-    requires known { knows ue (cu_cp_of (U.records run_state.old.units) gnb) }
     ensures ready { OnOk result (U.ready run_state.new.units) }
     ensures gives { StepOutcome
         (does (unit_world C.codec U.answer) (CuCp gnb) (order_for (orders.Release ue)) None (leaves (unit_world C.codec U.answer) ue)

@@ -1,6 +1,6 @@
 //! `give`: a control message is given to its receiver.
 
-ghost use Rattle.std.specs.Prelude.{◌≡◌, List, ℕ, Some, None, IfOk, OnOk};
+ghost use Rattle.std.specs.Prelude.{◌≡◌, List, ℕ, Some, None, IfOk, IsSome, OnOk};
 ghost use Rattle.gnb_types.specs.declared.names.NodeId.TheVariants.{Core};
 ghost use Rattle.gnb_types.specs.declared.inputs.Input.TheVariants as ins;
 ghost use Rattle.transport_defs.specs.declared.ControlMessage.{ControlMessage as ControlMessageOf};
@@ -113,7 +113,8 @@ fn give_unit<U: Units<C> + Drop, C: MessageCodec + Drop>(
     number: u32,
     lines: &mut Lines,
 ) -> Result<(), Cause>
-    requires { U.ready run_state.old.units }
+    requires ready { U.ready run_state.old.units }
+    requires there { IsSome (control_message run_state.old.network.bag number) }
     ensures ready { OnOk result (U.ready run_state.new.units) }
     ensures gives { (l : ControlMessageOf (List ℕ)) → control_message run_state.old.network.bag number ≡ Some l → EventGives lines.old
         (to_unit (unit_world C.codec U.answer) number l node (state_of (U.records run_state.old.units) run_state.old.core run_state.old.network))

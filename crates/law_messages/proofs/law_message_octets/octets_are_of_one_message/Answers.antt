@@ -9,23 +9,23 @@ use Rattle.message_defs.specs.E1.{written_e1, e1_from_value}
 use Rattle.message_defs.specs.Xn.{written_xn, xn_from_value}
 use Rattle.message_defs.specs.Core.{written_core, core_from_value}
 use Rattle.message_defs.specs.Tokens.{written_token, token_from_value}
-use Rattle.law_messages.proofs.FromValueF1 as f1
-use Rattle.law_messages.proofs.FromValueE1 as e1
-use Rattle.law_messages.proofs.FromValueXn as xn
-use Rattle.law_messages.proofs.FromValueCore as core
-use Rattle.law_messages.proofs.FromValueTokens as tokens
+use Rattle.proof_heard_messages.proofs.HeardF1 as f1
+use Rattle.proof_heard_messages.proofs.HeardE1 as e1
+use Rattle.proof_heard_messages.proofs.HeardXn as xn
+use Rattle.proof_heard_messages.proofs.HeardCore as core
+use Rattle.proof_heard_messages.proofs.HeardTokens as tokens
 use Rattle.law_messages.proofs.law_message_octets.Types as bounded
 use Rattle.law_messages.proofs.law_message_octets.Determined.{one_message}
 use Rattle.law_messages.proofs.law_message_octets.octets_are_of_one_message.Goals as goal
 
 pub returns : goal.returns
 returns c = record {
-  f1 = λ a b octets. one_message F1Message f1_type f1_from_value bounded.f1 (written_f1 a) (written_f1 b) a b octets (f1.from_value a) (f1.from_value b);
-  e1 = λ a b octets. one_message E1Message e1_type e1_from_value bounded.e1 (written_e1 a) (written_e1 b) a b octets (e1.from_value a) (e1.from_value b);
+  f1 = λ a b octets. one_message F1Message f1_type f1_from_value bounded.f1 (written_f1 a) (written_f1 b) a b octets (f1.heard a) (f1.heard b);
+  e1 = λ a b octets. one_message E1Message e1_type e1_from_value bounded.e1 (written_e1 a) (written_e1 b) a b octets (e1.heard a) (e1.heard b);
   xn = λ w a b octets. one_message XnMessage (xn_type (number_of w)) xn_from_value (bounded.xn w) (written_xn a) (written_xn b) a b octets
-      (xn.from_value a) (xn.from_value b);
+      (xn.heard a) (xn.heard b);
   core = λ a b octets. one_message CoreMessage core_type core_from_value bounded.core (written_core a) (written_core b) a b octets
-      (core.from_value a) (core.from_value b);
+      (core.heard a) (core.heard b);
   token = λ a b octets. one_message Token token_type token_from_value bounded.token (written_token a) (written_token b) a b octets
-      (tokens.from_value a) (tokens.from_value b);
+      (tokens.heard a) (tokens.heard b);
 }

@@ -1,5 +1,5 @@
 -- Internal: the entity as contracts see it, from what the code keeps; and what it keeps of COUNTs.
-use Rattle.std.specs.Prelude.{ℕ, ◌≤◌, ◌+◌, List, Option}
+use Rattle.std.specs.Prelude.{ℕ, ◌≤◌, ◌+◌, Bool, List, Option}
 use Rattle.gnb_types.specs.declared.names.SnBits.{SnBits}
 use Rattle.pdcp.specs.Near.{last_count}
 use Rattle.um_defs.specs.Receivers.{UmReceiver}
@@ -17,5 +17,5 @@ abbrev pub um_receiver : ℕ → ℕ → ℕ → Option ℕ → List (ℕ × Lis
 um_receiver deliv next reord left stored =
     record { receiver = record { deliv = deliv; stored = stored }; next = next; reord = reord; left = left }
 
-abbrev pub um_state : SnBits → ℕ → UmReceiver (List ℕ) → UmState
-um_state sn ticks entity = record { sn = sn; ticks = ticks; entity = entity }
+abbrev pub um_state : SnBits → ℕ → UmReceiver (List ℕ) → Bool → UmState
+um_state sn ticks entity lacks = record { sn = sn; ticks = ticks; entity = entity; lacks_memory = lacks }

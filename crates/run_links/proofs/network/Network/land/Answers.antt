@@ -9,5 +9,5 @@ pub returns-in-Ok : goal.returns-in-Ok
 returns-in-Ok c =
     ok_then c.push.result c.push.ensures.ok
     (λ told l there.
-    land_makes c.args.self.now _ l c.in-Ok.control_message c.args.number c.args.lines.now c.push.new.self c.in-Ok.ensures refl there
+    land_makes c.args.self.now _ l c.in-Ok.control_message c.args.number c.args.lines.now c.push.new.self c.in-Ok.ensures.answers refl there
     (told ∙ ap (λ (m : ShownMessage). c.args.lines.now ++ outs.GotMessage m ∷ []) c.shown_control_message.ensures))

@@ -7,8 +7,8 @@ use Rattle.run_links.proofs.Results.{ok_then}
 use Rattle.run_links.proofs.OnTunnels.{take_makes}
 use Rattle.run_links.proofs.network.Network.take_off.Goals as goal
 
-pub returns-in-Ok-clause-told : goal.returns-in-Ok-clause-told
-returns-in-Ok-clause-told c =
+pub returns-clause-told : goal.returns-clause-told
+returns-clause-told c =
     ok_then c.push.result c.push.ensures.ok
     (λ told item rest there.
     take_makes c.args.end c.args.self.now _ item c.in-Ok.item rest c.args.lines.now c.push.new.self c.in-Ok.ensures refl there

@@ -1,6 +1,6 @@
 use Rattle.run_defs.specs.UnitRuns.{unit_world}
 use Rattle.run_links.specs.Networks.{state_of}
-use Rattle.world_events.proofs.attaches.Begun.{attach_refuses, attach_moves, attach_stops, started_of}
+use Rattle.world_events.proofs.attaches.Begun.{attach_refuses, attach_moves, attach_stops}
 use Rattle.world_events.proofs.attaches.attaches.attach.Goals as goal
 
 pub returns-in-Some-clause-gives : goal.returns-in-Some-clause-gives
@@ -22,7 +22,3 @@ returns-clause-gives g c =
     (state_of (g.U.Units.records c.args.run_state.now.units) c.args.run_state.now.core c.args.run_state.now.network)
     (state_of (g.U.Units.records c.bring.new.run_state.units) c.bring.new.run_state.core c.bring.new.run_state.network) c.in-Ok.moved
     c.args.lines.now c.bring.new.lines c.show_refused.new.lines c.in_default.ensures c.in-Ok.ensures.gives c.in_ok-show_refused.ensures
-
-pub bring-requires-clause-started : goal.bring-requires-clause-started
-bring-requires-clause-started g c =
-    started_of c.args.plan (state_of (g.U.Units.records c.args.run_state.now.units) c.args.run_state.now.core c.args.run_state.now.network) c.in_default.ensures

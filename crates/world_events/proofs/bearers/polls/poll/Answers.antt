@@ -3,7 +3,7 @@ use Rattle.gnb_types.specs.declared.inputs.Order.TheVariants as orders
 use Rattle.run_defs.specs.States.{order_for}
 use Rattle.run_defs.specs.UnitRuns.{unit_world}
 use Rattle.run_links.specs.Networks.{state_of}
-use Rattle.world_events.proofs.bearers.Polled.{polls, polls_nothing, is_asked_there}
+use Rattle.world_events.proofs.bearers.Polled.{polls, polls_nothing, is_there}
 use Rattle.world_events.proofs.bearers.polls.poll.Goals as goal
 
 pub returns-in-Ok-clause-gives : goal.returns-in-Ok-clause-gives
@@ -21,7 +21,7 @@ returns-in_ok-push-in-Err-clause-gives g c =
     (state_of (records c.args.run_state.now.units) c.args.run_state.now.core c.args.run_state.now.network) c.in-Err.reason c.args.lines.now c.push.new.self
     c.in-Err.ensures c.in_ok-push-in-Err.ensures.ok
 
-pub step-requires-clause-asked : goal.step-requires-clause-asked
-step-requires-clause-asked g c =
-    is_asked_there (unit_world g.C.MessageCodec.codec g.U.Units.answer) c.args.ue c.args.bearer
+pub step-requires-clause-there : goal.step-requires-clause-there
+step-requires-clause-there g c =
+    is_there (unit_world g.C.MessageCodec.codec g.U.Units.answer) c.args.ue c.args.bearer
     (state_of (g.U.Units.records c.args.run_state.now.units) c.args.run_state.now.core c.args.run_state.now.network) c.in-Ok.node c.in-Ok.ensures

@@ -2,9 +2,9 @@ use Rattle.std.proofs.Common.{sym, ◌∙◌, ap, subst}
 use Rattle.run_defs.specs.UnitRuns.{unit_world}
 use Rattle.run_links.specs.Networks.{OctetOutcome, state_of}
 use Rattle.world_steps.specs.Gives.{EventGives}
-use Rattle.world_events.specs.orders.Orders.{Ordered, MayBeGiven, ordered, names}
+use Rattle.world_events.specs.orders.Orders.{Ordered, MayBeGiven, ordered}
 use Rattle.world_events.proofs.orders.AsOrders.{handover_is}
-use Rattle.world_events.proofs.orders.Known.{handover_may}
+use Rattle.world_events.proofs.orders.Given.{handover_may}
 use Rattle.world_events.proofs.orders.handovers.handover.Goals as goal
 
 pub returns-clause-gives : goal.returns-clause-gives
@@ -16,8 +16,7 @@ returns-clause-gives g c =
     subst (λ (o : OctetOutcome). EventGives c.args.lines.now o c.give_order.new.lines t c.give_order.result)
     (sym (handover_is world c.args.ue c.args.gnb c.args.up c.args.du s ∙ ap (ordered world s) (sym c.handover_order-order.ensures))) c.give_order.ensures.gives
 
-pub give_order-requires-clause-asked : goal.give_order-requires-clause-asked
-give_order-requires-clause-asked g c =
+pub give_order-requires-clause-there : goal.give_order-requires-clause-there
+give_order-requires-clause-there g c =
     let s = state_of (g.U.Units.records c.args.run_state.now.units) c.args.run_state.now.core c.args.run_state.now.network in
-    subst (λ (o : Ordered). MayBeGiven s.units o) (sym c.handover_order-order.ensures) (handover_may s c.args.ue c.args.gnb c.args.up c.args.du
-    (ap (λ (o : Ordered). names o c.args.ue) (sym c.handover_order-order.ensures) ∙ sym c.names.ensures ∙ c.if-not-names.false))
+    subst (λ (o : Ordered). MayBeGiven s.units o) (sym c.handover_order-order.ensures) (handover_may s c.args.ue c.args.gnb c.args.up c.args.du)

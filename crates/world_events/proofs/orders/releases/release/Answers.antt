@@ -1,7 +1,6 @@
 use Rattle.run_defs.specs.UnitRuns.{unit_world}
 use Rattle.run_links.specs.Networks.{state_of}
 use Rattle.world_events.proofs.orders.Released.{release_refuses, release_moves, release_stops}
-use Rattle.world_events.proofs.orders.Known.{released_known}
 use Rattle.world_events.proofs.orders.releases.release.Goals as goal
 
 pub returns-in-Err-clause-gives : goal.returns-in-Err-clause-gives
@@ -23,7 +22,3 @@ returns-clause-gives g c =
     (state_of (g.U.Units.records c.args.run_state.now.units) c.args.run_state.now.core c.args.run_state.now.network)
     (state_of (g.U.Units.records c.let_go.new.run_state.units) c.let_go.new.run_state.core c.let_go.new.run_state.network) c.in-Ok.gnb c.in-Ok-let_go.moved
     c.args.lines.now c.let_go.new.lines c.show_refused.new.lines c.in-Ok.ensures c.in-Ok-let_go.ensures.gives c.in_ok-show_refused.ensures
-
-pub let_go-requires-clause-known : goal.let_go-requires-clause-known
-let_go-requires-clause-known g c =
-    released_known (state_of (g.U.Units.records c.args.run_state.now.units) c.args.run_state.now.core c.args.run_state.now.network) c.args.ue c.in-Ok.gnb c.in-Ok.ensures

@@ -4,7 +4,7 @@ use Rattle.run_links.specs.Networks.{OctetOutcome, state_of}
 use Rattle.world_steps.specs.Gives.{EventGives}
 use Rattle.world_events.specs.orders.Orders.{Ordered, MayBeGiven, ordered}
 use Rattle.world_events.proofs.orders.AsOrders.{arrive_is}
-use Rattle.world_events.proofs.orders.Known.{arrive_may}
+use Rattle.world_events.proofs.orders.Given.{arrive_may}
 use Rattle.world_events.proofs.orders.terminals.arrive.Goals as goal
 
 pub returns-clause-gives : goal.returns-clause-gives
@@ -16,7 +16,7 @@ returns-clause-gives g c =
     subst (λ (o : OctetOutcome). EventGives c.args.lines.now o c.give_order.new.lines t c.give_order.result)
     (sym (arrive_is world c.args.ue s ∙ ap (ordered world s) (sym c.arrive_order-order.ensures))) c.give_order.ensures.gives
 
-pub give_order-requires-clause-asked : goal.give_order-requires-clause-asked
-give_order-requires-clause-asked g c =
+pub give_order-requires-clause-there : goal.give_order-requires-clause-there
+give_order-requires-clause-there g c =
     let s = state_of (g.U.Units.records c.args.run_state.now.units) c.args.run_state.now.core c.args.run_state.now.network in
     subst (λ (o : Ordered). MayBeGiven s.units o) (sym c.arrive_order-order.ensures) (arrive_may s c.args.ue)

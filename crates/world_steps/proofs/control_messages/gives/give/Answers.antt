@@ -1,4 +1,5 @@
-use Rattle.std.proofs.Common.{sym, subst}
+use Rattle.std.proofs.Common.{sym, ap, subst}
+use Rattle.std.specs.Prelude.{is_some}
 use Rattle.gnb_types.specs.declared.names.NodeId.{NodeId}
 use Rattle.run_defs.specs.Events.{give_to}
 use Rattle.run_defs.specs.UnitRuns.{unit_world}
@@ -34,3 +35,6 @@ returns-clause-gives g c =
     control_message_gives world c.args.number l s t c.args.lines.now c.give_unit.new.lines c.give_unit.result c.in-Some.ensures
     (is_to_unit world c.args.number l l.to s t c.args.lines.now c.give_unit.new.lines c.give_unit.result c.in_default.not-Core
     (c.give_unit.ensures.gives l (sym c.in-Some.ensures)))
+
+pub give_unit-requires-clause-there : goal.give_unit-requires-clause-there
+give_unit-requires-clause-there g c = ap is_some (sym c.in-Some.ensures)

@@ -1,5 +1,5 @@
-use Rattle.std.proofs.Common.{◌≡◌, false, nat_lt, length, ◌+◌, Some, sym, subst}
-use Rattle.std.specs.Prelude.{Ok}
+use Rattle.std.proofs.Common.{◌≡◌, false, nat_lt, length, ◌+◌, Some, sym, ap, subst}
+use Rattle.std.specs.Prelude.{Ok, IsSome, is_some}
 use Rattle.transport_defs.specs.Links.{control_message, most_control_messages}
 use Rattle.run_defs.specs.Events.{landed_as}
 use Rattle.run_defs.specs.UnitRuns.{stepped_by, unit_world}
@@ -20,6 +20,10 @@ returns-in-Err-clause-gives g c l there =
     let same : shown ≡ l = cc (c.in-Some.ensures, there) in
     control_message_fails g.C.MessageCodec.codec g.U.Units.answer s (state_of after c.ask.new.self.core c.ask.new.self.network) c.args.node c.args.number shown l
     c.in_ok-input-in-Some.input after c.in-Err.cause c.args.lines.now same c.in_ok-input-in-Some.ensures c.in-Err.ensures.came
+
+pub land-requires : goal.land-requires
+land-requires g c =
+    subst (λ (x : Network). IsSome (control_message x.bag c.args.number)) (sym c.ask.ensures.network) (ap is_some (sym c.in-Some.ensures))
 
 pub finish-requires-clause-room : goal.finish-requires-clause-room
 finish-requires-clause-room g c =

@@ -1,4 +1,5 @@
-use Rattle.std.proofs.Common.{◌≡◌, length, sym, ◌∙◌}
+use Rattle.std.proofs.Common.{◌≡◌, length, sym, ap, ◌∙◌}
+use Rattle.std.specs.Prelude.{is_some}
 use Rattle.gnb_types.specs.declared.names.NodeId.TheVariants.{Core}
 use Rattle.run_defs.specs.States.{control_message_for}
 use Rattle.run_defs.specs.Events.{give_to}
@@ -6,6 +7,9 @@ use Rattle.run_defs.specs.UnitRuns.{core_answer, unit_world}
 use Rattle.run_links.specs.Networks.{state_of}
 use Rattle.world_steps.proofs.control_messages.GivenControlMessages.{control_messages_stay, room_for, core_moves, core_has_no_room, core_stops}
 use Rattle.world_steps.proofs.control_messages.gives.give_core.Goals as goal
+
+pub land-requires : goal.land-requires
+land-requires g c = ap is_some (sym c.in-Some.ensures)
 
 pub finish-requires-clause-room : goal.finish-requires-clause-room
 finish-requires-clause-room g c =

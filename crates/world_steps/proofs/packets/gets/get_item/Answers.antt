@@ -1,5 +1,5 @@
 use Rattle.std.proofs.Common.{◌≡◌, ◌+◌, ◌∷◌, Some, false, nat_lt, length, sym, ◌∙◌, ap, subst}
-use Rattle.std.specs.Prelude.{Result, Ok, Err}
+use Rattle.std.specs.Prelude.{Result, Ok, Err, IsOk, is_ok}
 use Rattle.gnb_types.specs.declared.inputs.Input.{Input}
 use Rattle.gnb_types.specs.Orders.{tunnel_cmp}
 use Rattle.tables.specs.Tables.{find}
@@ -10,7 +10,7 @@ use Rattle.run_defs.specs.Events.{taken_off, get_done}
 use Rattle.run_defs.specs.UnitRuns.{input_of, stepped_by, unit_world}
 use Rattle.run_links.specs.declared.network.Network.{Network}
 use Rattle.run_links.specs.Networks.{Octets, OctetState, state_of, control_messages_in}
-use Rattle.run_links.specs.Told.{GoesTo}
+use Rattle.run_links.specs.Told.{GoesTo, oldest_in}
 use Rattle.world_steps.specs.declared.asked.Asked.{Asked}
 use Rattle.world_steps.specs.declared.asked.Asked.TheVariants as kinds
 use Rattle.world_steps.specs.declared.asked.Moved.{Moved}
@@ -41,6 +41,10 @@ returns-in-Err-ask-clause-gives g c item rest there =
     subst (λ (x : Item Octets). StepOutcome (get_done world c.args.end x rest s) (record { state = s; lines = c.args.lines.now })
     (record { state = new; lines = c.args.lines.now }) (Err c.in-Err-ask.cause)) same
     (does_fail codec answer s c.args.end.node given shown.count (taken_off world c.args.end shown rest) after new c.args.lines.now c.in-Err-ask.cause came)
+
+pub take_off-requires : goal.take_off-requires
+take_off-requires g c =
+    subst (λ (x : Network). IsOk (oldest_in (find tunnel_cmp x.tunnels.tunnels c.args.end))) (sym c.ask.ensures.network) (ap is_ok c.in-Ok.ensures)
 
 pub finish-requires-clause-room : goal.finish-requires-clause-room
 finish-requires-clause-room g c =

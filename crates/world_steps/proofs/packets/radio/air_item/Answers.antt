@@ -1,5 +1,5 @@
-use Rattle.std.proofs.Common.{◌≡◌, Some, sym, subst}
-use Rattle.std.specs.Prelude.{Result, Ok, Err}
+use Rattle.std.proofs.Common.{◌≡◌, Some, sym, ap, subst}
+use Rattle.std.specs.Prelude.{Result, Ok, Err, IsSome, is_some}
 use Rattle.gnb_types.specs.declared.names.NodeId.{NodeId}
 use Rattle.gnb_types.specs.declared.inputs.Input.{Input}
 use Rattle.gnb_types.specs.Orders.{entity_cmp}
@@ -43,6 +43,11 @@ returns-in-Err-clause-gives g c item there =
     subst (λ (x : Item Octets). StepOutcome (carry_done world c.args.key c.args.home x s) (record { state = s; lines = c.args.lines.now }) (record { state = new; lines = c.args.lines.now }) (Err c.in-Err.cause)) same
     (subst (λ (n : NodeId). StepOutcome (does world n given shown.count (carried_off world c.args.key shown) s) (record { state = s; lines = c.args.lines.now }) (record { state = new; lines = c.args.lines.now }) (Err c.in-Err.cause)) c.receiver_of-receiver.ensures
     (does_fail codec answer s node given shown.count (carried_off world c.args.key shown) after new c.args.lines.now c.in-Err.cause came))
+
+pub carry_off-requires : goal.carry_off-requires
+carry_off-requires g c =
+    subst (λ (x : Network). IsSome (uncarried (at entity_cmp silent x.radios.radios c.args.key))) (sym c.ask.ensures.network)
+    (ap is_some (sym c.in-Some.ensures))
 
 pub returns-in_ok-carry_off-in-Does-clause-gives : goal.returns-in_ok-carry_off-in-Does-clause-gives
 returns-in_ok-carry_off-in-Does-clause-gives g c item there =

@@ -1,6 +1,6 @@
 use Rattle.std.proofs.Common.{◌∙◌, sym, ap}
 use Rattle.std.specs.Prelude.{is_some}
-use Rattle.links.proofs.links_bag.BagLemmas.{bag-land, seen_in, seen_landed}
+use Rattle.links.proofs.links_bag.BagLemmas.{bag-land, seen_in, seen_landed, seen_fewer}
 use Rattle.links.proofs.links_bag.bag.Bag.land.Goals as goal
 
 pub returns-in_default-clause-was : goal.returns-in_default-clause-was
@@ -25,3 +25,11 @@ returns-clause-was c =
 pub returns-clause-landed : goal.returns-clause-landed
 returns-clause-landed c =
     seen_landed c.self.inside.control_messages.items c.self.inside.flight c.args.self.now c.self.view_is c.args.number c.take.new.self c.take.ensures.rest
+
+pub returns-in_default-clause-fewer : goal.returns-in_default-clause-fewer
+returns-in_default-clause-fewer c =
+    seen_fewer c.self.inside.control_messages.items c.self.inside.flight c.args.self.now c.self.view_is c.self.invariant c.args.number c.take.new.self c.take.ensures.rest
+
+pub returns-clause-fewer : goal.returns-clause-fewer
+returns-clause-fewer c =
+    seen_fewer c.self.inside.control_messages.items c.self.inside.flight c.args.self.now c.self.view_is c.self.invariant c.args.number c.take.new.self c.take.ensures.rest

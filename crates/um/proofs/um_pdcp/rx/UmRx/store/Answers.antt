@@ -21,6 +21,6 @@ pub returns-clause-ok : goal.returns-clause-ok
 unfolding stored
 returns-clause-ok c =
     let t = c.self.inside in
-    ap (λ n. um_state t.sn t.ticks (um_receiver t.deliv n t.reord t.left c.put.new.self)) c.max-self-inside.ensures
-    ∙ (ap (λ es. um_state t.sn t.ticks (um_receiver t.deliv (max t.next (c.args.count + 1)) t.reord t.left es)) c.in_ok-put.ensures.ok
+    ap (λ n. um_state t.sn t.ticks (um_receiver t.deliv n t.reord t.left c.put.new.self) t.lacks_memory) c.max-self-inside.ensures
+    ∙ (ap (λ es. um_state t.sn t.ticks (um_receiver t.deliv (max t.next (c.args.count + 1)) t.reord t.left es) t.lacks_memory) c.in_ok-put.ensures.ok
     ∙ ap (λ (v : UmState). with_entity v (kept v.entity c.args.count c.args.packet)) c.self.view_is)

@@ -1,0 +1,4 @@
+pub mod Ends
+pub mod Verify
+pub mod Whole
+pub mod inside

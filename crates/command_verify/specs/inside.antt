@@ -1,0 +1,2 @@
+-- Internal: what ties the functions of judging together.
+pub mod Turns

@@ -1,0 +1,3 @@
+pub mod Unspelled
+pub mod Read
+pub mod Somewhere

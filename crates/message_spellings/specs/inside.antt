@@ -1,0 +1,2 @@
+-- Internal: what ties the functions together.
+pub mod Spelled

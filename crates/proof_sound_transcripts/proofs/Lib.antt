@@ -1,0 +1,3 @@
+pub mod RuleNumbers
+pub mod Texts
+pub mod Apart

@@ -1,0 +1,2 @@
+-- Internal: what is true of what a run keeps.
+pub mod Plans
