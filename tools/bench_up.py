@@ -19,7 +19,7 @@ import bench
 import other_reading
 import transcripts
 
-PROGRAM = other_reading.TOP / "crates/tests_cu_up/out/tests_up_tests"
+PROGRAM = other_reading.TOP / "crates/tests_cu_up/out/tests_cu_up_tests"
 TEST = "packets::carries_packets"
 LARGEST = 2**32 - 1
 

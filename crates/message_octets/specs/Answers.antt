@@ -7,7 +7,7 @@ use Rattle.aper.specs.declared.error.DecodeError.{DecodeError}
 use Rattle.aper.specs.declared.error.DecodeError.TheVariants as undecodeds
 use Rattle.aper.specs.Refusals.{IsRefused, IsFirstWrong}
 use Rattle.message_defs.specs.FromValue.{Cause, unknown_procedure, unknown_element}
-use Rattle.message_values.specs.declared.error.MsgError.{MsgError as NotFromValue}
+use Rattle.message_values.specs.declared.error.MsgError.{MsgError as ValueError}
 use Rattle.message_values.specs.declared.error.MsgError.TheVariants as unheards
 use Rattle.message_octets.specs.declared.error.MsgError.{MsgError}
 use Rattle.message_octets.specs.declared.error.MsgError.TheVariants as errors
@@ -17,7 +17,7 @@ abbrev pub undecoded : DecodeError → MsgError
 undecoded (undecodeds.Refused bit reason path) = errors.Refused bit reason path
 undecoded undecodeds.Memory = errors.Memory
 
-abbrev pub unheard : NotFromValue → MsgError
+abbrev pub unheard : ValueError → MsgError
 unheard (unheards.UnknownProcedure code criticality) = errors.UnknownProcedure code criticality
 unheard (unheards.UnknownIe id) = errors.UnknownIe id
 unheard unheards.Memory = errors.Memory

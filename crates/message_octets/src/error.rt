@@ -2,7 +2,7 @@
 
 use aper::{DecodeError, Reason};
 use gnb_types::octets::Octets;
-use message_values::error::MsgError as NotHeard;
+use message_values::error::MsgError as ValueError;
 
 /// Why octets say no message.
 #[derive(Debug, Drop)]
@@ -40,19 +40,19 @@ impl From<DecodeError> for MsgError {
     }
 }
 
-impl From<NotHeard> for MsgError {
+impl From<ValueError> for MsgError {
     ghost use Rattle.std.specs.Prelude.{◌≡◌};
     ghost use Rattle.message_octets.specs.Answers.{unheard};
 
     ghost from_gives = { λ error e. e ≡ unheard error };
 
-    fn from(error: NotHeard) -> MsgError {
+    fn from(error: ValueError) -> MsgError {
         match error {
-            NotHeard::UnknownProcedure { code, criticality } => {
+            ValueError::UnknownProcedure { code, criticality } => {
                 MsgError::UnknownProcedure { code, criticality }
             }
-            NotHeard::UnknownIe { id } => MsgError::UnknownIe { id },
-            NotHeard::Memory => MsgError::Memory,
+            ValueError::UnknownIe { id } => MsgError::UnknownIe { id },
+            ValueError::Memory => MsgError::Memory,
         }
     }
 }

@@ -8,7 +8,7 @@ use Rattle.gnb_types.specs.declared.names.NodeId.TheVariants.{CuCp, CuUp, Du, Co
 use Rattle.gnb_types.specs.declared.names.SnBits.{SnBits}
 use Rattle.gnb_types.specs.declared.names.BearerId.{BearerId}
 use Rattle.gnb_types.specs.declared.names.Dir.TheVariants.{Dl, Ul}
-use Rattle.gnb_types.specs.declared.inputs.Order.{ModelStep as UeOrder}
+use Rattle.gnb_types.specs.declared.inputs.Order.{Order as UeOrder}
 use Rattle.gnb_types.specs.declared.inputs.Order.TheVariants as orders
 use Rattle.gnb_types.specs.Orders.{bearer_cmp}
 use Rattle.message_types.specs.declared.rrc.Token.{Token}

@@ -13,7 +13,7 @@ use Rattle.gnb_types.specs.declared.names.BearerId.{BearerId}
 use Rattle.gnb_types.specs.declared.names.Dir.{Dir}
 use Rattle.gnb_types.specs.declared.names.Dir.TheVariants.{Dl, Ul}
 use Rattle.gnb_types.specs.declared.keys.EntityKey.{EntityKey}
-use Rattle.gnb_types.specs.declared.inputs.Order.{ModelStep as UeOrder}
+use Rattle.gnb_types.specs.declared.inputs.Order.{Order as UeOrder}
 use Rattle.gnb_types.specs.declared.inputs.Order.TheVariants as orders
 use Rattle.gnb_types.specs.Orders.{ue_cmp, bearer_cmp, entity_cmp}
 use Rattle.gnb_types.proofs.OrderLemmas.{ue_total, bearer_exact, entity_exact}

@@ -11,7 +11,7 @@ use Rattle.gnb_types.specs.declared.plans.Plan.{Plan}
 use Rattle.gnb_types.specs.declared.names.Dir.TheVariants.{Dl, Ul}
 use Rattle.gnb_types.specs.declared.reasons.DropReason.TheVariants.{Stale, Unexpected}
 use Rattle.gnb_types.specs.declared.reasons.RefuseReason.TheVariants.{NotAccessing, NoHome, Busy, NoRadio}
-use Rattle.gnb_types.specs.declared.inputs.Order.{ModelStep as UeOrder}
+use Rattle.gnb_types.specs.declared.inputs.Order.{Order as UeOrder}
 use Rattle.gnb_types.specs.declared.inputs.Order.TheVariants as orders
 use Rattle.gnb_types.specs.Orders.{bearer_cmp}
 use Rattle.message_types.specs.declared.rrc.Token.{Token}
