@@ -7,9 +7,9 @@ use Rattle.scenario_text.specs.declared.line.OutLine.{OutLine}
 use Rattle.scenario_text.specs.Print.{print}
 use Rattle.command_defs.specs.declared.CommonEnd.TheVariants.{ReadFault, TooLong, WriteFault, Memory}
 use Rattle.command_defs.specs.Outside.{OutsideAt, outside, ReadsTo, AllRead, ReadStopped, WritesTo, AllWritten, WriteStopped}
-use Rattle.command_defs.specs.Output.{Prints}
+use Rattle.command_defs.specs.Output.{Prints, WritesBeforeReads}
 use Rattle.commands.specs.command_output.Writes.{WritesAll, WritesFront}
-use Rattle.commands.proofs.command_output.Written.{none_then_none, none_then_last, prints_more, front_more, front_all}
+use Rattle.commands.proofs.command_output.Written.{none_then_none, none_then_last, prints_none, prints_more, front_more, front_all, at_least, no_read_failed}
 use Rattle.command_values.specs.declared.end.Stop.{Stop}
 use Rattle.command_values.specs.declared.end.Stop.TheVariants.{NoModule, NoType, Script, Value}
 use Rattle.command_values.specs.declared.end.ValuesEnd.{ValuesEnd}
@@ -38,8 +38,7 @@ reads_end a b Done h = AllRead h (λ (e : 0 ≡ 6). omega arith)
 reads_end a b (Stopped stop) h = AllRead h (not_six stop)
 reads_end a b (Common (ReadFault taken)) h = ReadStopped h (inl refl)
 reads_end a b (Common TooLong) h = AllRead h (λ (e : 11 ≡ 6). omega arith)
-reads_end a b (Common WriteFault) (inl h) = AllRead h (λ (e : 7 ≡ 6). omega arith)
-reads_end a b (Common WriteFault) (inr h) = ReadStopped h (inr (inl refl))
+reads_end a b (Common WriteFault) h = AllRead h (λ (e : 7 ≡ 6). omega arith)
 reads_end a b (Common Memory) h = AllRead h (λ (e : 9 ≡ 6). omega arith)
 
 -- the last line was not written
@@ -48,8 +47,7 @@ reads_cut a b Done h = AllRead h (λ (e : 7 ≡ 6). omega arith)
 reads_cut a b (Stopped stop) h = AllRead h (λ (e : 7 ≡ 6). omega arith)
 reads_cut a b (Common (ReadFault taken)) h = ReadStopped h (inr (inl refl))
 reads_cut a b (Common TooLong) h = AllRead h (λ (e : 7 ≡ 6). omega arith)
-reads_cut a b (Common WriteFault) (inl h) = AllRead h (λ (e : 7 ≡ 6). omega arith)
-reads_cut a b (Common WriteFault) (inr h) = ReadStopped h (inr (inl refl))
+reads_cut a b (Common WriteFault) h = AllRead h (λ (e : 7 ≡ 6). omega arith)
 reads_cut a b (Common Memory) h = AllRead h (λ (e : 7 ≡ 6). omega arith)
 
 reads_out : (a b : SourceAt) (end : ValuesEnd) → ReadsUntil a b end → ReadsTo a b 9
@@ -57,8 +55,7 @@ reads_out a b Done h = AllRead h (λ (e : 9 ≡ 6). omega arith)
 reads_out a b (Stopped stop) h = AllRead h (λ (e : 9 ≡ 6). omega arith)
 reads_out a b (Common (ReadFault taken)) h = ReadStopped h (inr (inr refl))
 reads_out a b (Common TooLong) h = AllRead h (λ (e : 9 ≡ 6). omega arith)
-reads_out a b (Common WriteFault) (inl h) = AllRead h (λ (e : 9 ≡ 6). omega arith)
-reads_out a b (Common WriteFault) (inr h) = ReadStopped h (inr (inr refl))
+reads_out a b (Common WriteFault) h = AllRead h (λ (e : 9 ≡ 6). omega arith)
 reads_out a b (Common Memory) h = AllRead h (λ (e : 9 ≡ 6). omega arith)
 
 -- ---- the status of the writes, and what was written
@@ -117,6 +114,18 @@ written_prints a b Meets texts (Common TooLong) line e h = h
 written_prints a b Meets texts (Common WriteFault) line e h = absurd (cc)
 written_prints a b Meets texts (Common Memory) line e h = absurd (cc)
 
+-- ---- what was written at each read
+
+-- the text was written before a read that failed
+answered : (first : OutsideAt) (source : SourceAt) (sink last : SinkAt) (text : List ℕ) (end : ValuesEnd) → ReadsUntil first.source source end
+    → PrintsTo first.sink sink text end → (more : List ℕ) × Prints sink last more → WritesBeforeReads first (outside source last) text
+answered first source sink last text Done h prints more = no_read_failed first (outside source last) text h
+answered first source sink last text (Stopped stop) h prints more = no_read_failed first (outside source last) text h
+answered first source sink last text (Common (ReadFault taken)) h prints more = λ fresh failed. at_least prints more
+answered first source sink last text (Common TooLong) h prints more = no_read_failed first (outside source last) text h
+answered first source sink last text (Common WriteFault) h prints more = no_read_failed first (outside source last) text h
+answered first source sink last text (Common Memory) h prints more = no_read_failed first (outside source last) text h
+
 -- ---- with the last line
 
 pub values_meet : (job : Job) {first : OutsideAt} {source : SourceAt} {sink last : SinkAt} (end result : ValuesEnd)
@@ -131,6 +140,7 @@ values_meet job {first = first} {source = source} {sink = sink} {last = last} en
       values = r.values;
       ends = r.ends;
       prints = silent_prints first.sink sink _ r.texts end none r.prints;
+      answered = answered first source sink sink (joined r.texts) end r.reads r.prints ([], prints_none sink);
       calls = record { reads = reads_end _ _ end r.reads; writes = silent_writes first.sink sink end none r.writes };
     }))
 values_meet job {first = first} {source = source} {sink = sink} {last = last} end result r (Written line some same written) =
@@ -143,6 +153,7 @@ values_meet job {first = first} {source = source} {sink = sink} {last = last} en
       ends = r.ends;
       prints = written_prints first.sink last _ r.texts end line some
           (prints_more (text_before first.sink sink (joined r.texts) end line some r.prints) written.prints);
+      answered = answered first source sink last (joined r.texts) end r.reads r.prints (end_text end, written.prints);
       calls = record {
         reads = reads_end _ _ end r.reads;
         writes = AllWritten (none_then_none (none_before first.sink sink end line some r.writes) written.none) (no_fault end line some);
@@ -161,6 +172,7 @@ values_meet job {first = first} {source = source} {sink = sink} {last = last} en
         r.ends,
         front_more (text_before first.sink sink (joined r.texts) end line some r.prints) cut.prints,
       );
+      answered = answered first source sink last (joined r.texts) end r.reads r.prints (cut.prints.part, cut.prints.prints);
       calls = record {
         reads = reads_cut _ _ end r.reads;
         writes = WriteStopped (none_then_last (none_before first.sink sink end line some r.writes) cut.last) refl;
@@ -176,6 +188,7 @@ values_meet job {first = first} {source = source} {sink = sink} {last = last} en
       values = r.values;
       ends = tt;
       prints = front_all (text_before first.sink sink (joined r.texts) end line some r.prints);
+      answered = answered first source sink sink (joined r.texts) end r.reads r.prints ([], prints_none sink);
       calls = record {
         reads = reads_out _ _ end r.reads;
         writes = AllWritten (none_before first.sink sink end line some r.writes) (λ (e : 9 ≡ 7). omega arith);

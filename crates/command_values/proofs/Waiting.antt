@@ -1,19 +1,26 @@
 -- Answers that wait: they are written before a read, and at an end.
-use Rattle.std.proofs.Common.{◌≡◌, ◌<◌, ℕ, Bool, true, Ok, List, [], ◌++◌, Option, Some, None, refl, sym, ap, ◌∙◌, subst, inl, inr, ◌⊎◌, append-nil, append_assoc, option_map}
+use Rattle.std.proofs.Common.{◌≡◌, ◌==◌, ◌<◌, ℕ, Bool, true, false, Ok, Err, List, [], ◌∷◌, ◌++◌, length, Option, Some, None, refl, sym, ap, ◌∙◌, subst, inl, inr, ◌⊎◌, append-nil, append_assoc, option_map, arith}
+use Rattle.std.proofs.lemmas.Bool.Decides.{nat_tests}
 use Rattle.std.proofs.lemmas.List.{append_cancel_left}
 use Rattle.std.specs.Io.KnownBytes.{Appends}
 use Rattle.gnb_base.specs.Outside.{SourceAt, SinkAt}
-use Rattle.gnb_base.specs.Reading.{still_to_come}
+use Rattle.gnb_base.specs.declared.lines.ReadError.{ReadError}
+use Rattle.gnb_base.specs.declared.lines.ReadError.TheVariants as errors
+use Rattle.gnb_base.specs.Lines.{HasNoLf}
+use Rattle.gnb_base.specs.Reading.{Reading, NextMeets, still_to_come}
+use Rattle.command_defs.specs.declared.input_defs.InputEnd.{InputEnd}
 use Rattle.command_defs.specs.declared.input_defs.InputEnd.TheVariants as inputs
 use Rattle.command_defs.specs.input_defs.Faults.{NoReadFailed, LastReadFailed}
 use Rattle.command_defs.specs.input_defs.Split.{joined}
 use Rattle.command_defs.specs.input_defs.Standing.{split_of}
 use Rattle.commands.proofs.input_lines.Standing.{takes_of}
 use Rattle.command_defs.specs.declared.CommonEnd.TheVariants.{ReadFault, TooLong, WriteFault, Memory}
+use Rattle.command_defs.specs.Ends.{end_of_input}
 use Rattle.command_defs.specs.Outside.{OutsideAt, outside, NoWriteFailed, LastWriteFailed}
 use Rattle.command_defs.specs.Output.{Prints, PrintsFront}
 use Rattle.commands.specs.command_output.Writes.{WritesAll, WritesFront}
 use Rattle.commands.proofs.command_output.Written.{none_then_none, none_then_last, prints_none, prints_more, front_of, all_more}
+use Rattle.commands.specs.input_lines.ReadsLine.{StopsReading, end_of_read}
 use Rattle.command_values.specs.declared.end.ValuesEnd.{ValuesEnd}
 use Rattle.command_values.specs.declared.end.ValuesEnd.TheVariants.{Done, Stopped, Common}
 use Rattle.command_values.specs.declared.lines.Task.{Task}
@@ -180,7 +187,7 @@ cut_before_read task start old sink waiting h w job first b =
       });
       ends = tt;
       prints = cut_prints first.sink old.sink sink waiting (joined s.texts) (grew_from job task first start old.sink b h.1) s.writes.prints w;
-      reads = inl s.stands.reads;
+      reads = s.stands.reads;
       writes = cut_last s.writes.none w;
     }
 
@@ -237,13 +244,13 @@ cut_to a b c waiting text (Common TooLong) g p w = cut_prints a b c waiting text
 cut_to a b c waiting text (Common WriteFault) g p w = cut_front a b c waiting text g p w
 cut_to a b c waiting text (Common Memory) g p w = cut_front a b c waiting text g p w
 
-reads_either : (a b : SourceAt) (end : ValuesEnd) → ReadsUntil a b end → NoReadFailed a b ⊎ LastReadFailed a b
-reads_either a b Done h = inl h
-reads_either a b (Stopped stop) h = inl h
-reads_either a b (Common (ReadFault taken)) h = inr h
-reads_either a b (Common TooLong) h = inl h
-reads_either a b (Common WriteFault) h = h
-reads_either a b (Common Memory) h = inl h
+none_read : (a b : SourceAt) (end : ValuesEnd) → ((taken : ℕ) → end ≡ Common (ReadFault taken) → ⊥) → ReadsUntil a b end → NoReadFailed a b
+none_read a b Done f h = h
+none_read a b (Stopped stop) f h = h
+none_read a b (Common (ReadFault taken)) f h = absurd (f taken refl)
+none_read a b (Common TooLong) f h = h
+none_read a b (Common WriteFault) f h = h
+none_read a b (Common Memory) f h = h
 
 none_until : (a b : SinkAt) (end : ValuesEnd) → IsFaultless end → WritesUntil a b end → NoWriteFailed a b
 none_until a b Done f h = h
@@ -253,11 +260,69 @@ none_until a b (Common TooLong) f h = h
 none_until a b (Common WriteFault) f h = absurd (f refl)
 none_until a b (Common Memory) f h = h
 
+pub is_nothing : (xs : List ℕ) → (length xs == 0) ≡ true → xs ≡ []
+is_nothing [] e = refl
+is_nothing (x ∷ xs) e = absurd (grind (arith, nat_tests))
+
+pub is_something : (xs : List ℕ) → (length xs == 0) ≡ false → xs ≡ [] → ⊥
+is_something xs e none = (let clash : false ≡ true = sym e ∙ ap (λ (ys : List ℕ). length ys == 0) none in absurd cc)
+
+-- where a read failed none waits
+abbrev pub WaitsNoRead : List ℕ → ValuesEnd → Type 0
+WaitsNoRead waiting end = (taken : ℕ) → end ≡ Common (ReadFault taken) → waiting ≡ []
+
+pub done_waits : (waiting : List ℕ) → WaitsNoRead waiting Done
+done_waits waiting taken is = absurd cc
+
+-- a read that fails is made where no whole line is kept
+no_line_kept : (old new : Reading) (before after : SourceAt) (taken : ℕ) → StopsReading old new before after (inputs.ReadFault taken) → HasNoLf old.kept
+no_line_kept old new before after taken h = by h.error h.meets h.same
+  where
+    by : (error : ReadError) → NextMeets old new before after (Err error) → inputs.ReadFault taken ≡ end_of_read error new.taken → HasNoLf old.kept
+    by errors.ReadFault m same = lazy m.lazy
+      where
+        lazy : ((m.taken ≡ []) × (after ≡ before)) ⊎ HasNoLf old.kept → HasNoLf old.kept
+        lazy (inl none) =
+            subst HasNoLf (m.answers.kept ∙ ap (λ (bs : List ℕ). old.kept ++ bs) none.0 ∙ append-nil old.kept) m.answers.without_lf
+        lazy (inr without_lf) = without_lf
+    by errors.TooLong m same = absurd cc
+    by errors.Memory m same = absurd cc
+
+nothing_held : SinkAt
+nothing_held = record { held = Some []; faults = 0; failed = false }
+
+-- so that all answers were written before it
+pub turn_waits : (task : Task) (old new : Reading) (before after : SourceAt) (sink0 sink : SinkAt) (waiting : List ℕ × List ℕ) (then_waiting : List ℕ)
+    (end : ValuesEnd) → Waits old.kept sink0 sink waiting
+    → ((s : SinkAt) → TurnStops task (run_at old before (once_written s waiting.1)) (run_at new after (once_written s then_waiting)) end)
+    → WaitsNoRead then_waiting end
+unfolding nothing_held
+turn_waits task old new before after sink0 sink waiting then_waiting end waits stops taken is = by (stops nothing_held)
+  where
+    none : HasNoLf old.kept → Waits old.kept sink0 sink waiting → waiting.1 ≡ []
+    none without_lf (Keeping some same e) = absurd (some without_lf)
+    none without_lf (Written w e) = e
+
+    on : (why : InputEnd) → StopsReading old new before after why → Common (end_of_input why) ≡ Common (ReadFault taken) → HasNoLf old.kept
+    on (inputs.ReadFault n) h e = no_line_kept old new before after n h
+    on inputs.TooLong h e = absurd cc
+    on inputs.Memory h e = absurd cc
+
+    by : TurnStops task (run_at old before (once_written nothing_held waiting.1)) (run_at new after (once_written nothing_held then_waiting)) end
+        → then_waiting ≡ []
+    by (Unread why h e same) =
+        let held : Some then_waiting ≡ Some waiting.1 = ap (λ (s : SinkAt). s.held) same in
+        let still : then_waiting ≡ waiting.1 = cc in
+        still ∙ none (on why h (sym e ∙ is)) waits
+    by (Unanswered line m (Refused wrong w e same)) = (let clash = sym e ∙ is in absurd cc)
+    by (Unanswered line m (NoRoom e same)) = (let clash = sym e ∙ is in absurd cc)
+
 -- the answers that wait at an end are written, or a front of them
 pub finished : (task : Task) (start now : RunAt) (sink : SinkAt) (waiting : List ℕ) (end result : ValuesEnd) → IsFaultless end
+    → WaitsNoRead waiting end
     → Continues task start (run_at now.reading now.source (once_written now.sink waiting)) end → Grew start.sink now.sink
     → Finishing now.sink sink waiting end result → Continues task start (run_at now.reading now.source sink) result
-finished task start now sink waiting end result f c g (Whole w e) job first b =
+finished task start now sink waiting end result f quiet c g (Whole w e) job first b =
     let r = c job first b in
     let out = written_out now.sink sink waiting w in
     subst (λ (x : ValuesEnd). RunsTo job first (outside now.source sink) x) (sym e)
@@ -271,7 +336,7 @@ finished task start now sink waiting end result f c g (Whole w e) job first b =
       reads = r.reads;
       writes = writes_on first.sink (once_written now.sink waiting) sink end f r.writes out.none;
     })
-finished task start now sink waiting end result f c g (Cut w e) job first b =
+finished task start now sink waiting end result f quiet c g (Cut some w e) job first b =
     let r = c job first b in
     subst (λ (x : ValuesEnd). RunsTo job first (outside now.source sink) x) (sym e)
     (record {
@@ -281,6 +346,6 @@ finished task start now sink waiting end result f c g (Cut w e) job first b =
       values = r.values;
       ends = tt;
       prints = cut_to first.sink now.sink sink waiting (joined r.texts) end (grew_from job task first start now.sink b g) r.prints w;
-      reads = reads_either first.source now.source end r.reads;
+      reads = none_read first.source now.source end (λ taken is. some (quiet taken is)) r.reads;
       writes = cut_last (none_until first.sink (once_written now.sink waiting) end f r.writes) w;
     })

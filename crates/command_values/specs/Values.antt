@@ -12,7 +12,7 @@ use Rattle.commands.specs.input_module.Module.{GivesModule, IsNoModule, IsWrongM
 use Rattle.commands.specs.command_check.Check.{IsModuleOf}
 use Rattle.command_defs.specs.declared.CommonEnd.TheVariants.{ReadFault, TooLong, WriteFault, Memory}
 use Rattle.command_defs.specs.Outside.{OutsideAt, CallsTo}
-use Rattle.command_defs.specs.Output.{Prints, PrintsFront}
+use Rattle.command_defs.specs.Output.{Prints, PrintsFront, WritesBeforeReads}
 use Rattle.command_values.specs.declared.way.Way.{Way}
 use Rattle.command_values.specs.declared.answer.Wrong.{Wrong}
 use Rattle.command_values.specs.declared.end.Stop.TheVariants.{NoModule, NoType, Script, Value}
@@ -110,4 +110,6 @@ pub record ValuesMeet (job : Job) (before after : OutsideAt) (end : ValuesEnd) :
   pub values : AreValues job (rest_of before.source after.source) split texts
   pub ends : ValuesEndMeets job (rest_of before.source after.source) split texts end
   pub prints : PrintsValues before.sink after.sink (ValuesEndMeets job (rest_of before.source after.source) split texts) texts end
+  -- an answer was written before each read after its line
+  pub answered : WritesBeforeReads before after (joined texts)
   pub calls : CallsTo before after (values_status end).code

@@ -107,10 +107,13 @@ fn write_before_read<K: Sink>(
     Ok(())
 }
 
-/// Writes the answers that wait at an end; how it ended after that.
+/// Writes the answers that wait at an end, if any do; how it ended after that.
 fn finish_answers<K: Sink>(output: &mut K, waiting: &Octets, end: ValuesEnd) -> ValuesEnd
     ensures { Finishing (K.at output.old) (K.at output.new) waiting.now end result }
 {
+    if waiting.is_empty() {
+        return end;
+    }
     match write_all(output, waiting.as_slice()) {
         Ok(()) => end,
         Err(_) => ValuesEnd::Common(CommonEnd::WriteFault),

@@ -252,17 +252,25 @@ const WRAPS_18: [(Call, &[Put]); 19] = [
 ];
 
 #[test]
-fn runs_as_a_target(rt: HostRuntime) -> Result<(), Fail> {
-    let alloc = rt.alloc();
-    assert!(rt; is_as_told(alloc, &HELD)?, "holds as a target");
-    assert!(rt; is_as_told(alloc, &DROPPED)?, "drops as a target");
-    assert!(rt;
-        is_as_told(alloc, &WRAPS_12)?,
-        "numbers of 12 bits begin again"
-    );
-    assert!(rt;
-        is_as_told(alloc, &WRAPS_18)?,
-        "numbers of 18 bits begin again"
-    );
+fn holds_as_a_target(rt: HostRuntime) -> Result<(), Fail> {
+    assert!(rt; is_as_told(rt.alloc(), &HELD)?);
+    Ok(())
+}
+
+#[test]
+fn drops_as_a_target(rt: HostRuntime) -> Result<(), Fail> {
+    assert!(rt; is_as_told(rt.alloc(), &DROPPED)?);
+    Ok(())
+}
+
+#[test]
+fn numbers_of_12_bits_begin_again(rt: HostRuntime) -> Result<(), Fail> {
+    assert!(rt; is_as_told(rt.alloc(), &WRAPS_12)?);
+    Ok(())
+}
+
+#[test]
+fn numbers_of_18_bits_begin_again(rt: HostRuntime) -> Result<(), Fail> {
+    assert!(rt; is_as_told(rt.alloc(), &WRAPS_18)?);
     Ok(())
 }

@@ -315,23 +315,61 @@ const DROPPED: [(Call, &[Put]); 27] = [
 ];
 
 #[test]
-fn runs(rt: HostRuntime) -> Result<(), Fail> {
-    let alloc = rt.alloc();
-    assert!(rt; is_as_told(alloc, &STARTS)?, "sets up E1 once");
-    assert!(rt;
-        is_as_told(alloc, &SET_UP_THREE_TIMES)?,
-        "a setup that comes three times"
-    );
-    assert!(rt; is_as_told(alloc, &ARRIVES)?, "serves a target");
-    assert!(rt; is_as_told(alloc, &FREEZES)?, "freezes and goes on");
-    assert!(rt; is_as_told(alloc, &RELEASES)?, "passes on what still comes");
-    assert!(rt; is_as_told(alloc, &IS_BUSY)?, "is busy before the status");
-    assert!(rt; is_as_told(alloc, &LOSES)?, "sends again");
-    assert!(rt; is_as_told(alloc, &HOLDS)?, "holds what has no room");
-    assert!(rt;
-        is_as_told(alloc, &HAS_NO_BLOCKS)?,
-        "refuses what fits no blocks"
-    );
-    assert!(rt; is_as_told(alloc, &DROPPED)?, "drops");
+fn sets_up_e1_once(rt: HostRuntime) -> Result<(), Fail> {
+    assert!(rt; is_as_told(rt.alloc(), &STARTS)?);
+    Ok(())
+}
+
+#[test]
+fn a_setup_that_comes_three_times(rt: HostRuntime) -> Result<(), Fail> {
+    assert!(rt; is_as_told(rt.alloc(), &SET_UP_THREE_TIMES)?);
+    Ok(())
+}
+
+#[test]
+fn serves_a_target(rt: HostRuntime) -> Result<(), Fail> {
+    assert!(rt; is_as_told(rt.alloc(), &ARRIVES)?);
+    Ok(())
+}
+
+#[test]
+fn freezes_and_goes_on(rt: HostRuntime) -> Result<(), Fail> {
+    assert!(rt; is_as_told(rt.alloc(), &FREEZES)?);
+    Ok(())
+}
+
+#[test]
+fn passes_on_what_still_comes(rt: HostRuntime) -> Result<(), Fail> {
+    assert!(rt; is_as_told(rt.alloc(), &RELEASES)?);
+    Ok(())
+}
+
+#[test]
+fn is_busy_before_the_status(rt: HostRuntime) -> Result<(), Fail> {
+    assert!(rt; is_as_told(rt.alloc(), &IS_BUSY)?);
+    Ok(())
+}
+
+#[test]
+fn sends_again(rt: HostRuntime) -> Result<(), Fail> {
+    assert!(rt; is_as_told(rt.alloc(), &LOSES)?);
+    Ok(())
+}
+
+#[test]
+fn holds_what_has_no_room(rt: HostRuntime) -> Result<(), Fail> {
+    assert!(rt; is_as_told(rt.alloc(), &HOLDS)?);
+    Ok(())
+}
+
+#[test]
+fn refuses_what_fits_no_blocks(rt: HostRuntime) -> Result<(), Fail> {
+    assert!(rt; is_as_told(rt.alloc(), &HAS_NO_BLOCKS)?);
+    Ok(())
+}
+
+#[test]
+fn drops(rt: HostRuntime) -> Result<(), Fail> {
+    assert!(rt; is_as_told(rt.alloc(), &DROPPED)?);
     Ok(())
 }

@@ -2,6 +2,11 @@
 #![tactic(auto)]
 
 pub mod checker;
+pub mod forms;
+pub mod index;
+pub mod judge;
 pub mod lines;
 pub mod packets;
+pub mod past;
+pub mod same;
 pub mod spells;

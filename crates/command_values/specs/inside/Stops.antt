@@ -1,5 +1,5 @@
 -- Internal: what was done before the last line is written, and the writing of that line.
-use Rattle.std.specs.Prelude.{◌≡◌, ◌⊎◌, List, [], ◌∷◌, ℕ}
+use Rattle.std.specs.Prelude.{◌≡◌, List, [], ◌∷◌, ℕ}
 use Rattle.gnb_base.specs.Outside.{SourceAt, SinkAt}
 use Rattle.command_defs.specs.input_defs.Faults.{NoReadFailed, LastReadFailed}
 use Rattle.command_defs.specs.input_defs.Split.{InputSplit, rest_of, joined, TakesInput}
@@ -25,7 +25,6 @@ PrintsTo before after text end = Prints before after text
 
 abbrev pub ReadsUntil : SourceAt → SourceAt → ValuesEnd → Type 0
 ReadsUntil before after (Common (ReadFault taken)) = LastReadFailed before after
-ReadsUntil before after (Common WriteFault) = NoReadFailed before after ⊎ LastReadFailed before after
 ReadsUntil before after end = NoReadFailed before after
 
 abbrev pub WritesUntil : SinkAt → SinkAt → ValuesEnd → Type 0

@@ -97,10 +97,10 @@ pub data Waits (kept : List ℕ) (before after : SinkAt) (waiting : List ℕ × 
   Keeping : (HasNoLf kept → ⊥) → after ≡ before → waiting.1 ≡ waiting.0 → Waits kept before after waiting
   Written : WritesAll before after waiting.0 → waiting.1 ≡ [] → Waits kept before after waiting
 
--- they are written at an end, or a front of them where a write fails
+-- they are written at an end, or a front of them where a write fails; where none waits no write is made
 pub data Finishing (before after : SinkAt) (waiting : List ℕ) (end result : ValuesEnd) : Type 0 where
   Whole : WritesAll before after waiting → result ≡ end → Finishing before after waiting end result
-  Cut : WritesFront before after waiting → result ≡ Common WriteFault → Finishing before after waiting end result
+  Cut : (waiting ≡ [] → ⊥) → WritesFront before after waiting → result ≡ Common WriteFault → Finishing before after waiting end result
 
 -- ---- from the module on
 

@@ -4,8 +4,9 @@ use Rattle.std.proofs.lemmas.List.{append-nil, take-append-drop}
 use Rattle.std.proofs.KnownBytes.{Appends-nil, Appends-trans}
 use Rattle.std.specs.Io.KnownBytes.{Appends}
 use Rattle.gnb_base.specs.Outside.{SinkAt, Rose, one_more}
-use Rattle.command_defs.specs.Outside.{NoWriteFailed, LastWriteFailed}
-use Rattle.command_defs.specs.Output.{Prints, PrintsFront}
+use Rattle.command_defs.specs.input_defs.Faults.{NoReadFailed}
+use Rattle.command_defs.specs.Outside.{OutsideAt, NoWriteFailed, LastWriteFailed}
+use Rattle.command_defs.specs.Output.{Prints, PrintsFront, PrintsAtLeast, WritesBeforeReads}
 use Rattle.commands.specs.command_output.Writes.{WritesAll, WritesFront}
 
 -- ---- faults
@@ -65,6 +66,15 @@ front_of y h =
 -- all of it
 pub front_all : {a b : SinkAt} {x : List ℕ} → Prints a b x → PrintsFront a b x
 front_all {x = x} h = record { part = x; rest = []; parts = sym (append-nil x); prints = h }
+
+-- ---- at each read
+
+-- a text, and what was written after it
+pub at_least : {a b c : SinkAt} {text : List ℕ} → Prints a b text → (more : List ℕ) × Prints b c more → PrintsAtLeast a c text
+at_least h k = record { more = k.0; prints = prints_more h k.1 }
+
+pub no_read_failed : (before after : OutsideAt) (text : List ℕ) → NoReadFailed before.source after.source → WritesBeforeReads before after text
+no_read_failed before after text none fresh failed = (let clash : false ≡ true = sym fresh ∙ none.failed failed in absurd (cc))
 
 -- ---- both
 
