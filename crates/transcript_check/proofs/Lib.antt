@@ -1,14 +1,11 @@
 pub mod AcceptedLemmas
 pub mod AtCuUp
 pub mod CheckLemmas
-pub mod FieldLaws
 pub mod FormLemmas
 pub mod IndexLemmas
 pub mod ItemLemmas
 pub mod JudgeLemmas
-pub mod LineLaws
 pub mod OfferLemmas
 pub mod QueueLemmas
 pub mod ReceiptLemmas
 pub mod TableMore
-pub mod WideNumbers

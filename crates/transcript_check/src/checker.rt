@@ -4,7 +4,7 @@ ghost use Rattle.std.specs.Prelude.{◌≡◌, [], IfOk};
 ghost use Rattle.transcript_check.specs.Steps.{going, LineMeets, FinishMeets};
 ghost use Rattle.transcript_check.specs.inside.Phases.{progress, answer};
 
-use crate::lines::read_line;
+use transcript_lines::lines::read_line;
 use crate::past::{Judged, Past};
 use crate::spells::Spells;
 use gnb_types::items::{Items, Memory};

@@ -36,11 +36,11 @@ use Rattle.scenario_text.specs.Print.{◌then◌, link_text, item_text, message_
 use Rattle.transcript_defs.specs.declared.line.TextLine.{TextLine}
 use Rattle.transcript_defs.specs.declared.line.TextLine.TheVariants.{Printed, LostMore, OutstandingWide}
 use Rattle.transcript_defs.specs.Lines.{IsLink, IsItem, IsMessage, IsLine, IsOfLink, HasOctets, IsHeldOn, IsWhole, text_of, IsProper, IsLineOf}
-use Rattle.transcript_check.specs.declared.lines.forms.Keyword.{Keyword}
-use Rattle.transcript_check.specs.declared.lines.forms.Keyword.TheVariants as keywords
-use Rattle.transcript_check.specs.inside.Fields.{ValuesOf, InFields, field_words}
-use Rattle.transcript_check.specs.inside.ReadLine.{keyword_text, keyword_of, LineForm, read_form, printed, same_dir, is_of_link, item_form, message_form, deliver_form, lost_items_form, lost_message, lost_message_form, drop_form, is_held_on, held_form, failed_form, quiet_form, busy_form, number_form, refused_form, outstanding_line, outstanding_form, stop_form, moved, lost, keyword_line, words_line, event_line, line_of}
-use Rattle.transcript_check.proofs.FieldLaws.{then_ok, went, AreFields, fields_sound, fields_back, fields_lack}
+use Rattle.transcript_lines.specs.declared.lines.forms.Keyword.{Keyword}
+use Rattle.transcript_lines.specs.declared.lines.forms.Keyword.TheVariants as keywords
+use Rattle.transcript_lines.specs.inside.Fields.{ValuesOf, InFields, field_words}
+use Rattle.transcript_lines.specs.inside.ReadLine.{keyword_text, keyword_of, LineForm, read_form, printed, same_dir, is_of_link, item_form, message_form, deliver_form, lost_items_form, lost_message, lost_message_form, drop_form, is_held_on, held_form, failed_form, quiet_form, busy_form, number_form, refused_form, outstanding_line, outstanding_form, stop_form, moved, lost, keyword_line, words_line, event_line, line_of}
+use Rattle.transcript_lines.proofs.FieldLaws.{then_ok, went, AreFields, fields_sound, fields_back, fields_lack}
 
 abbrev ok : {X : Type 0} → X → Result X TextReason
 ok x = Ok x

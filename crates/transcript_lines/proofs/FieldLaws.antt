@@ -35,7 +35,7 @@ use Rattle.scenario_text.specs.declared.line.Link.{Link}
 use Rattle.scenario_text.specs.declared.line.Link.TheVariants.{Tunnel, Radio}
 use Rattle.scenario_text.specs.Print.{link_text, count_text}
 use Rattle.transcript_defs.specs.Lines.{IsLink, IsCount}
-use Rattle.transcript_check.specs.inside.Fields.{owner_of, count_of, front_of, after_of, radio, link, drop_of, held_of, cause_of, refusal_of, Field, OfEvent, OfNumber, OfOwner, OfCount, OfLink, OfDrop, OfHeld, OfCause, OfRefusal, ValueOf, read_field, field_text, InField, ValuesOf, InFields, field_words, read_into}
+use Rattle.transcript_lines.specs.inside.Fields.{owner_of, count_of, front_of, after_of, radio, link, drop_of, held_of, cause_of, refusal_of, Field, OfEvent, OfNumber, OfOwner, OfCount, OfLink, OfDrop, OfHeld, OfCause, OfRefusal, ValueOf, read_field, field_text, InField, ValuesOf, InFields, field_words, read_into}
 
 -- ---- one after the other
 

@@ -4,7 +4,7 @@ ghost use Rattle.std.specs.Prelude.{◌≡◌};
 ghost use Rattle.gnb_types.specs.Reasons.{drop_text as text_of_drop, held_text as text_of_held, cause_text as text_of_cause, refuse_text as text_of_refusal};
 ghost use Rattle.scenario_text.specs.script_words.Places.{place};
 ghost use Rattle.scenario_text.specs.script_words.Answers.{words_left, Gives};
-ghost use Rattle.transcript_check.specs.inside.Fields.{drop_of, held_of, cause_of, refusal_of, read_field, OfDrop, OfHeld, OfCause, OfRefusal};
+ghost use Rattle.transcript_lines.specs.inside.Fields.{drop_of, held_of, cause_of, refusal_of, read_field, OfDrop, OfHeld, OfCause, OfRefusal};
 
 use gnb_types::reasons::{CauseName, DropReason, HeldReason, RefuseReason};
 use scenario_text::script_words::reason::TextReason;

@@ -1,7 +1,7 @@
 use Rattle.std.proofs.Common.{sym, ◌∙◌, arith}
 use Rattle.scenario_text.proofs.script_words.NumberLemmas.{plain_has_text, same_text}
-use Rattle.transcript_check.proofs.WideNumbers.{number_of-unparsed}
-use Rattle.transcript_check.proofs.lines.fields.number_of_word.Goals as goal
+use Rattle.transcript_lines.proofs.WideNumbers.{number_of-unparsed}
+use Rattle.transcript_lines.proofs.lines.fields.number_of_word.Goals as goal
 
 pub returns-in_err-text : goal.returns-in_err-text
 returns-in_err-text c =

@@ -5,7 +5,7 @@ ghost use Rattle.scenario_text.specs.script_words.Answers.{words_left, GivesOrMe
 ghost use Rattle.scenario_text.specs.Grammar.{names_message as names_a_message};
 ghost use Rattle.scenario_text.specs.declared.line.OutLine.TheVariants as lines;
 ghost use Rattle.transcript_defs.specs.declared.line.TextLine.TheVariants.{Printed};
-ghost use Rattle.transcript_check.specs.inside.ReadLine.{keyword_text, keyword_of, same_dir as same, is_of_link as of_link, is_held_on as held_on, read_form, item_form, message_form, deliver_form, drop_form, held_form, failed_form, quiet_form, busy_form, number_form, refused_form, outstanding_form, stop_form, moved, lost as lost_line, keyword_line, event_line, line_of as line_of_text};
+ghost use Rattle.transcript_lines.specs.inside.ReadLine.{keyword_text, keyword_of, same_dir as same, is_of_link as of_link, is_held_on as held_on, read_form, item_form, message_form, deliver_form, drop_form, held_form, failed_form, quiet_form, busy_form, number_form, refused_form, outstanding_form, stop_form, moved, lost as lost_line, keyword_line, event_line, line_of as line_of_text};
 
 use crate::lines::{fields, reasons};
 use gnb_types::names::Dir;

@@ -1,5 +1,5 @@
-use Rattle.transcript_check.proofs.LineLaws.{is_line, not_refused, same_line, not_inexact}
-use Rattle.transcript_check.proofs.lines.read_line.Goals as goal
+use Rattle.transcript_lines.proofs.LineLaws.{is_line, not_refused, same_line, not_inexact}
+use Rattle.transcript_lines.proofs.lines.read_line.Goals as goal
 
 pub returns-in-Err-Refused-clause-only : goal.returns-in-Err-Refused-clause-only
 returns-in-Err-Refused-clause-only c =

@@ -22,9 +22,9 @@ use Rattle.scenario_text.specs.declared.line.OutLine.{OutLine}
 use Rattle.scenario_text.specs.declared.line.OutLine.TheVariants as lines
 use Rattle.transcript_defs.specs.declared.line.TextLine.{TextLine}
 use Rattle.transcript_defs.specs.declared.line.TextLine.TheVariants.{Printed, LostMore, OutstandingWide}
-use Rattle.transcript_check.specs.declared.lines.forms.Keyword.{Keyword}
-use Rattle.transcript_check.specs.declared.lines.forms.Keyword.TheVariants as keywords
-use Rattle.transcript_check.specs.inside.Fields.{Field, OfEvent, OfNumber, OfOwner, OfCount, OfLink, OfDrop, OfHeld, OfCause, OfRefusal, ValuesOf, read_into}
+use Rattle.transcript_lines.specs.declared.lines.forms.Keyword.{Keyword}
+use Rattle.transcript_lines.specs.declared.lines.forms.Keyword.TheVariants as keywords
+use Rattle.transcript_lines.specs.inside.Fields.{Field, OfEvent, OfNumber, OfOwner, OfCount, OfLink, OfDrop, OfHeld, OfCause, OfRefusal, ValuesOf, read_into}
 
 -- ---- keywords
 

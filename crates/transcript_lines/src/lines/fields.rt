@@ -6,7 +6,7 @@ ghost use Rattle.std.specs.List.{list_all, before_first, after_first};
 ghost use Rattle.scenario_text.specs.script_words.Forms.{is_plain as plain, number_of, number as number_form};
 ghost use Rattle.scenario_text.specs.script_words.Places.{place};
 ghost use Rattle.scenario_text.specs.script_words.Answers.{words_left, Gives};
-ghost use Rattle.transcript_check.specs.inside.Fields.{owner_of, count_of, radio as radio_form, link as link_form, read_field, OfOwner, OfCount, OfLink};
+ghost use Rattle.transcript_lines.specs.inside.Fields.{owner_of, count_of, radio as radio_form, link as link_form, read_field, OfOwner, OfCount, OfLink};
 
 use scenario_text::line::Link;
 use scenario_text::script_words::forms;
