@@ -24,7 +24,6 @@ import crate_facts as facts
 ERROR_OF = "`{}` fails out of memory alone".format
 STATE = "the state is set where an allocation failed"
 PAST_COUNT = "no memory has room for more than 2^64 of them"
-SEEN = "what is taken was seen there by the caller"
 # By the file from crates/ on and the function: how many claims there are, and why.
 KNOWN = {
     ("aper/src/decoder.rt", "printed"): (1, ERROR_OF("path_text")),
@@ -41,6 +40,8 @@ KNOWN = {
     ("bits_core/src/writer.rt", "put_octets"): (1, STATE),
     ("command_bearers/src/script_word/run.rt", "run_lines"): (2, ERROR_OF("LineReader::new` and `begin")),
     ("command_bearers/src/script_word/run.rt", "take_line"): (1, ERROR_OF("apply")),
+    ("command_verify/src/judging.rt", "judge"): (2, ERROR_OF("LineReader::new` and `Checker::new")),
+    ("command_verify/src/report.rt", "verify"): (1, ERROR_OF("verdict_text")),
     ("command_run/src/generate/run.rt", "pass"): (1, ERROR_OF("event")),
     ("command_run/src/generate/word.rt", "run_generated"): (2, ERROR_OF("run` and `text")),
     ("command_run/src/run.rt", "finish"): (1, ERROR_OF("text_at")),
@@ -54,7 +55,7 @@ KNOWN = {
     ("commands/src/command_check/report.rt", "check_input"): (1, ERROR_OF("answer_text")),
     ("commands/src/command_output/write.rt", "write_lines"): (1, ERROR_OF("text_of")),
     ("cu_control/src/control.rt", "place_static"): (2, ERROR_OF("place_static")),
-    ("cu_cp_records/src/control_says/tokens.rt", "told_epoch"): (1, "an attempt ends before its epoch passes 2^32 - 1; no clause says so yet"),
+    ("cu_cp_records/src/control_actions/tokens.rt", "told_epoch"): (1, "an attempt ends before its epoch passes 2^32 - 1; no clause says so yet"),
     ("dup/src/run/run.rt", "apply"): (1, STATE),
     ("dup_bearer/src/dup_pdcp/tx.rt", "offered"): (2, ERROR_OF("offer")),
     ("dup_bearer/src/legs/items.rt", "put"): (1, "so many packets take more memory than there is"),
@@ -69,13 +70,17 @@ KNOWN = {
     ("links/src/links_bag/bag.rt", "put"): (2, ERROR_OF("reserve` and `one_more")),
     ("run_links/src/book.rt", "deliver"): (1, "no run makes 2^64 deliveries"),
     ("run_links/src/book.rt", "offer"): (1, "no run makes 2^64 offers"),
-    ("run_links/src/letters.rt", "land"): (1, SEEN),
-    ("run_links/src/letters.rt", "put_control"): (1, "the caller saw that there is room"),
-    ("run_links/src/radios.rt", "carry_off"): (1, SEEN),
-    ("run_links/src/tunnels.rt", "take_off"): (1, SEEN),
     ("scenario_cli/src/top.rt", "generate_over"): (1, ERROR_OF("ProfileCodec::new")),
     ("scenario_cli/src/top.rt", "run_over"): (1, ERROR_OF("ProfileCodec::new")),
+    ("transcript_check/src/checker.rt", "after"): (1, STATE),
+    ("transcript_check/src/checker.rt", "answer"): (1, STATE),
+    ("transcript_check/src/checker.rt", "finish"): (1, STATE),
+    ("transcript_check/src/checker.rt", "line"): (1, ERROR_OF("after")),
+    ("um/src/run/world.rt", "apply"): (1, STATE),
+    ("um/src/run/world.rt", "run_out"): (1, "its callers have an error of memory"),
     ("um/src/run/world.rt", "tick"): (1, ERROR_OF("tick")),
+    ("um/src/um_pdcp/rx.rt", "take"): (1, STATE),
+    ("um/src/um_pdcp/rx.rt", "tick"): (1, STATE),
     ("values_json/src/lib.rt", "json_of_value"): (1, "names and texts of a value are UTF-8, and its numbers have 64 bits; no clause says so yet"),
     ("values_json/src/reading.rt", "refused"): (2, "`Refusal` has no other variant than `Fault`, and `path_text` fails out of memory alone"),
     ("values_json/src/reading.rt", "tree_of"): (1, "the fault of the text says that it is memory"),
@@ -83,7 +88,6 @@ KNOWN = {
     ("world/src/settling/limit.rt", "add"): (1, PAST_COUNT),
     ("world/src/settling/limit.rt", "rounds_for"): (1, PAST_COUNT),
     ("world_events/src/injects/injects.rt", "inject_to_core"): (2, "what can't be read spends no counter, and no message is put for it"),
-    ("world_events/src/orders/handovers.rt", "handover"): (1, "a plan is kept under its own terminal"),
 }
 
 IDENTIFIER = r"[A-Za-z_]\w*"
@@ -99,6 +103,8 @@ FUNCTION = re.compile(r"\bfn (" + IDENTIFIER + r")")
 # What stands behind a pattern.
 PATTERN_END = re.compile(r"[\s)]*(?:\|[^={};]*|if\b[^={};]*)?(?:=>|=(?![=>]))")
 COMPARED = re.compile(r"[=!]= *(?:Err\(|Some\()*$")
+# (the second word of `matches!` is a pattern)
+MATCHED = re.compile(r"\bmatches!\([^(),]*, *(?:Err\(|Some\()*$")
 CLOSING = {"(": ")", "[": "]", "{": "}"}
 OPENING = {close: opened for opened, close in CLOSING.items()}
 
@@ -209,7 +215,7 @@ def converts(text):
 
 def is_made(text, found, spans):
     """Whether this variant is made here, and of nothing that says out of memory."""
-    if PATTERN_END.match(text, found.end()) or COMPARED.search(text[:found.start()]):
+    if PATTERN_END.match(text, found.end()) or COMPARED.search(text[:found.start()]) or MATCHED.search(text[:found.start()]):
         return False
     if any(first <= found.start() < last for first, last in spans):
         return False
