@@ -1,28 +1,24 @@
 -- What an accepted event changes.
-use Rattle.std.proofs.Common.{◌≡◌, ◌==◌, ◌<◌, ◌≤◌, ◌⊎◌, inl, inr, ℕ, zero, suc, Bool, true, false, cond, not, List, [], ◌∷◌, ◌++◌, Option, Some, None, refl, ap, sym, ◌∙◌, subst, true≢false, eqb-true, eq-eqb, arith, append_assoc}
-use Rattle.std.specs.Prelude.{slice_get, is_some, IsSomeAnd, if◌then◌else◌}
-use Rattle.std.specs.List.{flat_map}
+use Rattle.std.proofs.Common.{◌≡◌, ◌==◌, ◌≤◌, ℕ, Bool, true, false, cond, List, [], ◌∷◌, ◌++◌, Option, Some, None, refl, ap, sym, ◌∙◌, subst, true≢false, eqb-true, eq-eqb}
+use Rattle.std.specs.Prelude.{slice_get, is_some}
 use Rattle.std.proofs.lemmas.Grind.{flat_map-append}
-use Rattle.std.specs.declared.cmp.Ordering.TheVariants.{Equal}
 use Rattle.std.specs.Ordering.{eq_by_cmp, is_eq}
 use Rattle.std.specs.Cmp.{Equal-is, tied_itself, both_ways}
 use Rattle.gnb_types.specs.declared.names.UeId.{UeId}
-use Rattle.gnb_types.specs.declared.names.SnBits.{SnBits}
 use Rattle.gnb_types.specs.declared.keys.EntityKey.{EntityKey}
 use Rattle.gnb_types.specs.declared.plans.Plan.{Plan}
 use Rattle.gnb_types.specs.Orders.{ue_cmp, entity_cmp}
 use Rattle.gnb_types.proofs.OrderLemmas.{ue_total, ue_exact, entity_total}
 use Rattle.link_defs.specs.Decoding.{Item as Says}
 use Rattle.scenario_text.specs.declared.event.Event.{Event}
-use Rattle.scenario_text.specs.declared.event.Event.TheVariants as events
 use Rattle.scenario_text.specs.declared.line.Link.{Link}
 use Rattle.scenario_text.specs.declared.line.Item.{Item}
 use Rattle.tables.specs.Tables.{find, put, at}
 use Rattle.tables.proofs.TableLaws.{find-put}
-use Rattle.transcript_defs.specs.Past.{same_entity, plan_at, offer_at, plans, offered}
-use Rattle.transcript_defs.specs.Packets.{Reading, LaidOut}
+use Rattle.transcript_defs.specs.Past.{plan_at, offer_at, plans, offered}
+use Rattle.transcript_defs.specs.Packets.{LaidOut}
 use Rattle.transcript_check.specs.declared.index.accepted.Accepted.{Accepted}
-use Rattle.transcript_check.specs.inside.Accepted.{AreAccepted, AcceptsEvent, SetsPlan, AddsOffer, first_or, offered_on, ReadsAs}
+use Rattle.transcript_check.specs.inside.Accepted.{AreAccepted, AcceptsEvent, SetsPlan, AddsOffer, first_or, ReadsAs}
 use Rattle.transcript_check.proofs.TableMore.{at_none, at_some, find_tied, put_changes}
 
 -- ---- one event more
@@ -69,26 +65,6 @@ same_ue a b =
     subst (λ (u : UeId). eq_by_cmp ue_cmp a u ≡ true) same (ap is_eq (tied_itself ue_total a)))
 
 module _ (plan : Plan) (old : List (UeId × Plan)) where
-  kept_one : is_some (find ue_cmp old plan.ue) ≡ true → (ue : UeId) (b : Bool) → eq_by_cmp ue_cmp ue plan.ue ≡ b
-      → find ue_cmp old ue ≡ first_or (find ue_cmp old ue) (cond b (Some plan) None)
-  kept_one there ue true tie =
-      by (find ue_cmp old ue)
-      (subst (λ (x : Option Plan). is_some x ≡ true) (sym (find_tied ue_total old ue plan.ue ((Equal-is (ue_cmp ue plan.ue)).0 tie))) there)
-    where
-      by : (x : Option Plan) → is_some x ≡ true → x ≡ first_or x (Some plan)
-      by None some = absurd (true≢false (sym some))
-      by (Some p) some = refl
-  kept_one there ue false tie = by (find ue_cmp old ue)
-    where
-      by : (x : Option Plan) → x ≡ first_or x None
-      by None = refl
-      by (Some p) = refl
-
-  pub plan_kept : is_some (find ue_cmp old plan.ue) ≡ true → SetsPlan plan old old
-  plan_kept there ue =
-      kept_one there ue (eq_by_cmp ue_cmp ue plan.ue) refl
-      ∙ ap (λ (b : Bool). first_or (find ue_cmp old ue) (cond b (Some plan) None)) (same_ue ue plan.ue)
-
   put_one : is_some (find ue_cmp old plan.ue) ≡ false → (ue : UeId) (b : Bool) → eq_by_cmp ue_cmp ue plan.ue ≡ b
       → cond b (Some plan) (find ue_cmp old ue) ≡ first_or (find ue_cmp old ue) (cond b (Some plan) None)
   put_one none ue true tie =
@@ -126,86 +102,9 @@ offer_more key packet old before packets some is other =
     put_changes entity_total (λ xs. xs ++ packet ∷ []) [] old key packets
     (is ∙ ap (λ (xs : List (List ℕ)). xs ++ packet ∷ []) (sym (at_some entity_cmp [] old key before some))) other
 
--- ---- events
-
-if_some : (b : Bool) (plan : Plan) → cond b (Some plan) None ≡ slice_get (cond b (plan ∷ []) []) 0
-if_some true plan = refl
-if_some false plan = refl
-
-if_more : {A : Type 0} (b : Bool) (xs : List A) (x : A) → cond b (xs ++ x ∷ []) xs ≡ xs ++ cond b (x ∷ []) []
-if_more true xs x = refl
-if_more false xs x = sym (append_none xs)
-
-pub sets_static : (plan : Plan) (old new : Accepted) → SetsPlan plan old.plans new.plans → new.offers ≡ old.offers → AcceptsEvent (events.Static plan) old new
-sets_static plan old new sets same = record {
-  set = λ ue. sets ue ∙ ap (first_or (find ue_cmp old.plans ue)) (if_some (plan.ue.0 == ue.0) plan);
-  offers = λ key. ap (λ (m : List (EntityKey × List (List ℕ))). at entity_cmp [] m key) same ∙ sym (append_none (offered_on old key));
-}
-
-pub sets_attach : (plan : Plan) (old new : Accepted) → SetsPlan plan old.plans new.plans → new.offers ≡ old.offers → AcceptsEvent (events.Attach plan) old new
-sets_attach plan old new sets same = record {
-  set = λ ue. sets ue ∙ ap (first_or (find ue_cmp old.plans ue)) (if_some (plan.ue.0 == ue.0) plan);
-  offers = λ key. ap (λ (m : List (EntityKey × List (List ℕ))). at entity_cmp [] m key) same ∙ sym (append_none (offered_on old key));
-}
-
-or_none : (x : Option Plan) → x ≡ first_or x None
-or_none None = refl
-or_none (Some p) = refl
-
-pub adds_offer : (key : EntityKey) (packet : List ℕ) (old new : Accepted) → AddsOffer key packet old.offers new.offers → new.plans ≡ old.plans
-    → AcceptsEvent (events.Offer key.ue key.bearer key.dir packet) old new
-adds_offer key packet old new adds same = record {
-  set = λ ue. ap (λ (m : List (UeId × Plan)). find ue_cmp m ue) same ∙ or_none (find ue_cmp old.plans ue);
-  offers = λ other. adds other ∙ if_more (same_entity other key) (offered_on old other) packet;
-}
-
--- no plan and no offer
-abbrev pub IsOther : Event → Type 0
-IsOther (events.Static plan) = ⊥
-IsOther (events.Attach plan) = ⊥
-IsOther (events.Offer ue bearer dir packet) = ⊥
-IsOther event = Unit {0}
-
-no_plan : (event : Event) (ue : UeId) → IsOther event → plan_at ue event ≡ []
-no_plan (events.Static plan) ue other = absurd other
-no_plan (events.Attach plan) ue other = absurd other
-no_plan event ue other = refl
-
-no_offer : (event : Event) (key : EntityKey) → IsOther event → offer_at key event ≡ []
-no_offer (events.Offer ue bearer dir packet) key other = absurd other
-no_offer event key other = refl
-
-pub accepts_other : (event : Event) (accepted : Accepted) → IsOther event → AcceptsEvent event accepted accepted
-accepts_other event accepted other = record {
-  set = λ ue. or_none (find ue_cmp accepted.plans ue) ∙ ap (λ (xs : List Plan). first_or (find ue_cmp accepted.plans ue) (slice_get xs 0)) (sym (no_plan event ue other));
-  offers = λ key. sym (append_none (offered_on accepted key)) ∙ ap (λ (xs : List (List ℕ)). offered_on accepted key ++ xs) (sym (no_offer event key other));
-}
-
 -- ---- readings
 
 module _ (happened : List Event) (accepted : Accepted) (link : Link) (item : Item) where
-  plan_found : (ue : UeId) (x : Option Plan) → x ≡ find ue_cmp accepted.plans ue → AreAccepted happened accepted → x ≡ slice_get (plans ue happened) 0
-  plan_found ue x is are = is ∙ are.set ue
-
-  pub unset : None ≡ find ue_cmp accepted.plans item.ue → AreAccepted happened accepted → Reading happened link item → ⊥
-  unset none are r = true≢false (sym (ap is_some (none ∙ are.set item.ue ∙ r.is_set)))
-
-  pub same_plan : (plan : Plan) → Some plan ≡ find ue_cmp accepted.plans item.ue → AreAccepted happened accepted → (r : Reading happened link item)
-      → plan ≡ r.plan
-  same_plan plan found are r = let e : Some plan ≡ Some r.plan = found ∙ are.set item.ue ∙ r.is_set in cc
-
-  pub out_of_plan : (plan : Plan) → Some plan ≡ find ue_cmp accepted.plans item.ue → plan.bearers < item.bearer.0 → AreAccepted happened accepted
-      → Reading happened link item → ⊥
-  out_of_plan plan found above are r =
-      let e : plan ≡ r.plan = same_plan plan found are r in
-      let less : r.plan.bearers < item.bearer.0 = subst (λ (p : Plan). p.bearers < item.bearer.0) e above in
-      omega (arith, less, r.has_bearer)
-
-  pub laid_out_so : (plan : Plan) → Some plan ≡ find ue_cmp accepted.plans item.ue → AreAccepted happened accepted → (r : Reading happened link item)
-      → LaidOut link item.dir plan.sn r.says item.bytes
-  laid_out_so plan found are r =
-      subst (λ (p : Plan). LaidOut link item.dir p.sn r.says item.bytes) (sym (same_plan plan found are r)) r.laid_out
-
   pub reads_so : (plan : Plan) (says : Says) → Some plan ≡ find ue_cmp accepted.plans item.ue → item.bearer.0 ≤ plan.bearers
       → LaidOut link item.dir plan.sn says item.bytes → AreAccepted happened accepted → ReadsAs happened link item plan.sn says
   reads_so plan says found within laid are = record {

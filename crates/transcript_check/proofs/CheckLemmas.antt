@@ -1,6 +1,6 @@
 -- What becomes of a line, and of a checker.
 use Rattle.std.proofs.Common.{◌≡◌, ◌<◌, ℕ, List, [], ◌∷◌, ◌++◌, reverse, Option, Some, None, refl, ap, sym, ◌∙◌, subst, arith}
-use Rattle.std.specs.Prelude.{Result, Ok, Err}
+use Rattle.std.specs.Prelude.{Ok, Err}
 use Rattle.scenario_text.specs.declared.event.Event.{Event}
 use Rattle.tables.specs.Queues.{first_item}
 use Rattle.transcript_defs.specs.declared.line.TextLine.{TextLine}
@@ -8,12 +8,11 @@ use Rattle.transcript_defs.specs.declared.rule.Rule.{Rule}
 use Rattle.transcript_defs.specs.declared.rule.Rule.TheVariants as rules
 use Rattle.transcript_defs.specs.Lines.{IsLineOf}
 use Rattle.transcript_defs.specs.Past.{accepted}
-use Rattle.transcript_defs.specs.Rules.{Spelling, AtPlace, a_line, no_line, Keeps, rule_number, ShowsCount, IsInOrder}
-use Rattle.transcript_check.specs.declared.checker.CheckError.{CheckError}
+use Rattle.transcript_defs.specs.Rules.{Spelling, a_line, no_line, rule_number, ShowsCount, IsInOrder}
 use Rattle.transcript_check.specs.declared.checker.CheckError.TheVariants.{Unsound, Memory}
 use Rattle.transcript_check.specs.declared.index.Index.{Index}
 use Rattle.transcript_check.specs.declared.index.accepted.Accepted.{Accepted}
-use Rattle.transcript_check.specs.Steps.{Progress, going, refused, spent, LineMeets, KeepsAll, BreaksRule}
+use Rattle.transcript_check.specs.Steps.{Progress, going, refused, spent, LineMeets}
 use Rattle.transcript_check.specs.inside.Accepted.{AreAccepted}
 use Rattle.transcript_check.specs.inside.Index.{IsIndex, settled, newly_accepted}
 use Rattle.transcript_check.specs.inside.Judge.{FirstBroken}

@@ -1,16 +1,14 @@
 -- Where a line may stand, and how many lines show events.
-use Rattle.std.proofs.Common.{◌≡◌, ◌+◌, ◌↔◌, ℕ, Bool, true, false, cond, List, [], ◌∷◌, ◌++◌, reverse, length, take, get_or, ◌<◌, ◌≤◌, Option, Some, None, refl, ap, sym, ◌∙◌, arith}
+use Rattle.std.proofs.Common.{◌≡◌, ◌+◌, ℕ, Bool, true, false, cond, List, [], ◌∷◌, ◌++◌, reverse, length, take, get_or, ◌<◌, refl, ap, sym, ◌∙◌, arith}
 use Rattle.std.proofs.lemmas.List.Sums.{count_by_more_yes, count_by_more_no}
 use Rattle.std.specs.Prelude.{count_by}
 use Rattle.std.proofs.lemmas.Grind.{reverse_onto}
 use Rattle.std.proofs.lemmas.List.Recursion.{is_count_by}
 use Rattle.scenario_text.specs.declared.line.OutLine.TheVariants as lines
-use Rattle.tables.specs.Queues.{first_item}
 use Rattle.transcript_defs.specs.declared.line.TextLine.{TextLine}
-use Rattle.transcript_defs.specs.declared.line.TextLine.TheVariants.{Printed, OutstandingWide}
+use Rattle.transcript_defs.specs.declared.line.TextLine.TheVariants.{Printed}
 use Rattle.transcript_defs.specs.Past.{events_of}
-use Rattle.transcript_defs.specs.Rules.{MayFollow}
-use Rattle.transcript_check.specs.inside.Judge.{Follows, shows_event}
+use Rattle.transcript_check.specs.inside.Judge.{shows_event}
 
 events_cons : (line : TextLine) (past : List TextLine) → events_of (line ∷ past) ≡ cond (shows_event line) (1 + events_of past) (events_of past)
 unfolding events_of shows_event
@@ -35,15 +33,6 @@ unfolding events_of
 events_counted lines =
     sym (is_count_by (λ xs. events_of (reverse xs)) shows_event refl
     (λ x xs. ap events_of (reverse_onto xs x []) ∙ events_snoc (reverse xs) x) lines)
-
--- what may follow is decided by the newest line
-pub follows_newest : (past : List TextLine) (line : TextLine) → Follows (first_item past) line ↔ MayFollow past line
-follows_newest [] line = ((λ f. f), (λ f. f))
-follows_newest (Printed (lines.End events) ∷ past) line = ((λ f. f), (λ f. f))
-follows_newest (Printed (lines.Stop code place reason) ∷ past) line = ((λ f. f), (λ f. f))
-follows_newest (Printed (lines.Outstanding ue bearer dir span window) ∷ past) line = ((λ f. f), (λ f. f))
-follows_newest (OutstandingWide ue bearer dir span window ∷ past) line = ((λ f. f), (λ f. f))
-follows_newest (other ∷ past) line = ((λ f. f), (λ f. f))
 
 pub count_step : (lines : List TextLine) (i events after : ℕ) (line : TextLine) → i < length lines → line ≡ get_or lines i line → events ≡ count_by shows_event (take i lines)
     → after ≡ events + cond (shows_event line) 1 0 → after ≡ count_by shows_event (take (i + 1) lines)

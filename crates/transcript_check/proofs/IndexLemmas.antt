@@ -1,8 +1,7 @@
 -- An index after one more line.
-use Rattle.std.proofs.Common.{◌≡◌, ◌+◌, ◌-◌, ℕ, Bool, true, false, List, [], ◌∷◌, ◌++◌, length, reverse, Option, Some, None, refl, ap, sym, ◌∙◌, subst, true≢false, arith, length-append}
-use Rattle.std.specs.Prelude.{slice_get, ◌↔◌, IsTrue, is_some, if◌then◌else◌}
-use Rattle.std.proofs.lemmas.Grind.{reverse_onto}
-use Rattle.std.proofs.lemmas.List.{reverse-append, reverse-reverse}
+use Rattle.std.proofs.Common.{◌≡◌, ◌+◌, ◌-◌, ℕ, Bool, true, false, List, [], ◌∷◌, ◌++◌, reverse, Option, Some, refl, ap, sym, ◌∙◌, subst, true≢false}
+use Rattle.std.specs.Prelude.{◌↔◌, IsTrue, is_some, if◌then◌else◌}
+use Rattle.std.proofs.lemmas.List.{reverse-append}
 use Rattle.gnb_types.specs.declared.keys.EntityKey.{EntityKey}
 use Rattle.gnb_types.specs.Orders.{entity_cmp}
 use Rattle.scenario_text.specs.declared.event.Event.{Event}
@@ -21,8 +20,8 @@ use Rattle.transcript_check.specs.declared.index.receipts.Receipts.{Receipts}
 use Rattle.tables.specs.Queues.{first_item}
 use Rattle.transcript_defs.specs.declared.line.TextLine.{TextLine}
 use Rattle.transcript_defs.specs.declared.line.TextLine.TheVariants.{Printed}
-use Rattle.transcript_defs.specs.Past.{accepted, accepted_at, is_refusal, messages, message_at, delivered, offered}
-use Rattle.transcript_defs.specs.Rules.{ShowsCount, IsInOrder, WasReceived}
+use Rattle.transcript_defs.specs.Past.{accepted, is_refusal, messages, message_at, delivered, offered}
+use Rattle.transcript_defs.specs.Rules.{ShowsCount, IsInOrder}
 use Rattle.transcript_check.specs.declared.index.Index.{Index}
 use Rattle.transcript_check.specs.inside.Queues.{AreQueues, FollowsLine}
 use Rattle.transcript_check.specs.declared.index.accepted.Accepted.{Accepted}
@@ -30,21 +29,10 @@ use Rattle.transcript_check.specs.inside.Accepted.{AreAccepted, AcceptsEvent}
 use Rattle.transcript_check.specs.inside.Receipts.{receipt_cmp, receipt, AreReceived, AreOffered, AreCounted}
 use Rattle.transcript_check.specs.inside.Index.{IsIndex, settled, newly_accepted}
 use Rattle.transcript_check.proofs.AcceptedLemmas.{accepts_event}
-use Rattle.transcript_check.proofs.OfferLemmas.{get_end}
 use Rattle.transcript_check.proofs.QueueLemmas.{follows_queues}
 use Rattle.transcript_check.proofs.ReceiptLemmas.{TakesNothing, DeliversNothing, received_same, delivered_same, delivered_more, offered_more, offered_later}
 
--- ---- the newest line
-
-pub newest_last : {A : Type 0} (xs : List A) → slice_get xs (length xs - 1) ≡ first_item (reverse xs)
-newest_last {A = A} xs = subst (λ (l : List A). slice_get l (length l - 1) ≡ first_item (reverse xs)) (reverse-reverse xs) (by (reverse xs))
-  where
-    by : (ys : List A) → slice_get (reverse ys) (length (reverse ys) - 1) ≡ first_item ys
-    by [] = refl
-    by (y ∷ ys) =
-        let whole : reverse (y ∷ ys) ≡ reverse ys ++ y ∷ [] = reverse_onto ys y [] in
-        let place : length (reverse ys ++ y ∷ []) - 1 ≡ length (reverse ys) = omega (arith, length-append (reverse ys) (y ∷ [])) in
-        ap (λ (l : List A). slice_get l (length l - 1)) whole ∙ ap (λ (n : ℕ). slice_get (reverse ys ++ y ∷ []) n) place ∙ get_end (reverse ys) y
+-- ---- one line more
 
 pub reverse_more : {A : Type 0} (xs : List A) (x : A) → reverse (xs ++ x ∷ []) ≡ x ∷ reverse xs
 reverse_more xs x = reverse-append xs (x ∷ [])

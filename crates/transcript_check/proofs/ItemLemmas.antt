@@ -1,5 +1,5 @@
 -- How what an item says decides the rules.
-use Rattle.std.proofs.Common.{◌≡◌, ◌↔◌, ℕ, Bool, true, false, List, Option, Some, None, refl, ap, sym, ◌∙◌, subst, true≢false, ◌==◌, eqb-true, eq-eqb}
+use Rattle.std.proofs.Common.{◌≡◌, ◌↔◌, ℕ, Bool, true, false, List, Option, Some, None, ap, sym, ◌∙◌, subst, true≢false, ◌==◌, eqb-true, eq-eqb}
 use Rattle.std.specs.Prelude.{IsTrue, MatchOption, option_copied, is_some}
 use Rattle.std.specs.Borrow.{Bor}
 use Rattle.gnb_types.specs.declared.names.SnBits.{SnBits}
@@ -8,16 +8,13 @@ use Rattle.scenario_text.specs.declared.event.Event.{Event}
 use Rattle.scenario_text.specs.declared.line.Link.{Link}
 use Rattle.scenario_text.specs.declared.line.Item.{Item}
 use Rattle.transcript_defs.specs.Past.{offered}
-use Rattle.transcript_defs.specs.Packets.{Reading, FitsCount, IsOfCount, IsAmong, IsAtReceiver, packet_in, key_of}
+use Rattle.transcript_defs.specs.Packets.{Reading, FitsCount, IsAmong, IsAtReceiver, packet_in, key_of}
 use Rattle.transcript_defs.specs.Rules.{ReadsWithCount, CarriesOffered, Brings}
 use Rattle.transcript_check.specs.inside.Accepted.{AreAccepted, ReadsAs, offered_on}
 use Rattle.transcript_check.specs.declared.index.accepted.Accepted.{Accepted}
 
 pub not_true : {P : Type 0} → (P → ⊥) → IsTrue false ↔ P
 not_true none = ((λ t. absurd (true≢false (sym t))), (λ p. absurd (none p)))
-
-pub is_true : {P : Type 0} → P → IsTrue true ↔ P
-is_true p = ((λ t. p), (λ q. refl))
 
 pub copied_packet : (r : Option (Bor (List ℕ))) (x : Option (List ℕ)) → MatchOption r (x ≡ None) (λ p. x ≡ Some p.now) → option_copied r ≡ x
 copied_packet None x is = sym is

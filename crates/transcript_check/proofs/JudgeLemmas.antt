@@ -1,20 +1,10 @@
 -- The first rule that a line breaks.
-use Rattle.std.proofs.Common.{◌≡◌, ◌==◌, ◌<◌, ◌≤◌, ◌+◌, ◌-◌, ◌↔◌, ℕ, Bool, true, false, List, [], ◌∷◌, length, Option, Some, None, refl, ap, sym, ◌∙◌, subst, true≢false, arith}
-use Rattle.std.specs.Prelude.{IsTrue, slice_get, is_some}
-use Rattle.gnb_types.specs.declared.keys.EntityKey.{EntityKey}
-use Rattle.tables.specs.Queues.{first_item}
-use Rattle.tables.specs.Tables.{find}
-use Rattle.scenario_text.specs.declared.line.Link.{Link}
-use Rattle.scenario_text.specs.declared.line.Item.{Item}
+use Rattle.std.proofs.Common.{◌≡◌, ◌<◌, ◌↔◌, ℕ, Bool, true, false, List, refl, sym, ◌∙◌, true≢false, arith}
+use Rattle.std.specs.Prelude.{IsTrue}
 use Rattle.transcript_defs.specs.declared.line.TextLine.{TextLine}
 use Rattle.transcript_defs.specs.declared.rule.Rule.{Rule}
 use Rattle.transcript_defs.specs.declared.rule.Rule.TheVariants as rules
-use Rattle.transcript_defs.specs.Past.{accepted, offered, delivered}
-use Rattle.transcript_defs.specs.Rules.{Spelling, a_line, KeepsForm, IsOnWire, IsReadable, ShowsCount, IsInOrder, WasSeen, IsSpelled, Keeps, rule_number, WasReceived, AreDelivered}
-use Rattle.transcript_check.specs.declared.index.Index.{Index}
-use Rattle.transcript_check.specs.inside.Accepted.{offered_on}
-use Rattle.transcript_check.specs.inside.Receipts.{receipt_cmp, receipt, delivered_on}
-use Rattle.transcript_check.specs.inside.Index.{IsIndex}
+use Rattle.transcript_defs.specs.Rules.{Spelling, a_line, KeepsForm, IsOnWire, IsReadable, ShowsCount, IsInOrder, WasSeen, IsSpelled, Keeps, rule_number}
 use Rattle.transcript_check.specs.inside.Judge.{FirstBroken, first_failed}
 
 pub unkept : (b : Bool) (P : Type 0) → (IsTrue b ↔ P) → b ≡ false → P → ⊥

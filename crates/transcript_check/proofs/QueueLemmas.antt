@@ -1,22 +1,19 @@
 -- Queues by link: what a change of one queue leaves, and what a line makes of them.
-use Rattle.std.proofs.Common.{◌≡◌, ◌<◌, ◌-◌, ◌+◌, ◌==◌, ◌&&◌, ℕ, zero, suc, Bool, true, false, cond, List, [], ◌∷◌, ◌++◌, drop, Option, Some, None, refl, ap, sym, ◌∙◌, subst, arith, length, eqb-true, eq-eqb}
+use Rattle.std.proofs.Common.{◌≡◌, ◌<◌, ◌-◌, ◌+◌, ◌==◌, ◌&&◌, ℕ, suc, Bool, true, cond, List, [], ◌∷◌, ◌++◌, drop, Some, None, refl, ap, sym, ◌∙◌, subst, arith, eqb-true, eq-eqb}
 use Rattle.std.proofs.Math.Seq.{drop-nil}
-use Rattle.std.specs.Prelude.{unwrap_or, if◌then◌else◌}
 use Rattle.std.specs.declared.cmp.Ordering.{Ordering}
 use Rattle.std.specs.declared.cmp.Ordering.TheVariants.{Less, Equal, Greater}
 use Rattle.std.specs.Ordering.{eq_by_cmp, is_eq, ordering_then, nat_cmp}
 use Rattle.std.specs.Cmp.{IsTotalOrder, Equal-is, tied_itself, both_ways, nat_cmp_total}
 use Rattle.std.proofs.lemmas.Map.Lookups.{exact_unsigned}
-use Rattle.gnb_types.specs.declared.names.NodeId.{NodeId}
 use Rattle.gnb_types.specs.Orders.{node_cmp, entity_cmp}
 use Rattle.scenario_text.specs.declared.line.Link.{Link}
 use Rattle.scenario_text.specs.declared.line.Link.TheVariants.{Tunnel, Radio}
 use Rattle.scenario_text.specs.declared.line.Item.{Item}
 use Rattle.tables.specs.Tables.{find, put, without, at}
-use Rattle.tables.specs.Queues.{TakesFirst}
 use Rattle.tables.proofs.TableLaws.{at-without}
 use Rattle.transcript_defs.specs.declared.line.TextLine.{TextLine}
-use Rattle.transcript_defs.specs.Past.{same_link, same_entity, standing, after_line, after_loss}
+use Rattle.transcript_defs.specs.Past.{same_link, same_entity, standing, after_line}
 use Rattle.transcript_check.specs.declared.index.queues.LinkKey.{LinkKey}
 use Rattle.transcript_check.specs.contracts.index.queues.LinkKeyOrd.TheImpl.Laws as key
 use Rattle.transcript_check.proofs.TableMore.{at_none, at_some, put_changes, none_changes}
@@ -108,10 +105,6 @@ pub dropped_all : {A : Type 0} (n : ℕ) (old new all : List A) → drop n old �
 dropped_all n old new all holds empty = empty.1 ∙ sym (drop-nil n) ∙ sym (ap (drop n) empty.0) ∙ holds
 
 -- ---- a line
-
-pub changes_follow : (line : TextLine) (old : List (LinkKey × List Item)) → ((link : Link) → queue_on old link ≡ after_line link line (queue_on old link))
-    → FollowsLine line old old
-changes_follow line old same = same
 
 pub follows_queues : (past : List TextLine) (line : TextLine) (old new : List (LinkKey × List Item)) → FollowsLine line old new → AreQueues past old
     → AreQueues (line ∷ past) new

@@ -1,10 +1,9 @@
 -- What one more line makes of what was received and delivered.
-use Rattle.std.proofs.Common.{◌≡◌, ◌==◌, ◌+◌, ◌↔◌, ◌⊎◌, inl, inr, ℕ, Bool, true, false, cond, List, [], ◌∷◌, ◌++◌, length, Option, Some, None, refl, ap, sym, ◌∙◌, subst, true≢false, length-append, arith}
-use Rattle.std.specs.Prelude.{slice_get, is_some, IsTrue, IsSome}
+use Rattle.std.proofs.Common.{◌≡◌, ◌+◌, ◌↔◌, ◌⊎◌, inl, inr, ℕ, Bool, true, false, cond, List, [], ◌∷◌, ◌++◌, length, Option, Some, refl, ap, sym, ◌∙◌, subst, true≢false, length-append, arith}
+use Rattle.std.specs.Prelude.{slice_get, is_some, IsTrue}
 use Rattle.std.specs.declared.cmp.Ordering.TheVariants.{Equal}
 use Rattle.std.specs.Ordering.{eq_by_cmp, is_eq, nat_cmp}
 use Rattle.std.specs.Cmp.{IsTotalOrder, Equal-is, tied_itself}
-use Rattle.std.specs.List.{flat_map}
 use Rattle.std.proofs.lemmas.Grind.{flat_map-append}
 use Rattle.std.proofs.lemmas.Map.Lookups.{exact_unsigned, exact_pairs}
 use Rattle.gnb_types.specs.declared.names.SnBits.{SnBits}
@@ -20,15 +19,14 @@ use Rattle.scenario_text.specs.declared.event.Event.{Event}
 use Rattle.scenario_text.specs.declared.line.Link.{Link}
 use Rattle.scenario_text.specs.declared.line.Link.TheVariants.{Tunnel, Radio}
 use Rattle.scenario_text.specs.declared.line.Item.{Item}
-use Rattle.scenario_text.specs.declared.line.OutLine.{OutLine}
 use Rattle.scenario_text.specs.declared.line.OutLine.TheVariants as lines
 use Rattle.tables.specs.Tables.{find, put, at}
 use Rattle.tables.proofs.TableLaws.{find-put, at-put}
 use Rattle.transcript_defs.specs.declared.line.TextLine.{TextLine}
 use Rattle.transcript_defs.specs.declared.line.TextLine.TheVariants.{Printed}
 use Rattle.transcript_defs.specs.Past.{accepted, offered, offer_at, delivered, delivery_at, same_entity}
-use Rattle.transcript_defs.specs.Packets.{Reading, LaidOut, IsOnRadio, packet_in, FitsCount, IsOfCount, key_of}
-use Rattle.transcript_defs.specs.Rules.{WasReceived, Receives, Brings, ShowsCount, ReadsWithCount, IsInOrder}
+use Rattle.transcript_defs.specs.Packets.{Reading, LaidOut, packet_in, FitsCount, IsOfCount, key_of}
+use Rattle.transcript_defs.specs.Rules.{WasReceived, Receives, Brings, ShowsCount}
 use Rattle.transcript_check.specs.declared.index.receipts.Receipt.{Receipt}
 use Rattle.transcript_check.specs.contracts.index.receipts.ReceiptOrd.TheImpl.Laws as receipt_laws
 use Rattle.transcript_check.specs.inside.Receipts.{receipt_cmp, receipt, AreReceived, AreOffered}
@@ -72,9 +70,6 @@ module _ {happened : List Event} {link : Link} {item : Item} (r s : Reading happ
 -- ---- marks
 
 module _ (past : List TextLine) (link : Link) (item : Item) (received : List (Receipt × Unit {0})) (are : AreReceived past received) where
-  got : TextLine
-  got = Printed (lines.Got link item)
-
   pub received_none : ((count : ℕ) (packet : List ℕ) → Brings (accepted (Printed (lines.Got link item)) past) link item count packet → ⊥)
       → AreReceived (Printed (lines.Got link item) ∷ past) received
   received_none none key count = (

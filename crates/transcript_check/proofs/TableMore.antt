@@ -7,8 +7,8 @@ use Rattle.std.specs.Ordering.{eq_by_cmp, is_eq}
 use Rattle.std.specs.Cmp.{IsTotalOrder, Equal-is}
 use Rattle.std.specs.Map.{lookup}
 use Rattle.std.specs.BTreeMap.{is_at}
-use Rattle.tables.specs.Tables.{find, put, without, at}
-use Rattle.tables.proofs.TableLaws.{at-put, at-without}
+use Rattle.tables.specs.Tables.{find, put, at}
+use Rattle.tables.proofs.TableLaws.{at-put}
 
 pub at_none : {K X : Type 0} (R : K → K → Ordering) (d : X) (m : List (K × X)) (k : K) → find R m k ≡ None → at R d m k ≡ d
 unfolding at

@@ -4,7 +4,6 @@ ghost use Rattle.std.specs.Prelude.{◌≡◌, [], IfOk};
 ghost use Rattle.transcript_check.specs.Steps.{going, LineMeets, FinishMeets};
 ghost use Rattle.transcript_check.specs.inside.Phases.{progress, answer};
 
-use transcript_lines::lines::read_line;
 use crate::past::{Judged, Past};
 use crate::spells::Spells;
 use gnb_types::items::{Items, Memory};
@@ -13,6 +12,7 @@ use std::marker::Model;
 use std::mem;
 use transcript_defs::line::TextLine;
 use transcript_defs::rule::Rule;
+use transcript_lines::lines::read_line;
 
 /// Why a checker doesn't go on.
 #[derive(Clone, Copy, Debug, PartialEq, Eq)]

@@ -2,10 +2,10 @@
 #![tactic(auto)]
 
 pub mod checker;
-pub mod forms;
-pub mod index;
-pub mod judge;
+mod forms;
+mod index;
+mod judge;
 pub mod packets;
-pub mod past;
-pub mod same;
+mod past;
+mod same;
 pub mod spells;

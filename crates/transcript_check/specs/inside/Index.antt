@@ -1,5 +1,5 @@
 -- Internal: an index is what looking back over these lines gives.
-use Rattle.std.specs.Prelude.{◌≡◌, List, [], ◌∷◌, ◌++◌, Option, Some, None}
+use Rattle.std.specs.Prelude.{◌≡◌, List, [], ◌∷◌, Option, Some, None}
 use Rattle.scenario_text.specs.declared.event.Event.{Event}
 use Rattle.transcript_defs.specs.declared.line.TextLine.{TextLine}
 use Rattle.transcript_defs.specs.Past.{accepted, accepted_at, messages}

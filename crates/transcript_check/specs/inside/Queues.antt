@@ -1,14 +1,12 @@
 -- Internal: queues by link are what looking back gives.
-use Rattle.std.specs.Prelude.{◌≡◌, ℕ, List, [], ◌∷◌, if◌then◌else◌}
+use Rattle.std.specs.Prelude.{◌≡◌, List, [], if◌then◌else◌}
 use Rattle.std.specs.declared.cmp.Ordering.{Ordering}
-use Rattle.gnb_types.specs.declared.keys.TunnelEnd.{TunnelEnd}
 use Rattle.scenario_text.specs.declared.line.Link.{Link}
 use Rattle.scenario_text.specs.declared.line.Link.TheVariants as links
 use Rattle.scenario_text.specs.declared.line.Item.{Item}
 use Rattle.tables.specs.Tables.{at}
 use Rattle.transcript_defs.specs.declared.line.TextLine.{TextLine}
 use Rattle.transcript_defs.specs.Past.{same_link, standing, after_line}
-use Rattle.transcript_check.specs.declared.index.queues.RadioKey.{RadioKey}
 use Rattle.transcript_check.specs.declared.index.queues.LinkKey.{LinkKey}
 use Rattle.transcript_check.specs.declared.index.queues.LinkKey.TheVariants.{Tunnel, Radio}
 use Rattle.transcript_check.specs.contracts.index.queues.LinkKeyOrd.TheImpl as key

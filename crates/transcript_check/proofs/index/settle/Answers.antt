@@ -1,6 +1,5 @@
 use Rattle.std.proofs.Common.{ap, ◌∙◌}
 use Rattle.std.specs.Prelude.{option_copied}
-use Rattle.scenario_text.specs.declared.line.OutLine.TheVariants as lines
 use Rattle.transcript_defs.specs.declared.line.TextLine.TheVariants.{Printed}
 use Rattle.transcript_check.proofs.IndexLemmas.{settles_event}
 use Rattle.transcript_check.proofs.index.settle.Goals as goal

@@ -1,4 +1,4 @@
-use Rattle.std.proofs.Common.{reverse, ap, ◌∙◌}
+use Rattle.std.proofs.Common.{reverse}
 use Rattle.transcript_check.proofs.CheckLemmas.{taken_index}
 use Rattle.transcript_check.proofs.past.take.Goals as goal
 

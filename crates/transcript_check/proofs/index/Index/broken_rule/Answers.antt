@@ -1,4 +1,4 @@
-use Rattle.std.proofs.Common.{◌≡◌, Option, reverse, sym, subst}
+use Rattle.std.proofs.Common.{Option, reverse, sym, subst}
 use Rattle.transcript_defs.specs.declared.rule.Rule.{Rule}
 use Rattle.transcript_check.specs.inside.Judge.{FirstBroken}
 use Rattle.transcript_check.proofs.JudgeLemmas.{failed_meets}

@@ -22,5 +22,5 @@ returns-in-Ok-clause-came g c =
     let records = g.U.Units.records in
     let s = state_of (records c.args.self.now.units) c.args.self.now.core c.args.self.now.network in
     comes_of_outputs world g.U.Units.answer s c.args.node c.args.input c.in-Ok.outputs (records c.step.new.self) _ c.too_many_control_messages-room.result
-    c.sorted.result (g.met.U.Units.leaves c.args.self.now.units c.requires.ready) c.requires.asked c.in-Ok.ensures.gives
+    c.sorted.result (g.met.U.Units.leaves c.args.self.now.units c.requires.ready) c.requires.there c.in-Ok.ensures.gives
     (c.too_many_control_messages-room.ensures world (records c.args.self.now.units) c.args.self.now.core) refl c.sorted.ensures

@@ -1,4 +1,4 @@
-use Rattle.std.proofs.Common.{◌≡◌, ◌++◌, ◌∷◌, [], List, ap, sym, ◌∙◌}
+use Rattle.std.proofs.Common.{◌++◌, ◌∷◌, [], List, ap, sym, ◌∙◌}
 use Rattle.scenario_text.specs.declared.line.Item.{Item}
 use Rattle.transcript_check.proofs.QueueLemmas.{put_absent, put_present}
 use Rattle.transcript_check.proofs.index.queues.Queues.put.Goals as goal

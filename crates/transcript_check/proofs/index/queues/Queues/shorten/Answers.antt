@@ -1,4 +1,4 @@
-use Rattle.std.proofs.Common.{◌≡◌, List, drop, sym}
+use Rattle.std.proofs.Common.{drop, sym}
 use Rattle.std.proofs.Math.Seq.{drop-nil}
 use Rattle.transcript_check.proofs.QueueLemmas.{take_absent, put_present}
 use Rattle.transcript_check.proofs.index.queues.Queues.shorten.Goals as goal
