@@ -6,13 +6,13 @@ use Rattle.scenario_text.specs.Print.{print}
 use Rattle.std.specs.Option.{option_to_list}
 use Rattle.command_defs.specs.declared.CommonEnd.TheVariants.{ReadFault, TooLong, WriteFault, Memory}
 use Rattle.command_defs.specs.Outside.{OutsideAt, outside, ReadsTo, AllRead, ReadStopped, WritesTo, AllWritten, WriteStopped}
-use Rattle.command_defs.specs.Output.{Prints}
+use Rattle.command_defs.specs.Output.{Prints, WritesBeforeReads}
 use Rattle.commands.specs.command_output.Writes.{WritesAll, WritesFront}
-use Rattle.commands.proofs.command_output.Written.{none_then_none, none_then_last, prints_more, front_more, front_all}
+use Rattle.commands.proofs.command_output.Written.{none_then_none, none_then_last, prints_none, prints_more, front_more, front_all, at_least, no_read_failed}
 use Rattle.command_run.specs.declared.end.RunEnd.{RunEnd}
 use Rattle.command_run.specs.declared.end.RunEnd.TheVariants.{Done, NoModule, Differs, Script, Outstanding, Spent, Common}
 use Rattle.command_run.specs.Ends.{run_status, report_of, run_last_lines, end_text}
-use Rattle.command_run.specs.Run.{Setting, PrintsRun, RunMeets}
+use Rattle.command_run.specs.Run.{Setting, run_text, PrintsRun, RunMeets}
 use Rattle.command_run.specs.inside.Stops.{RunsTo, PrintsTo, ReadsUntil, WritesUntil, Finishes, Silent, Written, Cut, Unwritten}
 use Rattle.command_run.proofs.Turned.{no_reader}
 
@@ -136,6 +136,22 @@ written_prints a b Meets text (Common TooLong) line e h = h
 written_prints a b Meets text (Common WriteFault) line e h = absurd (cc)
 written_prints a b Meets text (Common Memory) line e h = absurd (cc)
 
+-- ---- what was written at each read
+
+-- the text was written before a read that failed
+answered : (first : OutsideAt) (source : SourceAt) (sink last : SinkAt) (text : List ℕ) (end : RunEnd) → ReadsUntil first.source source end
+    → PrintsTo first.sink sink text end → (more : List ℕ) × Prints sink last more → WritesBeforeReads first (outside source last) text
+answered first source sink last text (Done n) h prints more = no_read_failed first (outside source last) text h
+answered first source sink last text (NoModule line column reason) h prints more = no_read_failed first (outside source last) text h
+answered first source sink last text (Differs name) h prints more = no_read_failed first (outside source last) text h
+answered first source sink last text (Script place reason) h prints more = no_read_failed first (outside source last) text h
+answered first source sink last text (Outstanding place span) h prints more = no_read_failed first (outside source last) text h
+answered first source sink last text (Spent place counter) h prints more = no_read_failed first (outside source last) text h
+answered first source sink last text (Common (ReadFault taken)) h prints more = λ fresh failed. at_least prints more
+answered first source sink last text (Common TooLong) h prints more = no_read_failed first (outside source last) text h
+answered first source sink last text (Common WriteFault) h prints more = no_read_failed first (outside source last) text h
+answered first source sink last text (Common Memory) h prints more = no_read_failed first (outside source last) text h
+
 -- ---- with the word `run`
 
 pub run_meets : {setting : Setting} {first : OutsideAt} {source : SourceAt} {sink last : SinkAt} (end result : RunEnd) → RunsTo setting first (outside source sink) end
@@ -151,6 +167,7 @@ run_meets {setting = setting} {first = first} {source = source} {sink = sink} {l
       script = r.script;
       ends = r.ends;
       prints = silent_prints first.sink sink _ _ end none r.prints;
+      answered = answered first source sink sink (run_text setting r.events) end r.reads r.prints ([], prints_none sink);
       calls = record { reads = reads_end _ _ end r.reads; writes = silent_writes first.sink sink end none r.writes };
     }))
 run_meets {setting = setting} {first = first} {source = source} {sink = sink} {last = last} end result r (Written line some same written) =
@@ -163,6 +180,7 @@ run_meets {setting = setting} {first = first} {source = source} {sink = sink} {l
       ends = r.ends;
       prints = written_prints first.sink last _ _ end line some
           (prints_more (text_before first.sink sink _ end line some r.prints) written.prints);
+      answered = answered first source sink last (run_text setting r.events) end r.reads r.prints (end_text end, written.prints);
       calls = record {
         reads = reads_end _ _ end r.reads;
         writes = AllWritten (none_then_none (none_before first.sink sink end line some r.writes) written.none) (not_seven end line some);
@@ -181,6 +199,7 @@ run_meets {setting = setting} {first = first} {source = source} {sink = sink} {l
         r.ends,
         front_more (text_before first.sink sink _ end line some r.prints) cut.prints,
       );
+      answered = answered first source sink last (run_text setting r.events) end r.reads r.prints (cut.prints.part, cut.prints.prints);
       calls = record {
         reads = reads_cut _ _ end r.reads;
         writes = WriteStopped (none_then_last (none_before first.sink sink end line some r.writes) cut.last) refl;
@@ -196,6 +215,7 @@ run_meets {setting = setting} {first = first} {source = source} {sink = sink} {l
       script = r.script;
       ends = tt;
       prints = front_all (text_before first.sink sink _ end line some r.prints);
+      answered = answered first source sink sink (run_text setting r.events) end r.reads r.prints ([], prints_none sink);
       calls = record {
         reads = reads_out _ _ end r.reads;
         writes = AllWritten (none_before first.sink sink end line some r.writes) (λ (e : 9 ≡ 7). omega arith);

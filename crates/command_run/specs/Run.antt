@@ -24,7 +24,7 @@ use Rattle.scenario_text.specs.declared.line.OutLine.TheVariants as lines
 use Rattle.gnb_base.specs.Reading.{piece_size}
 use Rattle.command_defs.specs.declared.CommonEnd.TheVariants.{ReadFault, TooLong, WriteFault, Memory}
 use Rattle.command_defs.specs.Outside.{OutsideAt, CallsTo}
-use Rattle.command_defs.specs.Output.{Prints, PrintsFront}
+use Rattle.command_defs.specs.Output.{Prints, PrintsFront, WritesBeforeReads}
 use Rattle.command_run.specs.declared.end.RunEnd.{RunEnd}
 use Rattle.command_run.specs.declared.end.RunEnd.TheVariants.{Done, NoModule, Differs, Script, Outstanding, Spent, Common}
 use Rattle.command_run.specs.Ends.{run_status, end_text}
@@ -166,4 +166,6 @@ pub record RunMeets (setting : Setting) (before after : OutsideAt) (end : RunEnd
   pub script : AreScript (rest_of before.source after.source) split events
   pub ends : RunEndMeets setting (rest_of before.source after.source) split events end
   pub prints : PrintsRun before.sink after.sink (RunEndMeets setting (rest_of before.source after.source) split events) (run_text setting events) end
+  -- an event's text was written before each read after its line
+  pub answered : WritesBeforeReads before after (run_text setting events)
   pub calls : CallsTo before after (run_status end).code

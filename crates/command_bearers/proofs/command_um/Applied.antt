@@ -135,12 +135,12 @@ module _ (config : UmConfig) (event : UmEvent) (old new : UmWorldState) (printed
   pub event_outstanding : (stop : UmStop) (far window : ℕ) (result : Result Happening Memory) → stop ≡ stop_variants.Outstanding far window printed
       → IsAppliedTo event old new (Err stop) → IfOk result (Shows event printed (Some Outstanding)) → IfOk result (Comes config event old new)
   event_outstanding stop far window result e is shows =
-      event_ends (ends.Outstanding far window) result shows (subst (λ (s : UmStop). IsAppliedTo event old new (Err s)) e is)
+      event_ends (ends.Outstanding far window) result shows (subst (λ (s : UmStop). IsAppliedTo event old new (Err s)) e is).0
 
   pub event_spends : (stop : UmStop) (counter : ℕ) (result : Result Happening Memory) → stop ≡ stop_variants.Spent counter printed
       → IsAppliedTo event old new (Err stop) → IfOk result (Shows event printed (Some (Spent counter))) → IfOk result (Comes config event old new)
   event_spends stop counter result e is shows =
-      event_ends (ends.Spent counter) result shows (subst (λ (s : UmStop). IsAppliedTo event old new (Err s)) e is)
+      event_ends (ends.Spent counter) result shows (subst (λ (s : UmStop). IsAppliedTo event old new (Err s)) e is).0
 
 pub begins : (config : UmConfig) (result : Result UmWorldState Memory) → IfOk result (λ run. run ≡ new_world config.sn config.ticks)
     → IfOk result (λ run. HasRun config run [])

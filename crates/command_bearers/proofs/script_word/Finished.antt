@@ -7,9 +7,9 @@ use Rattle.std.specs.Option.{option_to_list}
 use Rattle.command_defs.specs.declared.CommonEnd.{CommonEnd}
 use Rattle.command_defs.specs.declared.CommonEnd.TheVariants.{ReadFault, TooLong, WriteFault, Memory}
 use Rattle.command_defs.specs.Outside.{OutsideAt, outside, ReadsTo, AllRead, ReadStopped, WritesTo, AllWritten, WriteStopped}
-use Rattle.command_defs.specs.Output.{Prints}
+use Rattle.command_defs.specs.Output.{Prints, WritesBeforeReads}
 use Rattle.commands.specs.command_output.Writes.{WritesAll, WritesFront, WritesLines}
-use Rattle.commands.proofs.command_output.Written.{none_then_none, none_then_last, prints_more, front_more, front_all}
+use Rattle.commands.proofs.command_output.Written.{none_then_none, none_then_last, prints_none, prints_more, front_more, front_all, at_least, no_read_failed}
 use Rattle.command_bearers.specs.declared.script_word.end.ScriptEnd.{ScriptEnd}
 use Rattle.command_bearers.specs.declared.script_word.end.ScriptEnd.TheVariants.{Done, Script, Stopped, Common}
 use Rattle.command_bearers.specs.declared.script_word.end.StopCause.TheVariants.{Outstanding, Spent}
@@ -105,6 +105,19 @@ written_prints a b Meets text (Common TooLong) line e h = h
 written_prints a b Meets text (Common WriteFault) line e h = absurd (cc)
 written_prints a b Meets text (Common Memory) line e h = absurd (cc)
 
+-- ---- what was written at each read
+
+-- the text was written before a read that failed
+answered : (first : OutsideAt) (source : SourceAt) (sink last : SinkAt) (text : List ℕ) (end : ScriptEnd) → ReadsUntil first.source source end
+    → PrintsTo first.sink sink text end → (more : List ℕ) × Prints sink last more → WritesBeforeReads first (outside source last) text
+answered first source sink last text (Done n) h prints more = no_read_failed first (outside source last) text h
+answered first source sink last text (Script place reason) h prints more = no_read_failed first (outside source last) text h
+answered first source sink last text (Stopped place cause) h prints more = no_read_failed first (outside source last) text h
+answered first source sink last text (Common (ReadFault taken)) h prints more = λ fresh failed. at_least prints more
+answered first source sink last text (Common TooLong) h prints more = no_read_failed first (outside source last) text h
+answered first source sink last text (Common WriteFault) h prints more = no_read_failed first (outside source last) text h
+answered first source sink last text (Common Memory) h prints more = no_read_failed first (outside source last) text h
+
 -- ---- with the word
 
 pub meets : {Event : Type 0} {m : WordMeaning Event} {first : OutsideAt} {source : SourceAt} {sink last : SinkAt} (end result : ScriptEnd)
@@ -121,6 +134,7 @@ meets {m = m} {first = first} {source = source} {sink = sink} {last = last} end 
       are = r.are;
       ends = r.ends;
       prints = silent_prints first.sink sink _ _ end none r.prints;
+      answered = answered first source sink sink (m.text r.events) end r.reads r.prints ([], prints_none sink);
       calls = record { reads = reads_end _ _ end r.reads; writes = silent_writes first.sink sink end none r.writes };
     }))
 meets {m = m} {first = first} {source = source} {sink = sink} {last = last} end result r (Written line some same written) =
@@ -133,6 +147,7 @@ meets {m = m} {first = first} {source = source} {sink = sink} {last = last} end 
       ends = r.ends;
       prints = written_prints first.sink last _ _ end line some
           (prints_more (text_before first.sink sink _ end line some r.prints) written.prints);
+      answered = answered first source sink last (m.text r.events) end r.reads r.prints (end_text end, written.prints);
       calls = record {
         reads = reads_end _ _ end r.reads;
         writes = AllWritten (none_then_none (none_before first.sink sink end line some r.writes) written.none) (not_seven end line some);
@@ -151,6 +166,7 @@ meets {m = m} {first = first} {source = source} {sink = sink} {last = last} end 
         r.ends,
         front_more (text_before first.sink sink _ end line some r.prints) cut.prints,
       );
+      answered = answered first source sink last (m.text r.events) end r.reads r.prints (cut.prints.part, cut.prints.prints);
       calls = record {
         reads = reads_unwritten _ _ end 7 (λ (e : 7 ≡ 6). omega arith) (inr (inl refl)) r.reads;
         writes = WriteStopped (none_then_last (none_before first.sink sink end line some r.writes) cut.last) refl;
@@ -166,6 +182,7 @@ meets {m = m} {first = first} {source = source} {sink = sink} {last = last} end 
       are = r.are;
       ends = tt;
       prints = front_all (text_before first.sink sink _ end line some r.prints);
+      answered = answered first source sink sink (m.text r.events) end r.reads r.prints ([], prints_none sink);
       calls = record {
         reads = reads_unwritten _ _ end 9 (λ (e : 9 ≡ 6). omega arith) (inr (inr refl)) r.reads;
         writes = AllWritten (none_before first.sink sink end line some r.writes) (λ (e : 9 ≡ 7). omega arith);

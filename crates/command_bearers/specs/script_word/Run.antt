@@ -9,7 +9,7 @@ use Rattle.scenario_text.specs.declared.script_words.reason.TextReason.{TextReas
 use Rattle.scenario_text.specs.Grammar.{is_skipped}
 use Rattle.command_defs.specs.declared.CommonEnd.TheVariants.{ReadFault, TooLong, WriteFault, Memory}
 use Rattle.command_defs.specs.Outside.{OutsideAt, CallsTo}
-use Rattle.command_defs.specs.Output.{Prints, PrintsFront}
+use Rattle.command_defs.specs.Output.{Prints, PrintsFront, WritesBeforeReads}
 use Rattle.command_bearers.specs.declared.script_word.end.StopCause.{StopCause}
 use Rattle.command_bearers.specs.declared.script_word.end.ScriptEnd.{ScriptEnd}
 use Rattle.command_bearers.specs.declared.script_word.end.ScriptEnd.TheVariants.{Done, Script, Stopped, Common}
@@ -83,4 +83,6 @@ pub record ScriptMeets {Event : Type 0} (m : WordMeaning Event) (before after : 
   pub are : AreEvents m split.lines events
   pub ends : EndMeets m (rest_of before.source after.source) split events end
   pub prints : PrintsScript before.sink after.sink (EndMeets m (rest_of before.source after.source) split events) (m.text events) end
+  -- an event's text was written before each read after its line
+  pub answered : WritesBeforeReads before after (m.text events)
   pub calls : CallsTo before after (script_status end).code

@@ -40,11 +40,16 @@ IsEnding step old new end printed =
     ((old.ended ≡ Some end) × (printed ≡ []) × (new ≡ old))
     ⊎ ((old.ended ≡ None) × (new.ended ≡ Some end) × (step ≡ ends_so printed end))
 
--- what the code gave of a step: lines and the run that goes on; or how the run ends, or had ended; out of memory it answers that from then on
+-- memory ran out in no event
+abbrev pub HasMemory : DupState → DupState → Type 0
+HasMemory old new = (old.lacks_memory ≡ false) × (new.lacks_memory ≡ false)
+
+-- what the code gave of a step: lines and the run that goes on; or how the run ends, or had ended. Out of memory it answers that from then
+-- on, and stays as it is.
 abbrev pub IsApplied : DupStep → DupState → DupState → Result (List DupLine) DupStop → Type 0
 IsApplied step old new (Ok printed) =
     (old.ended ≡ None) × (old.lacks_memory ≡ false) × (step ≡ passes printed new.run) × (new ≡ record old { run = new.run })
 IsApplied step old new (Err (stops.Outstanding far window printed)) =
-    (old.lacks_memory ≡ false) × IsEnding step old new (ends.Outstanding far window) printed
-IsApplied step old new (Err (stops.CountsSpent printed)) = (old.lacks_memory ≡ false) × IsEnding step old new ends.CountsSpent printed
-IsApplied step old new (Err stops.Memory) = new.lacks_memory ≡ true
+    HasMemory old new × IsEnding step old new (ends.Outstanding far window) printed
+IsApplied step old new (Err (stops.CountsSpent printed)) = HasMemory old new × IsEnding step old new ends.CountsSpent printed
+IsApplied step old new (Err stops.Memory) = (new.lacks_memory ≡ true) × (old.lacks_memory ≡ true → new ≡ old)
