@@ -59,15 +59,15 @@ same_events (x ∷ xs) (y ∷ ys) e = let rest = same_events xs ys (cc) in cc
 -- the events of the lines that were handed out, among those of the input
 pub record IsFront (some all : List Event) : Type 0 where
   pub rest : List Event
-  pub run_state : all ≡ some ++ rest
+  pub parts : all ≡ some ++ rest
 
 pub front_of : (some all : List Event) (more : List (Result Event TextReason)) → all_read some ++ more ≡ all_read all → IsFront some all
-front_of [] all more e = record { rest = all; run_state = refl }
+front_of [] all more e = record { rest = all; parts = refl }
 front_of (x ∷ some) [] more e = absurd (cc)
 front_of (x ∷ some) (y ∷ all) more e =
     let same : x ≡ y = cc in
     let later = front_of some all more (cc) in
-    record { rest = later.rest; run_state = ap (λ (z : Event). z ∷ all) (sym same) ∙ ap (λ (zs : List Event). x ∷ zs) later.run_state }
+    record { rest = later.rest; parts = ap (λ (z : Event). z ∷ all) (sym same) ∙ ap (λ (zs : List Event). x ∷ zs) later.parts }
 
 -- ---- the lines of a text end once
 
@@ -95,13 +95,13 @@ same_end (line ∷ front) last rest (other ∷ others) end more h e k f same =
     (ap (λ (l : List ℕ). l ∷ (front ++ last ∷ [])) first ∙ ap (λ (ls : List (List ℕ)). other ∷ ls) one.0, one.1)
 
 with_rest : (body rest : List (List ℕ)) (closed : IsClosed body) → body ++ rest ≡ closed.front ++ closed.last ∷ rest
-with_rest body rest closed = ap (λ (ls : List (List ℕ)). ls ++ rest) closed.run_state ∙ append_assoc closed.front (closed.last ∷ []) rest
+with_rest body rest closed = ap (λ (ls : List (List ℕ)). ls ++ rest) closed.parts ∙ append_assoc closed.front (closed.last ∷ []) rest
 
 same_body : (body rest others more : List (List ℕ)) → IsClosed body → IsClosed others → body ++ rest ≡ others ++ more
     → (body ≡ others) × (rest ≡ more)
 same_body body rest others more a b same =
     let one = same_end a.front a.last rest b.front b.last more a.others a.end b.others b.end (sym (with_rest body rest a) ∙ same ∙ with_rest others more b) in
-    (a.run_state ∙ one.0 ∙ sym b.run_state, one.1)
+    (a.parts ∙ one.0 ∙ sym b.parts, one.1)
 
 open_fails : (front : List (List ℕ)) (last : List ℕ) (rest : List (List ℕ)) → is_end last ≡ true → IsUnclosed (front ++ last ∷ rest) → ⊥
 open_fails [] last rest e h = let clash : true ≡ false = sym e ∙ h.0 in cc
@@ -126,18 +126,18 @@ lines_after input (Some ys) split t (Bare front last p some bytes none at_end) =
 cut_same : (input : List ℕ) (left : Option (List ℕ)) (split : InputSplit) (header : List ℕ) (body rest : List (List ℕ)) → TakesOf input left split
     → Divides left split → split.lines ≡ (header ∷ body) ++ rest
     → take (length split.taken - (length header + 1)) (joined body) ≡ take (length input - (length header + 1)) (joined body)
-cut_same input None split header body rest t d run_state = absurd t.consumes
-cut_same input (Some ys) split header body rest t (division.Whole f) run_state =
+cut_same input None split header body rest t d parts = absurd t.consumes
+cut_same input (Some ys) split header body rest t (division.Whole f) parts =
     let a : length split.taken ≡ length (joined split.lines) + length split.kept = ap length f ∙ length-append (joined split.lines) split.kept in
     let b : length (joined split.lines) ≡ length (header ++ line_feed ∷ []) + length (joined (body ++ rest)) =
-    ap (λ (ls : List (List ℕ)). length (joined ls)) run_state ∙ length-append (header ++ line_feed ∷ []) (joined (body ++ rest)) in
+    ap (λ (ls : List (List ℕ)). length (joined ls)) parts ∙ length-append (header ++ line_feed ∷ []) (joined (body ++ rest)) in
     let c : length (header ++ line_feed ∷ []) ≡ length header + 1 = length-append header (line_feed ∷ []) in
     let d : length (joined (body ++ rest)) ≡ length (joined body) + length (joined rest) =
     ap length (flat_map-append (λ (l : List ℕ). l ++ line_feed ∷ []) body rest) ∙ length-append (joined body) (joined rest) in
     let all : length input ≡ length split.taken + length ys = ap length t.consumes ∙ length-append split.taken ys in
     take_all (length split.taken - (length header + 1)) (joined body) (omega (arith, a, b, c, d))
     ∙ sym (take_all (length input - (length header + 1)) (joined body) (omega (arith, a, b, c, d, all)))
-cut_same input (Some ys) split header body rest t (Bare front last p some bytes none at_end) run_state =
+cut_same input (Some ys) split header body rest t (Bare front last p some bytes none at_end) parts =
     ap (λ (bytes : List ℕ). take (length bytes - (length header + 1)) (joined body)) (sym (taken_is input split.taken (Some ys) t.consumes at_end))
 
 -- ---- of a script with the text of the profile
@@ -146,11 +146,11 @@ module _ {input : List ℕ} {events : List Event} {left : Option (List ℕ)} {sp
   bodies : (front rest more : List (List ℕ)) (text : List ℕ) (has : HasText One left split front text) → split.lines ≡ front ++ rest
       → lines_of input ≡ split.lines ++ more
       → x.body ++ x.lines ≡ has.body ++ (rest ++ more) → (has.body ≡ x.body) × (rest ++ more ≡ x.lines)
-  bodies front rest more text has run_state all tail = by x.whole has.whole
+  bodies front rest more text has parts all tail = by x.whole has.whole
     where
       none : IsUpToEnd left split front has.body → rest ++ more ≡ []
       none up =
-          let no_rest : rest ≡ [] = cancel front rest (sym run_state ∙ up.alone) in
+          let no_rest : rest ≡ [] = cancel front rest (sym parts ∙ up.alone) in
           let no_more : more ≡ [] = cancel split.lines more (sym all ∙ all_lines t up.all.nothing up.all.at_end) in
           ap (λ (ls : List (List ℕ)). ls ++ more) no_rest ∙ no_more
 
@@ -169,15 +169,15 @@ module _ {input : List ℕ} {events : List Event} {left : Option (List ℕ)} {sp
   text_found : (front rest more : List (List ℕ)) (text : List ℕ) (has : HasText One left split front text) → split.lines ≡ front ++ rest
       → lines_of input ≡ split.lines ++ more
       → (text ≡ x.text) × (rest ++ more ≡ x.lines)
-  text_found front rest more text has run_state all =
+  text_found front rest more text has parts all =
       let both : text_line ∷ (x.body ++ x.lines) ≡ has.header ∷ (has.body ++ (rest ++ more)) =
-      sym x.run_state ∙ all ∙ ap (λ (ls : List (List ℕ)). ls ++ more) (run_state ∙ ap (λ (ls : List (List ℕ)). ls ++ rest) has.run_state)
+      sym x.parts ∙ all ∙ ap (λ (ls : List (List ℕ)). ls ++ more) (parts ∙ ap (λ (ls : List (List ℕ)). ls ++ rest) has.parts)
       ∙ append_assoc (has.header ∷ has.body) rest more in
       let first : has.header ≡ text_line = cc in
       let tail : x.body ++ x.lines ≡ has.body ++ (rest ++ more) = cc in
-      let same = bodies front rest more text has run_state all tail in (
+      let same = bodies front rest more text has parts all tail in (
         has.octets
-            ∙ cut_same input left split has.header has.body rest t t.divides (run_state ∙ ap (λ (ls : List (List ℕ)). ls ++ rest) has.run_state)
+            ∙ cut_same input left split has.header has.body rest t t.divides (parts ∙ ap (λ (ls : List (List ℕ)). ls ++ rest) has.parts)
             ∙ ap (λ (h : List ℕ). take (length input - (length h + 1)) (joined has.body)) first
             ∙ ap (λ (b : List (List ℕ)). take (length input - (length text_line + 1)) (joined b)) same.0
             ∙ sym x.octets,
@@ -193,7 +193,7 @@ module _ {input : List ℕ} {events : List Event} {left : Option (List ℕ)} {sp
   not_named : (header : List ℕ) (version : Version) (others : List (List ℕ)) → lines_of input ≡ header ∷ others
       → header_of One header ≡ Ok (headers.Builtin version) → ⊥
   not_named header version others all is =
-      let both : text_line ∷ (x.body ++ x.lines) ≡ header ∷ others = sym x.run_state ∙ all in
+      let both : text_line ∷ (x.body ++ x.lines) ≡ header ∷ others = sym x.parts ∙ all in
       let first : text_line ≡ header = cc in
       let clash : Ok headers.Text ≡ Ok (headers.Builtin version) = ap (header_of One) first ∙ is in
       cc
@@ -201,9 +201,9 @@ module _ {input : List ℕ} {events : List Event} {left : Option (List ℕ)} {sp
   pub text_rest : (front lines more : List (List ℕ)) (found : GivenModule) → GivesModule One left split front found → split.lines ≡ front ++ lines
       → lines_of input ≡ split.lines ++ more
       → lines ++ more ≡ x.lines
-  text_rest front lines more (given.Text m) gives run_state all = (text_found front lines more gives.text gives.has run_state all).1
-  text_rest front lines more (given.Builtin version) gives run_state all =
-      absurd (not_named gives.header version (lines ++ more) (all ∙ ap (λ (ls : List (List ℕ)). ls ++ more) (run_state ∙ ap (λ (ls : List (List ℕ)). ls ++ lines) gives.run_state)) gives.is_header)
+  text_rest front lines more (given.Text m) gives parts all = (text_found front lines more gives.text gives.has parts all).1
+  text_rest front lines more (given.Builtin version) gives parts all =
+      absurd (not_named gives.header version (lines ++ more) (all ∙ ap (λ (ls : List (List ℕ)). ls ++ more) (parts ∙ ap (λ (ls : List (List ℕ)). ls ++ lines) gives.parts)) gives.is_header)
 
   text_reads : (text : List ℕ) (m : Syntax) (octets : ℕ) → HasText One left split split.lines text → Reads text octets m
       → (m ≡ x.m) × (octets ≡ x.is.octets)
@@ -213,11 +213,11 @@ module _ {input : List ℕ} {events : List Event} {left : Option (List ℕ)} {sp
 
   pub text_wrong : (place : ℕ) (reason : TextReason) → IsWrongModule One left split place reason → ⊥
   text_wrong place reason (Empty e word) =
-      let none : text_line ∷ (x.body ++ x.lines) ≡ [] = sym x.run_state ∙ all_lines t e.nothing e.at_end ∙ e.no_line in
+      let none : text_line ∷ (x.body ++ x.lines) ≡ [] = sym x.parts ∙ all_lines t e.nothing e.at_end ∙ e.no_line in
       cc
   text_wrong place reason (NoHeader e) =
       let next = next_of t e.next in
-      let same : text_line ∷ (x.body ++ x.lines) ≡ e.line ∷ next.more = sym x.run_state ∙ next.split ∙ ap (λ (ls : List (List ℕ)). ls ++ e.line ∷ next.more) e.none in
+      let same : text_line ∷ (x.body ++ x.lines) ≡ e.line ∷ next.more = sym x.parts ∙ next.split ∙ ap (λ (ls : List (List ℕ)). ls ++ e.line ∷ next.more) e.none in
       let first : text_line ≡ e.line = cc in
       let clash : Ok headers.Text ≡ Err reason = ap (header_of One) first ∙ e.wrong in
       cc
@@ -236,15 +236,15 @@ module _ {input : List ℕ} {events : List Event} {left : Option (List ℕ)} {sp
 module _ {input : List ℕ} {events : List Event} {left : Option (List ℕ)} {split : InputSplit} (n : NamesScript input events) (t : TakesOf input left split) where
   no_text : (header : List ℕ) (others : List (List ℕ)) → lines_of input ≡ header ∷ others → header_of One header ≡ Ok headers.Text → ⊥
   no_text header others all is =
-      let both : builtin_line One ∷ n.lines ≡ header ∷ others = sym n.run_state ∙ all in
+      let both : builtin_line One ∷ n.lines ≡ header ∷ others = sym n.parts ∙ all in
       let first : builtin_line One ≡ header = cc in
       let clash : Ok (headers.Builtin One) ≡ Ok headers.Text = ap (header_of One) first ∙ is in
       cc
 
   no_text_at : (front rest more : List (List ℕ)) (text : List ℕ) → HasText One left split front text → split.lines ≡ front ++ rest
       → lines_of input ≡ split.lines ++ more → ⊥
-  no_text_at front rest more text has run_state all =
-      no_text has.header (has.body ++ rest ++ more) (all ∙ ap (λ (ls : List (List ℕ)). ls ++ more) (run_state ∙ ap (λ (ls : List (List ℕ)). ls ++ rest) has.run_state)) has.is_header
+  no_text_at front rest more text has parts all =
+      no_text has.header (has.body ++ rest ++ more) (all ∙ ap (λ (ls : List (List ℕ)). ls ++ more) (parts ∙ ap (λ (ls : List (List ℕ)). ls ++ rest) has.parts)) has.is_header
 
   pub no_text_here : (text : List ℕ) → HasText One left split split.lines text → ⊥
   no_text_here text has =
@@ -254,18 +254,18 @@ module _ {input : List ℕ} {events : List Event} {left : Option (List ℕ)} {sp
   pub names_rest : (front lines more : List (List ℕ)) (found : GivenModule) → GivesModule One left split front found → split.lines ≡ front ++ lines
       → lines_of input ≡ split.lines ++ more
       → lines ++ more ≡ n.lines
-  names_rest front lines more (given.Text m) gives run_state all = absurd (no_text_at front lines more gives.text gives.has run_state all)
-  names_rest front lines more (given.Builtin version) gives run_state all =
-      let both : builtin_line One ∷ n.lines ≡ gives.header ∷ (lines ++ more) = sym n.run_state ∙ all ∙ ap (λ (ls : List (List ℕ)). ls ++ more) (run_state ∙ ap (λ (ls : List (List ℕ)). ls ++ lines) gives.run_state) in
+  names_rest front lines more (given.Text m) gives parts all = absurd (no_text_at front lines more gives.text gives.has parts all)
+  names_rest front lines more (given.Builtin version) gives parts all =
+      let both : builtin_line One ∷ n.lines ≡ gives.header ∷ (lines ++ more) = sym n.parts ∙ all ∙ ap (λ (ls : List (List ℕ)). ls ++ more) (parts ∙ ap (λ (ls : List (List ℕ)). ls ++ lines) gives.parts) in
       cc
 
   pub names_wrong : (place : ℕ) (reason : TextReason) → IsWrongModule One left split place reason → ⊥
   names_wrong place reason (Empty e word) =
-      let none : builtin_line One ∷ n.lines ≡ [] = sym n.run_state ∙ all_lines t e.nothing e.at_end ∙ e.no_line in
+      let none : builtin_line One ∷ n.lines ≡ [] = sym n.parts ∙ all_lines t e.nothing e.at_end ∙ e.no_line in
       cc
   names_wrong place reason (NoHeader e) =
       let next = next_of t e.next in
-      let same : builtin_line One ∷ n.lines ≡ e.line ∷ next.more = sym n.run_state ∙ next.split ∙ ap (λ (ls : List (List ℕ)). ls ++ e.line ∷ next.more) e.none in
+      let same : builtin_line One ∷ n.lines ≡ e.line ∷ next.more = sym n.parts ∙ next.split ∙ ap (λ (ls : List (List ℕ)). ls ++ e.line ∷ next.more) e.none in
       let first : builtin_line One ≡ e.line = cc in
       let clash : Ok (headers.Builtin One) ≡ Err reason = ap (header_of One) first ∙ e.wrong in
       cc

@@ -78,8 +78,8 @@ writes_none setting sink = subst (λ (text : List ℕ). WritesAll sink sink text
 
 some_line : (newest : Version) (left : Option (List ℕ)) (split : InputSplit) (front : List (List ℕ)) (found : GivenModule)
     → GivesModule newest left split front found → 0 < length front
-some_line newest left split front (given.Text m) h = omega (arith, ap length h.has.run_state)
-some_line newest left split front (given.Builtin version) h = omega (arith, ap length h.run_state)
+some_line newest left split front (given.Text m) h = omega (arith, ap length h.has.parts)
+some_line newest left split front (given.Builtin version) h = omega (arith, ap length h.parts)
 
 pub begins : {source0 source1 : SourceAt} {reading : Reading} (setting : Setting) (sink : SinkAt) (world : WorldAt)
     → HasProfile source0 source1 reading
@@ -118,7 +118,7 @@ module _ {setting : Setting} {first : OutsideAt} {old : RunAt} {count : ℕ} (s 
     front = s.front;
     lines = s.lines;
     found = s.found;
-    run_state = refl;
+    parts = refl;
     gives = s.later going left (input_split (s.taken ++ more) (s.front ++ s.lines) kept) more refl;
     profile = s.profile;
     are = s.script;
@@ -146,7 +146,7 @@ module _ {setting : Setting} {first : OutsideAt} {old : RunAt} {count : ℕ} (s 
       front = s.front;
       lines = s.lines ++ line.text ∷ [];
       found = s.found;
-      run_state = refl;
+      parts = refl;
       gives = gives_more;
       profile = s.profile;
       are = are;
@@ -221,7 +221,7 @@ ends_done {setting = setting} {first = first} {old = old} new s t =
       front = s.front;
       lines = s.lines;
       found = s.found;
-      run_state = refl;
+      parts = refl;
       gives = gives_at_end One (rest_of first.source old.source) (rest_of first.source new.source) (split_of old.reading s.taken (s.front ++ s.lines)) (input_split (s.taken ++ t.meets.taken) (s.front ++ s.lines) []) s.front s.found
           (ap (λ (bytes : List ℕ). s.taken ++ bytes) none.1 ∙ append-nil s.taken) refl all s.gives;
       profile = s.profile;
@@ -379,7 +379,7 @@ no_world {source0 = source0} {source1 = source1} {reading = reading} setting sin
         front = h.lines;
         lines = [];
         found = p.found;
-        run_state = sym (append-nil h.lines);
+        parts = sym (append-nil h.lines);
         gives = h.gives;
         profile = p.profile;
         are = refl;
@@ -478,7 +478,7 @@ by_apply {setting = setting} {first = first} {old = old} new line event end s m 
       last = event;
       lines = s.front ++ s.lines;
       line = line.text;
-      run_state = refl;
+      parts = refl;
       line_parts = sym (append_assoc s.front s.lines (line.text ∷ []));
       means = event_means line.text event is;
       goes = reached_goes s.reached;

@@ -38,8 +38,8 @@ module _ {setting : Setting} {input : List ℕ} {events : List Event} {left : Op
   rest_events others e more all = by w.script
     where
       by : NamesScript input events ⊎ TextScript input events → AreEvents (e.lines ++ more) events
-      by (inl n) = subst (λ (ls : List (List ℕ)). AreEvents ls events) (sym (names_rest n t e.front e.lines more e.found e.gives e.run_state all)) n.are
-      by (inr x) = subst (λ (ls : List (List ℕ)). AreEvents ls events) (sym (text_rest x t e.front e.lines more e.found e.gives e.run_state all)) x.are
+      by (inl n) = subst (λ (ls : List (List ℕ)). AreEvents ls events) (sym (names_rest n t e.front e.lines more e.found e.gives e.parts all)) n.are
+      by (inr x) = subst (λ (ls : List (List ℕ)). AreEvents ls events) (sym (text_rest x t e.front e.lines more e.found e.gives e.parts all)) x.are
 
   of_module : (place : ℕ) (reason : TextReason) → IsWrongModule One left split place reason → ⊥
   of_module place reason e = by w.script
@@ -83,7 +83,7 @@ module _ {setting : Setting} {input : List ℕ} {events : List Event} {left : Op
       let front = front_of others events (flat_map meanings more.0)
       (ap (λ (ms : List (Result Event TextReason)). ms ++ flat_map meanings more.0) (sym e.script.are) ∙ sym (flat_map-append meanings e.script.lines more.0)
       ∙ rest_events others e.script more.0 more.1) in
-      let clash : None ≡ Some why = sym w.goes ∙ ap (λ (es : List Event). (run_of setting es).stop) front.run_state ∙ stopped_on setting others front.rest why e.stops in
+      let clash : None ≡ Some why = sym w.goes ∙ ap (λ (es : List Event). (run_of setting es).stop) front.parts ∙ stopped_on setting others front.rest why e.stops in
       cc
 
 long_by : (setting : Setting) (input : List ℕ) (left : Option (List ℕ)) (events : List Event) (split : InputSplit) → IsWhole setting input events

@@ -49,7 +49,7 @@ pub record IsScript (left : Option (List ℕ)) (split : InputSplit) (events : Li
   pub front : List (List ℕ)
   pub lines : List (List ℕ)
   pub found : GivenModule
-  pub run_state : split.lines ≡ front ++ lines
+  pub parts : split.lines ≡ front ++ lines
   pub gives : GivesModule One left split front found
   pub profile : IsProfile found
   pub are : AreEvents lines events
@@ -106,7 +106,7 @@ pub record StopsInLast (setting : Setting) (left : Option (List ℕ)) (split : I
   pub last : Event
   pub lines : List (List ℕ)
   pub line : List ℕ
-  pub run_state : events ≡ earlier ++ last ∷ []
+  pub parts : events ≡ earlier ++ last ∷ []
   pub line_parts : split.lines ≡ lines ++ line ∷ []
   pub means : meanings line ≡ Ok last ∷ []
   pub goes : GoesOn setting earlier

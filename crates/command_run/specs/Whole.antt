@@ -20,7 +20,7 @@ use Rattle.command_run.specs.Run.{Setting, AreEvents, GoesOn, run_text, text_to}
 -- the lines of the input are the header `module builtin`, and then these events and skipped lines
 pub record NamesScript (input : List ℕ) (events : List Event) : Type 0 where
   pub lines : List (List ℕ)
-  pub run_state : lines_of input ≡ builtin_line One ∷ lines
+  pub parts : lines_of input ≡ builtin_line One ∷ lines
   pub are : AreEvents lines events
 
 abbrev pub text_line : List ℕ
@@ -33,7 +33,7 @@ pub record TextScript (input : List ℕ) (events : List Event) : Type 0 where
   pub lines : List (List ℕ)
   pub text : List ℕ
   pub m : Syntax
-  pub run_state : lines_of input ≡ text_line ∷ (body ++ lines)
+  pub parts : lines_of input ≡ text_line ∷ (body ++ lines)
   pub whole : IsClosed body ⊎ (IsUnclosed body × (lines ≡ []))
   pub octets : text ≡ take (length input - (length text_line + 1)) (joined body)
   pub is : IsOneModule text m

@@ -44,10 +44,19 @@ use Rattle.command_values.specs.declared.end.ValuesEnd.{ValuesEnd}
 use Rattle.command_values.specs.Ends.{values_status, StopsAtValue}
 use Rattle.command_values.specs.Values.{Job, job_of, ValuesMeet}
 use Rattle.command_values.specs.Whole.{AnswersWholly}
-use Rattle.scenario_cli.specs.declared.top.Form.TheVariants.{Run, Generate, Check, Profile, Um, Dup, Values, Other}
+use Rattle.message_codec_defs.specs.Codecs.{octets_of_message}
+use Rattle.command_verify.specs.declared.end.VerifyEnd.{VerifyEnd}
+use Rattle.command_verify.specs.declared.end.VerifyEnd.TheVariants as verdicts
+use Rattle.command_verify.specs.Ends.{verify_status, StopsAtVerdict}
+use Rattle.command_verify.specs.Verify.{VerifyMeets}
+use Rattle.command_verify.specs.Whole.{VerifiesWholly}
+use Rattle.command_verify.proofs.Judged.{no_room}
+use Rattle.command_verify.proofs.Reported as verified
+use Rattle.scenario_cli.specs.declared.top.Form.TheVariants.{Run, Generate, Check, Profile, Um, Dup, Values, Verify, Other}
 use Rattle.scenario_cli.specs.Gnb.{FormMeets, WritesProfile, ConvertsValues}
 use Rattle.scenario_cli.specs.inside.Timed.{IsTimed}
 use Rattle.scenario_cli.specs.inside.Over.{RunsOver}
+use Rattle.scenario_cli.specs.inside.Verified.{VerifiesAll}
 
 -- ---- with words that are no form
 
@@ -119,6 +128,8 @@ pub record Holds (setting : Setting) (form : Form) (before after : OutsideAt) (s
   pub legs : (config : DupConfig) → form ≡ Dup config → RunsDup config before after status
   pub near_leg_event : (config : DupConfig) → form ≡ Dup config → StopsAtEvent before.source after.source status
   pub checks : form ≡ Check → ChecksWholly before after status
+  pub verifies : form ≡ Verify → VerifiesWholly octets_of_message before after status
+  pub near_verdict : form ≡ Verify → StopsAtVerdict before.source after.source status
   pub writes : WritesProfile form before after status
 
 read_rose : {before after : SourceAt} {code : ℕ} → ReadsTo before after code → code ≡ 6 → Rose before.faults after.faults
@@ -148,6 +159,8 @@ run_holds setting before after status o =
       legs = λ config (e : Run ≡ Dup config). absurd (cc);
       near_leg_event = λ config (e : Run ≡ Dup config). absurd (cc);
       checks = λ (e : Run ≡ Check). absurd (cc);
+      verifies = λ (e : Run ≡ Verify). absurd (cc);
+      near_verdict = λ (e : Run ≡ Verify). absurd (cc);
       writes = tt;
     }
 
@@ -184,6 +197,8 @@ check_holds setting before after end meets near complete = record {
   legs = λ config (e : Check ≡ Dup config). absurd (cc);
   near_leg_event = λ config (e : Check ≡ Dup config). absurd (cc);
   checks = λ (e : Check ≡ Check). complete;
+  verifies = λ (e : Check ≡ Verify). absurd (cc);
+  near_verdict = λ (e : Check ≡ Verify). absurd (cc);
   writes = tt;
 }
 
@@ -204,6 +219,8 @@ usage_holds setting before after status u =
       legs = λ config (e : Other ≡ Dup config). absurd (cc);
       near_leg_event = λ config (e : Other ≡ Dup config). absurd (cc);
       checks = λ (e : Other ≡ Check). absurd (cc);
+      verifies = λ (e : Other ≡ Verify). absurd (cc);
+      near_verdict = λ (e : Other ≡ Verify). absurd (cc);
       writes = tt;
     }
 
@@ -250,6 +267,8 @@ profile_holds setting version before after status p complete =
       legs = λ config (e : Profile version ≡ Dup config). absurd (cc);
       near_leg_event = λ config (e : Profile version ≡ Dup config). absurd (cc);
       checks = λ (e : Profile version ≡ Check). absurd (cc);
+      verifies = λ (e : Profile version ≡ Verify). absurd (cc);
+      near_verdict = λ (e : Profile version ≡ Verify). absurd (cc);
       writes = complete;
     }
 
@@ -322,6 +341,8 @@ generate_holds setting packets before after status m wholly =
       legs = λ config (e : Generate packets ≡ Dup config). absurd (cc);
       near_leg_event = λ config (e : Generate packets ≡ Dup config). absurd (cc);
       checks = λ (e : Generate packets ≡ Check). absurd (cc);
+      verifies = λ (e : Generate packets ≡ Verify). absurd (cc);
+      near_verdict = λ (e : Generate packets ≡ Verify). absurd (cc);
       writes = tt;
     }
 
@@ -347,6 +368,8 @@ um_holds setting config before after end meets near complete = record {
   legs = λ other (e : Um config ≡ Dup other). absurd (cc);
   near_leg_event = λ other (e : Um config ≡ Dup other). absurd (cc);
   checks = λ (e : Um config ≡ Check). absurd (cc);
+  verifies = λ (e : Um config ≡ Verify). absurd (cc);
+  near_verdict = λ (e : Um config ≡ Verify). absurd (cc);
   writes = tt;
 }
 
@@ -372,8 +395,62 @@ dup_holds setting config before after end meets near complete = record {
   legs = λ other (e : Dup config ≡ Dup other). subst (λ (c : DupConfig). RunsDup c before after (script_status end)) (same_legs e) complete;
   near_leg_event = λ other (e : Dup config ≡ Dup other). near;
   checks = λ (e : Dup config ≡ Check). absurd (cc);
+  verifies = λ (e : Dup config ≡ Verify). absurd (cc);
+  near_verdict = λ (e : Dup config ≡ Verify). absurd (cc);
   writes = tt;
 }
+
+-- ---- with the word `verify`
+
+-- no verdict is a wrong line
+not_four : (end : VerifyEnd) → (verify_status end).code ≡ 4 → ⊥
+not_four (verdicts.Sound lines) e = omega arith
+not_four (verdicts.Unsound place rule) e = omega arith
+not_four (verdicts.Common (ReadFault taken)) e = omega arith
+not_four (verdicts.Common TooLong) e = omega arith
+not_four (verdicts.Common WriteFault) e = omega arith
+not_four (verdicts.Common Memory) e = omega arith
+
+-- a text that was judged, or out of memory before that
+judged : (before after : OutsideAt) (end : VerifyEnd) (status : Status) → status ≡ verify_status end
+    → VerifyMeets octets_of_message before after end → StopsAtVerdict before.source after.source (verify_status end)
+    → VerifiesWholly octets_of_message before after (verify_status end) → VerifiesAll before after status
+judged before after end status same meets near_it wholly =
+    subst (λ (s : Status). VerifiesAll before after s) (sym same)
+    (record { text = record { end = end; status_is = refl; meets = meets }; near = near_it; wholly = wholly })
+
+pub not_judged : (source : SourceAt) (sink : SinkAt) (status : Status) → status ≡ common_status Memory
+    → VerifiesAll (outside source sink) (outside source sink) status
+not_judged source sink status same =
+    let end : VerifyEnd = verdicts.Common Memory in
+    let meets = verified.unwritten octets_of_message end (no_room octets_of_message source) sink in
+    judged (outside source sink) (outside source sink) end status same meets
+    (verified.near octets_of_message (outside source sink) (outside source sink) end meets)
+    (verified.complete octets_of_message (outside source sink) (outside source sink) end meets)
+
+verify_holds : (setting : Setting) (before after : OutsideAt) (status : Status) → VerifiesAll before after status
+    → Holds setting Verify before after status
+verify_holds setting before after status v =
+    let calls : CallsTo before after status.code =
+    subst (λ (s : Status). CallsTo before after s.code) (sym v.text.status_is) v.text.meets.calls in
+    record {
+      headline = v.text;
+      read = read_rose calls.reads;
+      write = write_rose calls.writes;
+      calls = calls;
+      near = λ bytes known (stop : status.code ≡ 4). absurd (not_four v.text.end (sym (code_of v.text.status_is) ∙ stop));
+      complete = λ (e : Verify ≡ Run). absurd (cc);
+      near_step = λ (e : Verify ≡ Run). absurd (cc);
+      generates = λ packets (e : Verify ≡ Generate packets). absurd (cc);
+      bearer = λ config (e : Verify ≡ Um config). absurd (cc);
+      near_event = λ config (e : Verify ≡ Um config). absurd (cc);
+      legs = λ config (e : Verify ≡ Dup config). absurd (cc);
+      near_leg_event = λ config (e : Verify ≡ Dup config). absurd (cc);
+      checks = λ (e : Verify ≡ Check). absurd (cc);
+      verifies = λ (e : Verify ≡ Verify). v.wholly;
+      near_verdict = λ (e : Verify ≡ Verify). v.near;
+      writes = tt;
+    }
 
 -- ---- by the form of the words
 
@@ -399,6 +476,11 @@ pub checks_at : {before after : OutsideAt} (setting : Setting) (form found : For
     → Holds setting form before after status
 checks_at {before = before} {after = after} setting form found end status e f same meets near complete =
     holds_at setting form found Check status (check_status end) e f same (check_holds setting before after end meets near complete)
+
+pub verifies_at : {before after : OutsideAt} (setting : Setting) (form found : Form) (status : Status) → found ≡ form → found ≡ Verify
+    → VerifiesAll before after status → Holds setting form before after status
+verifies_at {before = before} {after = after} setting form found status e f v =
+    holds_at setting form found Verify status status e f refl (verify_holds setting before after status v)
 
 pub reports : {before after : OutsideAt} (setting : Setting) (form found : Form) (status : Status) → found ≡ form → found ≡ Other
     → UsageMeets before after status → Holds setting form before after status
@@ -449,6 +531,8 @@ values_holds setting way name before after end meets near = record {
   legs = λ config (e : Values way ≡ Dup config). absurd (cc);
   near_leg_event = λ config (e : Values way ≡ Dup config). absurd (cc);
   checks = λ (e : Values way ≡ Check). absurd (cc);
+  verifies = λ (e : Values way ≡ Verify). absurd (cc);
+  near_verdict = λ (e : Values way ≡ Verify). absurd (cc);
   writes = tt;
 }
 
@@ -499,6 +583,9 @@ dup_is_none config way e = cc
 
 pub generate_is_none : (packets : ℕ) → IsNone (Generate packets)
 generate_is_none packets way e = cc
+
+pub verify_is_none : IsNone Verify
+verify_is_none way e = cc
 
 pub other_is_none : IsNone Other
 other_is_none way e = cc

@@ -25,6 +25,10 @@ use Rattle.command_values.specs.declared.way.Way.TheVariants.{Encode, Decode}
 use Rattle.command_values.specs.declared.end.ValuesEnd.{ValuesEnd}
 use Rattle.command_values.specs.Ends.{values_status}
 use Rattle.command_values.specs.Values.{Job, job_of, ValuesMeet}
+use Rattle.message_codec_defs.specs.Codecs.{octets_of_message}
+use Rattle.command_verify.specs.declared.end.VerifyEnd.{VerifyEnd}
+use Rattle.command_verify.specs.Ends.{verify_status}
+use Rattle.command_verify.specs.Verify.{VerifyMeets}
 use Rattle.scenario_cli.specs.declared.top.Form.{Form}
 use Rattle.scenario_cli.specs.declared.top.Form.TheVariants as forms
 
@@ -33,7 +37,8 @@ abbrev pub form_of_one : List ℕ → Form
 form_of_one word =
     if bytes_eq word (codes "run") then forms.Run else (
     if bytes_eq word (codes "check") then forms.Check else (
-    if bytes_eq word (codes "profile") then forms.Profile One else forms.Other))
+    if bytes_eq word (codes "profile") then forms.Profile One else (
+    if bytes_eq word (codes "verify") then forms.Verify else forms.Other)))
 
 -- the two words after `um`: 12 or 18 bits of a sequence number, and 1 to 1000 ticks of the timer
 abbrev pub um_form_with : Option SnBits → Option ℕ → Form
@@ -107,6 +112,12 @@ pub record RunsLegs (config : DupConfig) (before after : OutsideAt) (status : St
   pub status_is : status ≡ script_status end
   pub meets : DupMeets config before after end
 
+-- with the word `verify`: control messages are spelled by the profile
+pub record VerifiesText (before after : OutsideAt) (status : Status) : Type 0 where
+  pub end : VerifyEnd
+  pub status_is : status ≡ verify_status end
+  pub meets : VerifyMeets octets_of_message before after end
+
 -- with the word `encode` or `decode`
 pub record ConvertsValues (job : Job) (before after : OutsideAt) (status : Status) : Type 0 where
   pub end : ValuesEnd
@@ -121,6 +132,7 @@ FormMeets setting (forms.Profile version) before after status = ProfileMeets ver
 FormMeets setting (forms.Um config) before after status = RunsBearer config before after status
 FormMeets setting (forms.Dup config) before after status = RunsLegs config before after status
 FormMeets setting (forms.Values way) before after status = (name : List ℕ) × ConvertsValues (job_of way name) before after status
+FormMeets setting forms.Verify before after status = VerifiesText before after status
 FormMeets setting forms.Other before after status = UsageMeets before after status
 
 -- with the word `profile` all of the text is written, where no write fails
@@ -132,4 +144,5 @@ WritesProfile forms.Check before after status = Unit {0}
 WritesProfile (forms.Um config) before after status = Unit {0}
 WritesProfile (forms.Dup config) before after status = Unit {0}
 WritesProfile (forms.Values way) before after status = Unit {0}
+WritesProfile forms.Verify before after status = Unit {0}
 WritesProfile forms.Other before after status = Unit {0}

@@ -1,3 +1,4 @@
 -- Internal.
 pub mod Timed
 pub mod Over
+pub mod Verified

@@ -1,10 +1,8 @@
 //! The program: runs a script of events over the units of a split base station, or of one
-//! unacknowledged bearer, or of one bearer with duplication, and prints every message, packet and delivery; or checks an ASN.1 module,
-//! or encodes and decodes values of its types.
+//! unacknowledged bearer, or of one bearer with duplication, and prints every message, packet and delivery; or judges what was printed;
+//! or checks an ASN.1 module, or encodes and decodes values of its types.
 #![tactic(auto)]
 
-mod awaited;
-mod plain_words;
 pub mod product;
 mod tail;
 pub mod top;

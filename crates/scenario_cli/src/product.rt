@@ -20,7 +20,9 @@ ghost use Rattle.command_values.specs.declared.way.Way.{Way as Direction};
 ghost use Rattle.command_values.specs.Ends.{StopsAtValue};
 ghost use Rattle.command_values.specs.Values.{job_of};
 ghost use Rattle.command_values.specs.Whole.{AnswersWholly};
-ghost use Rattle.message_codec_defs.specs.Codecs.{profile_codec};
+ghost use Rattle.command_verify.specs.Ends.{StopsAtVerdict};
+ghost use Rattle.command_verify.specs.Whole.{VerifiesWholly};
+ghost use Rattle.message_codec_defs.specs.Codecs.{octets_of_message, profile_codec};
 ghost use Rattle.run_defs.specs.UnitRuns.{tables};
 ghost use Rattle.scenario_cli.specs.declared.top.Form.TheVariants as forms;
 ghost use Rattle.scenario_cli.specs.Gnb.{form_of as form_of_words, type_of, FormMeets, WritesProfile, ConvertsValues};
@@ -98,6 +100,13 @@ pub fn base_station<S: Source, K: Sink>(
     ensures checks { form_of_words (map string_bytes words.now) ≡ forms.Check
         → ChecksWholly (outside (S.at input.old) (K.at output.old))
         (outside (S.at input.new) (K.at output.new)) result }
+
+    // The lines of a whole input are judged, likewise, and a stop at one is near it too.
+    ensures verifies { form_of_words (map string_bytes words.now) ≡ forms.Verify
+        → VerifiesWholly octets_of_message (outside (S.at input.old) (K.at output.old))
+        (outside (S.at input.new) (K.at output.new)) result }
+    ensures near_verdict { form_of_words (map string_bytes words.now) ≡ forms.Verify
+        → StopsAtVerdict (S.at input.old) (S.at input.new) result }
 
     // All of the profile's text is written, where no write fails.
     ensures writes { WritesProfile (form_of_words (map string_bytes words.now))

@@ -5,7 +5,7 @@ ghost use Rattle.std.specs.String.{string_bytes};
 ghost use Rattle.gnb_base.specs.Outside.{Rose};
 ghost use Rattle.command_defs.specs.Ends.{StopsAtLine, UsageMeets};
 ghost use Rattle.command_defs.specs.Outside.{outside, CallsTo};
-ghost use Rattle.message_codec_defs.specs.Codecs.{profile_codec};
+ghost use Rattle.message_codec_defs.specs.Codecs.{octets_of_message, profile_codec};
 ghost use Rattle.command_run.specs.Ends.{StopsAtEvent as StopsAtStep};
 ghost use Rattle.command_run.specs.Run.{setting_of, run_of};
 ghost use Rattle.command_run.specs.Whole.{RunsWholly};
@@ -21,9 +21,12 @@ ghost use Rattle.command_values.specs.declared.way.Way.{Way as Direction};
 ghost use Rattle.command_values.specs.Ends.{StopsAtValue};
 ghost use Rattle.command_values.specs.Values.{job_of};
 ghost use Rattle.command_values.specs.Whole.{AnswersWholly};
+ghost use Rattle.command_verify.specs.Ends.{StopsAtVerdict};
+ghost use Rattle.command_verify.specs.Whole.{VerifiesWholly};
 ghost use Rattle.scenario_cli.specs.Gnb.{form_of_one, um_form as um_form_of, dup_form as dup_form_of, generate_form as generate_form_of, values_form as values_form_of, type_of, form_of as form_of_words, FormMeets, WritesProfile, ConvertsValues};
 ghost use Rattle.scenario_cli.specs.inside.Timed.{IsTimed};
 ghost use Rattle.scenario_cli.specs.inside.Over.{RunsOver};
+ghost use Rattle.scenario_cli.specs.inside.Verified.{VerifiesAll};
 
 use command_bearers::command_dup::{DupConfig, run_duplicate};
 use command_bearers::command_um::{UmConfig, run_um};
@@ -31,11 +34,13 @@ use command_defs::{CommonEnd, Status};
 use command_run::generate::run_generated;
 use command_run::run_script;
 use command_values::{Way, run_values};
+use command_verify::verify;
 use commands::command_check::check_input;
 use commands::command_output::{common_status, stop_line, write_lines};
 use commands::command_profile::write_profile;
 use gnb_base::outside::{Sink, Source};
 use message_codec::ProfileCodec;
+use message_spellings::ProfileSpellings;
 use profile::Version;
 use scenario_text::script_words::forms::{number, sn_bits};
 use std::alloc::Global;
@@ -69,6 +74,8 @@ pub enum Form {
     Dup(DupConfig),
     /// Values of a type are encoded or decoded.
     Values(Way),
+    /// A transcript is judged.
+    Verify,
     /// The words are no form.
     Other,
 }
@@ -83,6 +90,8 @@ fn form_of_word(word: &str) -> Form
         Form::Check
     } else if word == "profile" {
         Form::Profile(Version::One)
+    } else if word == "verify" {
+        Form::Verify
     } else {
         Form::Other
     }
@@ -226,6 +235,20 @@ fn generate_over<S: Source, K: Sink, U: Units<ProfileCodec> + Drop>(
     }
 }
 
+/// Judges a transcript, whose control messages are spelled by the profile.
+fn verify_text<S: Source, K: Sink>(alloc: Global, input: &mut S, output: &mut K) -> Status
+    ensures { VerifiesAll (outside (S.at input.old) (K.at output.old))
+        (outside (S.at input.new) (K.at output.new)) result }
+{
+    match ProfileCodec::new(alloc) {
+        Ok(codec) => {
+            let spells = ProfileSpellings::of(codec);
+            verify(alloc, &spells, input, output).status()
+        }
+        Err(_) => common_status(CommonEnd::Memory),
+    }
+}
+
 /// The program, with its words, its input, its output, and the units of `run` and `generate`.
 pub fn gnb<S: Source, K: Sink, U: Units<ProfileCodec> + Drop>(
     alloc: Global,
@@ -294,6 +317,13 @@ pub fn gnb<S: Source, K: Sink, U: Units<ProfileCodec> + Drop>(
         → ChecksWholly (outside (S.at input.old) (K.at output.old))
         (outside (S.at input.new) (K.at output.new)) result }
 
+    // The lines of a whole input are judged, likewise, and a stop at one is near it too.
+    ensures verifies { form_of_words (map string_bytes words.now) ≡ Form.Verify
+        → VerifiesWholly octets_of_message (outside (S.at input.old) (K.at output.old))
+        (outside (S.at input.new) (K.at output.new)) result }
+    ensures near_verdict { form_of_words (map string_bytes words.now) ≡ Form.Verify
+        → StopsAtVerdict (S.at input.old) (S.at input.new) result }
+
     // All of the profile's text is written, where no write fails.
     ensures writes { WritesProfile (form_of_words (map string_bytes words.now))
         (outside (S.at input.old) (K.at output.old))
@@ -307,6 +337,7 @@ pub fn gnb<S: Source, K: Sink, U: Units<ProfileCodec> + Drop>(
         Form::Um(config) => run_um(alloc, config, input, output).status(),
         Form::Dup(config) => run_duplicate(alloc, config, input, output).status(),
         Form::Values(way) => run_values(alloc, way, type_name(words), input, output).status(),
+        Form::Verify => verify_text(alloc, input, output),
         Form::Other => report_usage(alloc, input, output),
     }
 }

@@ -11,4 +11,5 @@ IsTimed (forms.Generate packets) = packets ≤ 100000
 IsTimed forms.Run = Unit {0}
 IsTimed forms.Check = Unit {0}
 IsTimed (forms.Profile version) = Unit {0}
+IsTimed forms.Verify = Unit {0}
 IsTimed forms.Other = Unit {0}

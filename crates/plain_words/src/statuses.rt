@@ -1,14 +1,14 @@
-//! What a status says, in plain words on standard error: the place, what was awaited there, and
-//! what was read. Neither standard output nor the exit status depends on it.
+//! What a status says: the place, what was awaited there, and what was read.
 
 use crate::awaited::{Fault, fault_of};
+use crate::unsound::say_unsound;
 use command_defs::Status;
 use scenario_text::script_words::forms::cut;
 use std::alloc::Global;
 use std::io;
 
 /// The forms of the program's words.
-const FORMS: [&str; 10] = [
+const FORMS: [&str; 11] = [
     "gnb run < SCRIPT",
     "gnb generate N                     N from 1 to 100000",
     "gnb check < MODULE",
@@ -16,6 +16,7 @@ const FORMS: [&str; 10] = [
     "gnb decode TYPE < VALUES",
     "gnb profile",
     "gnb profile 2",
+    "gnb verify < TRANSCRIPT",
     "gnb um N T < SCRIPT                N 12 or 18, T from 1 to 1000",
     "gnb duplicate N Q < SCRIPT         N 12 or 18, Q from 4 to 4096",
     "numbers are plain decimal, without a sign or a leading zero",
@@ -35,7 +36,7 @@ pub struct Call<'a> {
 const SHOWN: usize = 60;
 
 /// A text as it may be shown: printable ASCII, and not too long.
-fn shown(text: &[u8]) -> &str {
+pub(crate) fn shown(text: &[u8]) -> &str {
     if text.len() > SHOWN {
         return "(a long text)";
     }
@@ -49,7 +50,7 @@ fn shown(text: &[u8]) -> &str {
 }
 
 /// What a reader may have overlooked in a line.
-fn hint(line: &[u8]) -> &'static str {
+pub(crate) fn hint(line: &[u8]) -> &'static str {
     if line.starts_with(b"\xEF\xBB\xBF") {
         "; the line begins with a byte order mark"
     } else if line.ends_with(b"\r") {
@@ -185,7 +186,7 @@ fn say_usage(rt: &impl Eprint, words: &[String]) -> io::Result<()> {
 }
 
 /// Says of a line's first wrong word what was awaited in its place.
-fn say_fault(rt: &impl Eprint, place: u64, fault: Fault, line: &[u8]) -> io::Result<()> {
+pub(crate) fn say_fault(rt: &impl Eprint, place: u64, fault: Fault, line: &[u8]) -> io::Result<()> {
     let Fault {
         number,
         awaited,
@@ -297,6 +298,7 @@ pub fn explain(rt: &impl Eprint, call: &Call, status: Status) -> io::Result<()> 
             eprintln!(rt; "gnb: at line {place} a counter would pass its last value: {name}")
         }
         11 => eprintln!(rt; "gnb: the input is longer than 16,777,216 bytes"),
+        12 => say_unsound(rt, call, place, reason),
         _ => Ok(()),
     }
 }

@@ -53,6 +53,32 @@ const DUPLICATE_FORMS: [&[u8]; 8] = [
     b"ask",
 ];
 
+/// A transcript's lines, but for that of an event.
+const LINE_FORMS: [&[u8]; 22] = [
+    b"put NODE/TEID uU bB DIR COUNT OCTETS",
+    b"put RADIO uU bB DIR COUNT OCTETS",
+    b"put #M NODE NODE OWNER OCTETS",
+    b"got NODE/TEID uU bB DIR COUNT OCTETS",
+    b"got RADIO uU bB DIR COUNT OCTETS",
+    b"got #M NODE NODE OWNER OCTETS",
+    b"lost NODE/TEID NUMBER",
+    b"lost RADIO NUMBER",
+    b"lost #M NUMBER",
+    b"held NODE/TEID REASON",
+    b"held RADIO REASON",
+    b"deliver uU bB DIR NUMBER OCTETS",
+    b"drop NODE REASON",
+    b"failed NODE uU REASON",
+    b"quiet uU bB NUMBER NUMBER",
+    b"busy uU bB",
+    b"settled NUMBER",
+    b"unsettled NUMBER",
+    b"refused REASON",
+    b"outstanding uU bB DIR NUMBER NUMBER",
+    b"end NUMBER",
+    b"stop NUMBER NUMBER NUMBER",
+];
+
 /// What is wrong with a line: the number of the word, what was awaited there, the word, where there
 /// is one, and whether the line was to end there.
 #[derive(Clone, Copy)]
@@ -95,6 +121,12 @@ fn meaning(place: &[u8]) -> &'static str {
         b"NODE/TEID" => "a tunnel, as A.up1/1,",
         b"LEG" => "a leg, 1 or 2,",
         b"MODE" => "a mode, both, 1 or 2,",
+        b"RADIO" => "a radio, as r/u1/b1/dl/1,",
+        b"COUNT" => "a COUNT, or -,",
+        b"OWNER" => "a terminal, u0 to u16,",
+        b"OCTETS" => "an even number of hexadecimal digits in upper case",
+        b"NUMBER" => "a number",
+        b"REASON" => "a reason",
         _ => "another word",
     }
 }
@@ -115,6 +147,12 @@ fn fits(place: &[u8], word: &[u8]) -> bool {
         b"NODE" => forms::node(word).is_some(),
         b"NODE/TEID" => forms::tunnel(word).is_ok(),
         b"MODE" => word == b"both".as_slice() || forms::number(word, 1, 2).is_some(),
+        b"RADIO" => word.starts_with(b"r/"),
+        b"COUNT" => word == b"-".as_slice() || is_number(word),
+        b"OWNER" => word == b"u0".as_slice() || forms::ue(word).is_some(),
+        b"OCTETS" => is_hex(word) && !word.iter().any(|byte| byte.is_ascii_lowercase()),
+        b"NUMBER" => is_number(word),
+        b"REASON" => !word.is_empty(),
         _ => word == place,
     }
 }
@@ -124,7 +162,28 @@ fn is_hex(word: &[u8]) -> bool {
     !word.is_empty() && word.len() % 2 == 0 && word.iter().all(|byte| byte.is_ascii_hexdigit())
 }
 
-/// Whether a line is to be read in this form: its first word, and of `lose` and `inject` the second one's kind.
+/// Whether a word is decimal digits alone.
+fn is_number(word: &[u8]) -> bool {
+    !word.is_empty() && word.iter().all(|byte| byte.is_ascii_digit())
+}
+
+/// Whether a link or message is of the kind that a form has: a radio, a message, or else a tunnel.
+fn is_of_kind(place: &[u8], word: &[u8]) -> bool {
+    if word.starts_with(b"#") {
+        place == b"#M".as_slice()
+    } else if word.starts_with(b"r/") {
+        place == b"RADIO".as_slice()
+    } else {
+        place == b"NODE/TEID".as_slice()
+    }
+}
+
+/// Whether lines that begin with this word differ by the kind of the second.
+fn has_kinds(word: &[u8]) -> bool {
+    matches!(word, b"put" | b"got" | b"lost" | b"held")
+}
+
+/// Whether a line is to be read in this form: its first word, and where several forms begin so the second one's kind.
 fn is_form(form: &[u8], line: &[u8]) -> bool {
     let (keyword, places) = forms::cut(form, b' ');
     let (word, left) = forms::cut(line, b' ');
@@ -142,6 +201,8 @@ fn is_form(form: &[u8], line: &[u8]) -> bool {
         second.starts_with(b"#") == (first_place == b"#M".as_slice())
     } else if word == b"inject".as_slice() {
         has(second, b'/') == has(first_place, b'/')
+    } else if has_kinds(word) {
+        is_of_kind(first_place, second)
     } else {
         true
     }
@@ -198,6 +259,36 @@ pub fn fault_of<'a>(command: &str, line: &'a [u8]) -> Option<Fault<'a>> {
     Some(Fault {
         number: 1,
         awaited: "an event",
+        word: Some(word),
+        is_end: false,
+    })
+}
+
+/// The first wrong word of a line of a transcript; none where each word may stand at its place.
+pub fn fault_in_transcript(line: &[u8]) -> Option<Fault<'_>> {
+    if let Some(event) = line.strip_prefix(b"> ") {
+        let Fault {
+            number,
+            awaited,
+            word,
+            is_end,
+        } = fault_of("run", event)?;
+        return Some(Fault {
+            number: number.saturating_add(1),
+            awaited,
+            word,
+            is_end,
+        });
+    }
+    for form in LINE_FORMS {
+        if is_form(form, line) {
+            return fault_in(form, line);
+        }
+    }
+    let (word, _) = forms::cut(line, b' ');
+    Some(Fault {
+        number: 1,
+        awaited: "a line of a transcript, as '> tick' or 'end 0',",
         word: Some(word),
         is_end: false,
     })
