@@ -23,7 +23,7 @@ BAD_MODULE = "module text\nM DEFINITIONS AUTOMATIC TAGS ::= BEGIN\nT ::= Nothing
 
 A_LINE = "awaited a line of a transcript, as '> tick' or 'end 0', as word 1"
 NOT_PRINTABLE = "'(a text with other characters than printable ASCII)'"
-AT_ITS_PLACE = "the first line is that of an event, 'end' or 'stop'; nothing follows 'end' and 'stop', 'stop' alone follows 'outstanding', and 'end' has the number of events"
+AT_ITS_PLACE = "the first line is that of an event, 'end' or 'stop'; nothing follows 'end' and 'stop', 'stop' alone follows 'outstanding', 'end' has the number of events, and hexadecimal digits are in upper case"
 ON_ITS_LINK = "what is got or lost stands on its link, the oldest first, and control messages are numbered 1, 2, 3 and so on"
 
 # ---- what each word is given, and what is said of it
