@@ -228,6 +228,8 @@ def main():
         print(f"{given.count} mutants are left out\n{other_reading.NOT_COMPARED}")
         return 0
     program.prepare()
+    # the sources are looked at once, and not at each call that a random script is made with
+    other_reading.PROGRAM = program.command()
     if not program.has_word("verify"):
         print("not looked at: the program has no word 'verify'")
         return 1
