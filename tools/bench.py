@@ -10,6 +10,9 @@ where it is installed.
 | `generate` | its number |
 | `encode` | values of a module of plain types, as JSON |
 | `decode` | the same values, as octets |
+| `verify` | packets, as in the first row, whose transcript is judged |
+| `verify`, control | control messages that are put: those of `start` are given again and again, and each is answered |
+| `verify`, both | packets, before which five times as many control messages are put: half of the bytes each |
 
 The other reading is measured on fewer (a row says on how many), and told as how many times as fast the program is on these; where it prints something else this is said. Of Erlang the
 calls alone are measured: it reads no JSON and prints nothing. A word that the program doesn't have is said so.
@@ -110,12 +113,17 @@ def written(path, lines):
     return path
 
 
-def packets(size, folder, _):
-    """A script of so many packets, each taken to the terminal and confirmed to the CU-UP."""
-    lines = ["module builtin", "static u1 A 1 1 12 1 4096"]
+def of_packets(size):
+    """The events of so many packets, each taken to the terminal and confirmed to the CU-UP."""
+    events = ["static u1 A 1 1 12 1 4096"]
     for number in range(size):
-        lines += [f"offer u1 b1 dl {number:08X}", "get A.up1/1", "get A.du1/1", "air u1 b1 dl", "ack u1 b1 dl", "get A.up1/2"]
-    return Call(["run"], written(folder / "packets", lines))
+        events += [f"offer u1 b1 dl {number:08X}", "get A.up1/1", "get A.du1/1", "air u1 b1 dl", "ack u1 b1 dl", "get A.up1/2"]
+    return events
+
+
+def packets(size, folder, _):
+    """A script of so many packets."""
+    return Call(["run"], written(folder / "packets", ["module builtin", *of_packets(size)]))
 
 
 def messages(size, folder, _):
@@ -147,6 +155,32 @@ def octets(size, folder, program):
     return Call(["decode", "T"], written(folder / "octets", ["module text", MODULE.strip(), *taken.read_text().splitlines()]))
 
 
+def answered(size):
+    """Events in which so many control messages are put: the first ones are given again and again, and each is answered."""
+    return ["start", *(f"give #{1 + number % STARTED}" for number in range(size - STARTED))]
+
+
+def transcript(events, folder, program):
+    """The transcript that the program prints of these events, to be judged."""
+    taken = folder / "judged"
+    status, _, _ = measure([*program, "run"], written(folder / "events", ["module builtin", *events]), taken)
+    if status:
+        raise Unmeasured("needs run, which isn't a word of it" if status == USAGE else f"run ended with status {status}")
+    return Call(["verify"], taken)
+
+
+def judged_packets(size, folder, program):
+    return transcript(of_packets(size), folder, program)
+
+
+def judged_messages(size, folder, program):
+    return transcript(answered(size), folder, program)
+
+
+def judged_both(size, folder, program):
+    return transcript([*answered(max(5 * size, STARTED)), *of_packets(size)], folder, program)
+
+
 # scripts and inputs of the larger sizes are just below 16 MiB
 ROWS = (
     Row("run", "packets", 180_000, packets),
@@ -154,6 +188,9 @@ ROWS = (
     Row("generate", "packets", 100_000, generated),
     Row("encode", "values", 100_000, values),
     Row("decode", "values", 100_000, octets),
+    Row("verify", "packets", 26_000, judged_packets),
+    Row("verify, control", "messages", 125_000, judged_messages),
+    Row("verify, both", "packets", 13_000, judged_both),
 )
 
 # ---- measurements

@@ -39,6 +39,9 @@ ROWS = [
     *[rf"\| generate \| {size} packets \| ended with status 4 \|{EMPTY}" for size in (10, 20)],
     *[rf"\| encode \| {size} values \| isn't a word of it \|{EMPTY}" for size in (10, 20)],
     *[rf"\| decode \| {size} values \| needs encode, which isn't a word of it \|{EMPTY}" for size in (10, 20)],
+    *[rf"\| verify \| {size} packets \| isn't a word of it \|{EMPTY}" for size in (8, 16)],
+    *[rf"\| verify, control \| {size} messages \| isn't a word of it \|{EMPTY}" for size in (12, 25)],
+    *[rf"\| verify, both \| {size} packets \| isn't a word of it \|{EMPTY}" for size in (8, 16)],
 ]
 
 

@@ -2,7 +2,8 @@
 """Gives the program its input through a pipe, line by line, and reads the answer to each line before the next one is given: an answer that waits for more input never comes.
 
 Each example of `run`, `um`, `duplicate`, `encode` and `decode` is given so, and some inputs more. What is awaited is what the same input gives as a whole. An answer is, of a script's event,
-its own line (`> EVENT`) and the lines below it; of a line of `encode` or `decode`, a line. A last line `end ..` or `stop ..` comes with the end of the input, or of the run.
+its own line (`> EVENT`) and the lines below it; of a line of `encode` or `decode`, a line. A last line `end ..` or `stop ..` comes with the end of the input, or of the run. `verify` answers once, at the
+first line that breaks a rule, or at the end.
 
 Usage: tools/pipe_check.py
 """
@@ -121,6 +122,17 @@ def test_examples():
 def test_more_inputs():
     for words, given in MORE:
         drive(words, given.encode())
+
+
+def test_a_verdict_comes_at_its_line():
+    """Of a transcript whose twelfth line breaks a rule, no more than this line is given."""
+    lines = (stories.EXAMPLES / "first-packet-unsound.verify").read_bytes().splitlines(keepends=True)
+    verdict, piped = (stories.EXAMPLES / "first-packet-unsound.out").read_bytes(), Piped(["verify"])
+    for line in lines[:12]:
+        piped.give(line)
+    came = piped.read(len(verdict), SECONDS)
+    piped.kill()
+    assert came == verdict, came
 
 
 def test_an_answer_that_waits_is_noticed():

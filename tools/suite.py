@@ -1,13 +1,14 @@
 #!/usr/bin/env python3
 """Runs each case of a folder and of the folders in it, and judges what the program prints.
 
-A case is a file by its ending: NAME.script is an input of `run`, NAME.check of `check`, NAME.um and NAME.dup of the call in their first line after `; gnb`,
+A case is a file by its ending: NAME.script is an input of `run`, NAME.check of `check`, NAME.verify of `verify`, NAME.um and NAME.dup of the call in their first line after `; gnb`,
 NAME.TYPE.encode and NAME.TYPE.decode of `encode TYPE` and `decode TYPE`; NAME.words has the words of a call that reads nothing. Where NAME.out stands beside it, what is
 printed is that transcript. In a script of `run`, `um` or `duplicate` a line `;= LINE` is a line that the event above it prints, and `;! LINE` one that it doesn't
 print; `*` stands for octets, `?` for the characters of a word. Several `;=` of one event come in their order. docs/scripts.md shows how to write them.
 
 The verdict of a case is pass, fail, or none where nothing is expected of it. The status of the call is that of its last line: it is `stop STATUS ..`, or the status is 0.
-Standard error has a line that begins with `gnb: ` where the status isn't 0, and no other lines than such where it is.
+Standard error has a line that begins with `gnb: ` where the status isn't 0, and no other lines than such where it is. Where the program has the word `verify`, what a script of `run` prints is
+sound; but a run without its last line, after a write that failed or out of memory, isn't judged so, nor is what is printed of another module than the profile's.
 
 The status of the tool is 0 where no case fails, 1 where one fails, 2 where an input is wrong. Nothing here is proved.
 
@@ -25,12 +26,14 @@ import patterns
 import program
 import transcripts
 
-WORDS = {".script": "run", ".check": "check"}
+WORDS = {".script": "run", ".check": "check", ".verify": "verify"}
 WITH_WORDS = (".um", ".dup")
 OF_TYPES = (".encode", ".decode")
 ENDINGS = (*WORDS, *WITH_WORDS, *OF_TYPES, ".words")
 SECONDS = 120
 SHOWN = 4
+# what is printed then is no whole transcript: another module, a write that failed, out of memory
+UNJUDGED = (3, 7, 9)
 
 
 class WrongCase(Exception):
@@ -225,12 +228,16 @@ def of_call(ran):
     return problems
 
 
-def of_soundness(words, ran):
-    """What `verify` says of a transcript of `run` that was printed to its end."""
-    if words != ["run"] or ran.returncode:
+def of_soundness(words, ran, seconds):
+    """What `verify` says of a transcript of `run` that has its last line."""
+    if words != ["run"] or ran.returncode in UNJUDGED:
         return []
-    checked = program.call(["verify"], ran.stdout)
-    return [f"the transcript isn't sound: '{checked.stdout.decode('latin-1').splitlines()[0]}'"] if checked.returncode else []
+    checked = program.call(["verify"], ran.stdout, seconds)
+    lines = len(ran.stdout.splitlines())
+    if (checked.returncode, checked.stdout) == (0, f"sound {lines}\n".encode()):
+        return []
+    said = checked.stdout.decode("latin-1").splitlines()
+    return [f"the transcript isn't sound: '{said[0]}'" if said else f"the transcript of {lines} lines wasn't judged: status {checked.returncode}"]
 
 
 def read_case(path):
@@ -255,7 +262,7 @@ def judge(path, seconds=SECONDS, verifies=False):
     is_judged = transcript.exists() or any(event.remarks for event in events)
     if is_judged:
         problems += [f"{path}: {what}" for what in of_call(ran)]
-    problems += [f"{path}: {what}" for what in of_soundness(words, ran)] if verifies else []
+    problems += [f"{path}: {what}" for what in of_soundness(words, ran, seconds)] if verifies else []
     return Verdict(path, "fail" if problems else "pass" if is_judged else "none", problems, taken)
 
 

@@ -28,13 +28,18 @@ while ";wait" in text:
     time.sleep(1)
 sys.exit(int((re.findall("^;status (.*)$", text, re.M) or ["0"])[0]))
 """
+# says of a transcript with `quiet` that it isn't sound, of one with `busy` nothing; a script has what is printed and the status between bars
 VERIFIES = """
 import sys
+text = sys.stdin.read()
 if sys.argv[1:] == ["verify"]:
-    text = sys.stdin.read()
-    print("unsound 2 5" if "quiet" in text else "sound 1")
-    sys.exit(12 if "quiet" in text else 0)
-print(sys.stdin.read().split("|")[1] if sys.argv[1:] == ["run"] else "")
+    if "busy" not in text:
+        print("unsound 2 5" if "quiet" in text else f"sound {len(text.splitlines())}")
+    sys.exit(12 if "quiet" in text else 11 if "busy" in text else 0)
+_, printed, status, *_ = (text + "|||").split("|")
+print(printed, file=sys.stdout)
+print("gnb: so", file=sys.stderr)
+sys.exit(int(status or 0))
 """
 HEAD = "module builtin\n"
 # a script; its verdict, and what is told of it
@@ -84,7 +89,7 @@ WRONG = {
     "j.um": ("; gnb um 12 2\nask\n;! busy u1 b1\n", ":3: awaited one of put, got, deliver, drop, held, lost, waiting, refused, outstanding, end, stop as word 1, and it is 'busy'"),
     "k.decode": (HEAD, ": awaited a name with a type, as NAME.TYPE.decode"),
     "l.out": ("end 0\n", ": no case is beside this transcript"),
-    "m.text": ("", ": awaited a folder, or a file that ends with .script, .check, .um, .dup, .encode, .decode, .words"),
+    "m.text": ("", ": awaited a folder, or a file that ends with .script, .check, .verify, .um, .dup, .encode, .decode, .words"),
 }
 
 
@@ -122,12 +127,15 @@ def test_report(tmp_path):
 
 def test_soundness(tmp_path):
     folder = tmp_path / "cases"
-    write(folder, {"a.script": "|> tick\nsettled 0\nquiet u1 b1 0 0\nend 1|", "b.script": "|> tick\nend 1|"})
+    write(folder, {"a.script": "|> tick\nsettled 0\nquiet u1 b1 0 0\nend 1|", "b.script": "|> tick\nend 1|", "c.script": "|> tick\nquiet u1 b1 0 0\nstop 4 2 1|4|",
+                   "d.script": "|differs quiet\nstop 3 0 20|3|", "e.script": "|> tick\nbusy u1 b1\nend 1|", "f.verify": "|quiet|"})
     with checks.as_program(tmp_path, VERIFIES):
         ran = stories.run_tool("suite", folder)
     assert ran.returncode == 1 and ran.stdout.splitlines() == [
         f"fail  {folder}/a.script: the transcript isn't sound: 'unsound 2 5'", f"none  {folder}/b.script",
-        "2 cases: 0 pass, 1 fail, 1 none; soundness was looked at by 'verify'"], ran
+        f"fail  {folder}/c.script: the transcript isn't sound: 'unsound 2 5'", f"none  {folder}/d.script",
+        f"fail  {folder}/e.script: the transcript of 3 lines wasn't judged: status 11", f"none  {folder}/f.verify",
+        "6 cases: 0 pass, 3 fail, 3 none; soundness was looked at by 'verify'"], ran
 
 
 def test_wrong_inputs(tmp_path):
@@ -140,7 +148,7 @@ def test_wrong_inputs(tmp_path):
             assert (ran.returncode, ran.stdout, ran.stderr) == (2, "", f"suite: {path}{said}\n"), f"{name}: {ran}"
         (tmp_path / "empty").mkdir()
         for words, said in (([tmp_path / "none"], f"{tmp_path / 'none'}: No such file or directory"), ([], "the following arguments are required: folder"),
-                            ([tmp_path / "empty"], f"{tmp_path / 'empty'}: no case in it; a case ends with .script, .check, .um, .dup, .encode, .decode, .words")):
+                            ([tmp_path / "empty"], f"{tmp_path / 'empty'}: no case in it; a case ends with .script, .check, .verify, .um, .dup, .encode, .decode, .words")):
             ran = stories.run_tool("suite", *words)
             assert (ran.returncode, ran.stderr) == (2, f"suite: {said}\n"), ran
 

@@ -1,7 +1,7 @@
 """Whole calls of the program: the words, the input, and all that is printed. The status of a call is the one in its last line, `stop STATUS ..`, or 0.
 
-The rows of `check`, `um`, `duplicate`, `encode` and `decode` were worked by hand. tools/whole_calls_check.py compares the program with all of them, and tools/failing_allocations.py
-lets each request for memory fail in those of `encode` and `decode`.
+The rows of `check`, `verify`, `um`, `duplicate`, `encode` and `decode` were worked by hand. tools/whole_calls_check.py compares the program with all of them, and
+tools/failing_allocations.py lets each request for memory fail in those of `encode`, `decode` and `verify`.
 """
 
 import pathlib
@@ -560,7 +560,92 @@ VALUES = [
     ("encode T", module("T ::= SEQUENCE {a SEQUENCE (SIZE (2)) OF BOOLEAN, b INTEGER (0..5)}") + '{"c":1,"b":9,"a":[true,true]}\n', "wrong 0 103 b\nstop 8 5 103\n"),
     ("encode F1AP-PDU", 'module builtin\n{"initiatingMessage":{"criticality":"reject","procedureCode":6,"value":{"protocolIEs":[{"criticality":"reject","id":1,"value":1},{"criticality":"reject","id":7,"value":"400002"},{"criticality":"ignore","id":99,"raw":"aa"}]}}}\n', "000600150000030001000100000700040340000200634001AA\n"),
 ]
-CALLS = [*RUNS, *BEARERS, *UNACKNOWLEDGED, *DUPLICATES, *GENERATED, *PROFILES, *CHECKS, *LINES, *VALUES]
+
+
+def unsound(line, rule):
+    """What is printed of a text that breaks this rule first, in this line."""
+    return f"unsound {line} {rule}\nstop 12 {line} {rule}\n"
+
+
+def sound(text):
+    """A row of a transcript that is sound."""
+    return "verify", text, f"sound {len(text.splitlines())}\n"
+
+
+def without(text, *lines):
+    """A text without the lines of these numbers."""
+    return "".join(line for number, line in enumerate(text.splitlines(keepends=True), 1) if number not in lines)
+
+
+PLACED = "> static u1 A 1 1 12 1 64\n"
+OFFERED = PLACED + "> offer u1 b1 dl 45\nput A.up1/1 u1 b1 dl - 30FF00010000000145\n"
+TWO_OFFERED = OFFERED + "> offer u1 b1 dl 46\nput A.up1/1 u1 b1 dl - 30FF00010000000146\n"
+# a message that needs no other one, and its octets with a length of two octets, which has a shorter form
+CONFIRM = "> pump\nput #1 B.cp A.cp u1 0005000E0000020001000100000200020002\n"
+LONGER_FORM = CONFIRM.replace("0005000E", "000500800E")
+# transcripts that are judged, of each rule some
+VERIFIED = [
+    sound(TRANSCRIPT),
+    ("verify", TRANSCRIPT[:-1], "sound 13\n"),
+    *map(sound, (HANDOVER, REFUSED, HELD, "end 0\n", "stop 4 1 1\n", "stop 255 18446744073709551615 65535\n", CONFIRM + "end 1\n")),
+    # 1: no line of a transcript, or not at this place
+    ("verify", "\n", unsound(1, 1)),
+    ("verify", "; a remark\n" + TRANSCRIPT, unsound(1, 1)),
+    ("verify", TRANSCRIPT.replace("\n", "\r\n"), unsound(1, 1)),
+    ("verify", "\x00\xff", unsound(1, 1)),
+    ("verify", "differs Quota\nstop 3 0 20\n", unsound(1, 1)),
+    ("verify", "refused Empty\nend 0\n", unsound(1, 1)),
+    ("verify", "end 1\n", unsound(1, 1)),
+    ("verify", TRANSCRIPT.replace("30FF", "30ff"), unsound(3, 1)),
+    ("verify", TRANSCRIPT.replace("end 5", "end 6"), unsound(13, 1)),
+    ("verify", TRANSCRIPT + "\n", unsound(14, 1)),
+    ("verify", "stop 6 0 0\nstop 6 0 0\n", unsound(2, 1)),
+    ("verify", PLACED + "outstanding u1 b1 dl 2049 2048\nend 1\n", unsound(3, 1)),
+    sound(PLACED + "outstanding u1 b1 dl 2049 18446744073709551615\nstop 5 2 0\n"),
+    ("verify", PLACED + "put r/u1/b1/dl/1 u1 b2 dl 0 800045\nend 1\n", unsound(2, 1)),
+    ("verify", PLACED + "stop 256 0 0\n", unsound(2, 1)),
+    # 2: the newest item for the oldest, one that was lost, more than stand, and messages
+    ("verify", TWO_OFFERED + "> get A.up1/1\ngot A.up1/1 u1 b1 dl - 30FF00010000000146\nend 4\n", unsound(7, 2)),
+    ("verify", OFFERED + "got A.up1/1 u1 b1 dl 0 30FF00010000000145\nend 2\n", unsound(4, 2)),
+    ("verify", TWO_OFFERED + "lost A.up1/1 2\nlost A.up1/1 1\nend 3\n", unsound(7, 2)),
+    sound(TRANSCRIPT.replace("end 5", "lost r/u1/b1/dl/1 9\nlost #7 18446744073709551615\nend 5")),
+    ("verify", TRANSCRIPT.replace("> air u1 b1 dl", "lost r/u1/b1/dl/1 1"), unsound(11, 2)),
+    ("verify", CONFIRM + CONFIRM, unsound(4, 2)),
+    ("verify", CONFIRM + "got #1 B.cp A.cp u2 0005000E0000020001000100000200020002\nend 1\n", unsound(3, 2)),
+    ("verify", CONFIRM + "got #2 B.cp A.cp u1 0005000E0000020001000100000200020002\nend 1\n", unsound(3, 2)),
+    # 3: octets without a layout of the link, and bearers that no accepted event set
+    ("verify", TRANSCRIPT.replace("put A.up1/1 u1 b1 dl - 30FF", "put A.up1/1 u1 b1 dl - 20FF"), unsound(3, 3)),
+    ("verify", TRANSCRIPT.replace("put A.up1/1", "put A.du1/1"), unsound(3, 3)),
+    ("verify", TRANSCRIPT.replace("put A.up1/1", "put core/1"), unsound(3, 3)),
+    ("verify", PLACED + "refused Quota\nput r/u1/b1/dl/1 u1 b1 dl - 0000000000\nend 1\n", unsound(3, 3)),
+    ("verify", PLACED + "put A.up1/1 u1 b2 ul - 30FE000000000001\nend 1\n", unsound(2, 3)),
+    sound(PLACED + "put A.up1/1 u1 b1 ul - 30FE000000000001\nend 1\n"),
+    # the first event that sets a terminal counts, so numbers have 12 bits
+    sound(PLACED + "> static u1 A 1 1 18 8 64\n> offer u1 b1 dl 45\nput r/u1/b1/dl/1 u1 b1 dl 0 800045\nend 3\n"),
+    # 4: another packet than that of the COUNT, another number
+    ("verify", TRANSCRIPT.replace("dl 0 45", "dl 0 46"), unsound(12, 4)),
+    ("verify", TWO_OFFERED + "put r/u1/b1/dl/1 u1 b1 dl 0 800046\nend 3\n", unsound(6, 4)),
+    ("verify", TRANSCRIPT.replace("dl 0 800045", "dl 0 800145"), unsound(9, 4)),
+    # 5: a packet that was delivered, and a bearer that isn't quiet
+    ("verify", TRANSCRIPT.replace("end 5", "deliver u1 b1 dl 0 45\nend 5"), unsound(13, 5)),
+    ("verify", OFFERED + "> ask u1 b1\nquiet u1 b1 1 0\nend 3\n", unsound(5, 5)),
+    sound(TRANSCRIPT.replace("end 5", "quiet u1 b1 1 0\nend 5")),
+    # 6: a packet that was never offered, was refused, is of the other direction, or wasn't received
+    ("verify", OFFERED.replace("145\n", "146\n"), unsound(3, 6)),
+    ("verify", OFFERED.replace("45\nput", "45\nrefused Size\nput"), unsound(4, 6)),
+    ("verify", OFFERED.replace("offer u1 b1 dl", "offer u1 b1 ul"), unsound(3, 6)),
+    ("verify", without(TRANSCRIPT, 11), unsound(11, 6)),
+    # 7: octets that are no message, and such that aren't its one spelling
+    ("verify", "> pump\nput #1 B.cp A.cp u1 00\nend 1\n", unsound(2, 7)),
+    ("verify", CONFIRM[:-1] + "00\nend 1\n", unsound(2, 7)),
+    ("verify", LONGER_FORM + "end 1\n", unsound(2, 7)),
+    # 8: the end is missing
+    ("verify", "", unsound(1, 8)),
+    ("verify", TRANSCRIPT.removesuffix("end 5\n"), unsound(13, 8)),
+    # and words that are no form
+    ("verify x", TRANSCRIPT, "stop 2 0 0\n"),
+]
+CALLS = [*RUNS, *BEARERS, *UNACKNOWLEDGED, *DUPLICATES, *GENERATED, *PROFILES, *CHECKS, *VERIFIED, *LINES, *VALUES]
 
 # ---- long calls
 
@@ -588,6 +673,9 @@ def delivered(count):
     return "".join(f"offer 00\ngive #{number}\n" for number in range(1, count + 1))
 
 
+# an input of `verify` that is longer than one may be: lines before its last byte are judged first
+LIMIT = 16_777_216
+TICKS = "> tick\n" * (LIMIT // 7 + 1)
 # calls of which the end of what is printed is compared: one uplink packet more than half the space of numbers, none of which is delivered, and one offer more than that of an unacknowledged
 # bearer, none of which is given
 LONG_ENDS = [
@@ -596,6 +684,9 @@ LONG_ENDS = [
         "module builtin\nstatic u1 A 1 1 12 1 64\n" + "offer u1 b1 ul 00\nair u1 b1 ul\nack u1 b1 ul\n" * 2049,
         "outstanding u1 b1 ul 2049 2048\nstop 5 6147 0\n",
     ),
+    ("verify", TICKS, f"stop 11 {LIMIT + 1} 0\n"),
+    ("verify", "> tick\nend 2\n" + TICKS, unsound(2, 1)),
+    ("verify", TICKS[: LIMIT // 7 * 7], unsound(LIMIT // 7 + 1, 8)),
     ("um 12 2", "offer 00\n" * 2049, "> offer 00\nput #2049 2048 880000\noutstanding 2049 2048\nstop 5 2049 0\n"),
     # 1,024 above the awaited COUNT is too far ahead, one less isn't; the held message stays on the link
     ("um 12 1000", "offer 00\n" * 1025 + "give #1025\ngive #1024\ngive #1\ngive #1025\nask\n", "> give #1025\nheld #1025 Ahead\n> give #1024\ngot #1024 1023 83FF00\n> give #1\ngot #1 0 800000\ndeliver 0 00\n> give #1025\ngot #1025 1024 840000\n> ask\nwaiting 1 1025 2\nend 1030\n"),

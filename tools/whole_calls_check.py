@@ -84,8 +84,10 @@ def lines_of_events(words, given, printed):
 
 
 def front_of(call, taken):
-    """What the lines among its first octets print, where that is known exactly."""
+    """What the lines among its first octets print, where that is known exactly: of a text that is judged nothing, until its verdict is known."""
     words, given, printed = call
+    if words == "verify":
+        return ""
     events = lines_of_events(words, given, printed)
     if events is None:
         return None
@@ -119,13 +121,14 @@ def wrong_write(call, piece, child):
 
 
 def awaited_reads(call, piece):
-    """How many reads a call makes: none where nothing is read, and all of a script that is run to its end; None where that isn't fixed."""
+    """How many reads a call makes: none where nothing is read, and all of a script or transcript that is read to its end; None where that isn't fixed."""
     words, given, printed = call
     if status_of(printed) == 2 or words.split()[0] in ("profile", "generate"):
         return 0
     if given.startswith(WRONG_MODULE) and piece == 1:
         return len(WRONG_MODULE)
-    return -(-len(given) // piece) + 1 if lines_of_events(*call) else None
+    is_judged_to_its_end = words == "verify" and (not status_of(printed) or printed.endswith(" 8\n"))
+    return -(-len(given) // piece) + 1 if is_judged_to_its_end or lines_of_events(*call) else None
 
 
 # ---- the calls

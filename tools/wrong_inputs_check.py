@@ -12,13 +12,19 @@ import subprocess
 import sys
 
 import other_reading
+from whole_calls import CONFIRM, LIMIT, OFFERED, PLACED, TRANSCRIPT, without
 
 HEAD = "module builtin\n"
 RUN_HEADS = "'module builtin' or 'module text'"
 HEADS = "'module builtin', 'module builtin 2' or 'module text'"
-FORMS = ["run < SCRIPT", "generate N", "check < MODULE", "encode TYPE < VALUES", "decode TYPE < VALUES", "profile", "profile 2", "um N T < SCRIPT", "duplicate N Q < SCRIPT"]
+FORMS = ["run < SCRIPT", "generate N", "check < MODULE", "encode TYPE < VALUES", "decode TYPE < VALUES", "profile", "profile 2", "verify < TRANSCRIPT", "um N T < SCRIPT", "duplicate N Q < SCRIPT"]
 SMALL = "module text\nM DEFINITIONS AUTOMATIC TAGS ::= BEGIN\nT ::= SEQUENCE {number INTEGER (0..255), kind ENUMERATED {a, b} OPTIONAL}\nEND\n"
 BAD_MODULE = "module text\nM DEFINITIONS AUTOMATIC TAGS ::= BEGIN\nT ::= Nothing\nEND\n"
+
+A_LINE = "awaited a line of a transcript, as '> tick' or 'end 0', as word 1"
+NOT_PRINTABLE = "'(a text with other characters than printable ASCII)'"
+AT_ITS_PLACE = "the first line is that of an event, 'end' or 'stop'; nothing follows 'end' and 'stop', 'stop' alone follows 'outstanding', 'end' has the number of events, and hexadecimal digits are in upper case"
+ON_ITS_LINK = "what is got or lost stands on its link, the oldest first, and control messages are numbered 1, 2, 3 and so on"
 
 # ---- what each word is given, and what is said of it
 ROWS = [
@@ -64,6 +70,34 @@ ROWS = [
     ("encode T", SMALL + "{\n", 8, "line 5 is refused: no JSON"),
     ("encode T", SMALL + '{"kind":"a"}\n', 8, "line 5: the value at number is refused: not of the form of its type, or a mandatory member is missing"),
     ("encode T", SMALL + '{"number":256}\n', 8, "line 5: the value at number is refused: outside the bounds of its type"),
+    # no transcript at all
+    ("verify", "", 12, "there is no line 1: awaited that the text ends with 'end' or 'stop'"),
+    ("verify", "\n", 12, f"line 1: {A_LINE}, and it is ''"),
+    ("verify", "\x00\x7f\xff", 12, f"line 1: {A_LINE}, and it is {NOT_PRINTABLE}"),
+    ("verify", "x" * LIMIT, 12, f"line 1: {A_LINE}, and it is '(a long text)'"),
+    ("verify", "x" * (LIMIT + 1), 11, "the input is longer than 16,777,216 bytes"),
+    ("verify", "> tick\r\nend 1\r\n", 12, f"line 1: awaited an event as word 2, and it is {NOT_PRINTABLE}; the line ends with a carriage return (CR), and lines end with LF alone"),
+    ("verify", "; a remark\n> tick\nend 1\n", 12, f"line 1: {A_LINE}, and it is ';'"),
+    ("verify", HEAD + "tick\n", 12, f"line 1: {A_LINE}, and it is 'module'"),
+    ("verify", "\ufeff> tick\nend 1\n", 12, f"line 1: {A_LINE}, and it is {NOT_PRINTABLE}; the line begins with a byte order mark"),
+    # a line that is wrong, or can't stand there
+    ("verify", "> tick\n" * 9000 + "> tock\n", 12, "line 9001: awaited an event as word 2, and it is 'tock'"),
+    ("verify", TRANSCRIPT.replace("30FF", "30ff"), 12, "line 3: awaited an even number of hexadecimal digits in upper case as word 7, and it is '30ff00010000000145'"),
+    ("verify", TRANSCRIPT.replace("got A.up1/1", "got  A.up1/1"), 12, "line 5: awaited a tunnel, as A.up1/1, as word 2, and it is ''"),
+    ("verify", "end 1\n", 12, f"line 1 can't stand there: awaited that {AT_ITS_PLACE}, and it is 'end 1'"),
+    ("verify", TRANSCRIPT + "> tick\n", 12, f"line 14 can't stand there: awaited that {AT_ITS_PLACE}, and it is '> tick'"),
+    # a line that breaks a rule
+    ("verify", without(TRANSCRIPT, 3), 12, f"line 4 breaks rule 2: awaited that {ON_ITS_LINK}, and it is 'got A.up1/1 u1 b1 dl - 30FF00010000000145'"),
+    ("verify", OFFERED.replace("30FF", "20FF"), 12,
+     "line 3 breaks rule 3: awaited that the octets of an item are laid out as its link has it, and an accepted event set its bearer before, and it is 'put A.up1/1 u1 b1 dl - 20FF00010000000145'"),
+    ("verify", TRANSCRIPT.replace("dl 0 45", "dl 0 46"), 12,
+     "line 12 breaks rule 4: awaited that a packet, and the number in its octets, are those of the COUNT beside them, and it is 'deliver u1 b1 dl 0 46'"),
+    ("verify", OFFERED + "quiet u1 b1 1 0\n", 12, "line 4 breaks rule 5: awaited that packets are delivered by COUNT, from 0 on, and a quiet bearer has delivered all that was offered, and it is 'quiet u1 b1 1 0'"),
+    ("verify", without(TRANSCRIPT, 11), 12,
+     "line 11 breaks rule 6: awaited that a packet that is put was offered before, and one that is delivered was got by its receiver before, and it is 'deliver u1 b1 dl 0 45'"),
+    ("verify", CONFIRM[:-1] + "00\n", 12,
+     "line 2 breaks rule 7: awaited that the octets of a control message are the one spelling of a message of the profile, and it is '(a long text)'"),
+    ("verify", PLACED, 12, "there is no line 2: awaited that the text ends with 'end' or 'stop'"),
     # the other words
     ("um 12 2", "offer 4\n", 4, "line 1: awaited an even number of hexadecimal digits as word 2, and it is '4'"),
     ("um 12 2", "again\n", 4, "line 1: awaited a message, as #1, as word 2, and the line ends before it"),
@@ -91,7 +125,7 @@ def wrong_rows():
         line = lines[0].removeprefix("gnb: ") if len(lines) == 1 else "\n".join(lines)
         is_said = line.startswith(awaited) and len(line) > len(awaited) if awaited.endswith(" ") else line == awaited
         if (ended, is_said) != (status, True):
-            yield f"{words}, of an input that ends with {given[-40:]!r}: status {ended}, {line!r}, and not {status}, {awaited!r}"
+            yield f"{words}, of an input of {len(given)} characters that ends with {given[-40:]!r}: status {ended}, {line!r}, and not {status}, {awaited!r}"
     for words, awaited in USAGES:
         ended, lines = said_of(words, "")
         forms = [line.removeprefix("gnb:   gnb ") for line in lines[1:]]
