@@ -72,6 +72,7 @@ KNOWN = {
     ("run_links/src/book.rt", "offer"): (1, "no run makes 2^64 offers"),
     ("scenario_cli/src/top.rt", "generate_over"): (1, ERROR_OF("ProfileCodec::new")),
     ("scenario_cli/src/top.rt", "run_over"): (1, ERROR_OF("ProfileCodec::new")),
+    ("scenario_cli/src/top.rt", "verify_text"): (1, ERROR_OF("ProfileCodec::new")),
     ("transcript_check/src/checker.rt", "after"): (1, STATE),
     ("transcript_check/src/checker.rt", "answer"): (1, STATE),
     ("transcript_check/src/checker.rt", "finish"): (1, STATE),
