@@ -1,17 +1,20 @@
 #!/usr/bin/env python3
 """Checks tools/bench.py on a small program in place of ours: one that copies its input for `run`, fails for `generate`, and has no other word; and
-tools/bench_up.py and tools/bench_codec.py on ones that do nothing, or fail.
+tools/bench_up.py and tools/bench_codec.py on ones that do nothing, or fail. Of the program itself it looks at the ratios of tools/bench.py, on sizes ten times smaller: no
+word may take three times as long for twice as much.
 
-Nothing here is a proof, and no time is judged.
+Nothing here is a proof, and no other time is judged.
 
 Usage: tools/bench_check.py
 """
 
 import pathlib
 import re
+import shlex
 import sys
 import tempfile
 
+import program
 import stories
 
 PROGRAM = """#!/bin/sh
@@ -113,13 +116,37 @@ def check_codec(folder):
     assert (ran.returncode, ran.stderr) == (1, "bench_codec: decode of 40 values: the test ended with status 1\n"), ran.stderr
 
 
+# what grows as the size does takes twice as long for twice as much, and what grows as its square does four times; the least of so many measurements is looked at
+GREATEST_RATIO, MEASUREMENTS = 3, 3
+
+
+def ratios():
+    """How many times as long the program takes for twice as much, by what is measured."""
+    ran = stories.run_tool("bench", "--part", "10", "--program", shlex.join(program.command()), "--other", "")
+    assert ran.returncode == 0, ran.stderr
+    rows = [[cell.strip() for cell in line.split("|")[1:-1]] for line in ran.stdout.splitlines()[2:]]
+    assert len(rows) == 10 and all(len(cells) == 10 for cells in rows), ran.stdout
+    return {cells[0]: float(cells[3]) for cells in rows[1::2]}
+
+
+def check_ratios():
+    program.prepare()
+    least = ratios()
+    for _ in range(MEASUREMENTS - 1):
+        if max(least.values()) >= GREATEST_RATIO:
+            least = {name: min(ratio, least[name]) for name, ratio in ratios().items()}
+    wrong = {name: ratio for name, ratio in least.items() if ratio >= GREATEST_RATIO}
+    assert not wrong, f"for twice as much the program takes so many times as long, by word: {wrong}"
+
+
 def main():
+    check_ratios()
     with tempfile.TemporaryDirectory() as folder:
         check_table(pathlib.Path(folder))
         check_wrong(pathlib.Path(folder))
         check_up(pathlib.Path(folder))
         check_codec(pathlib.Path(folder))
-    print("the tables of measurements have their rows")
+    print(f"the tables of measurements have their rows, and no word takes {GREATEST_RATIO} times as long for twice as much")
 
 
 if __name__ == "__main__":

@@ -1,17 +1,23 @@
 #!/usr/bin/env python3
-"""Checks what the program says on standard error of wrong words and inputs, by a table: the place, what was awaited there, and what was read.
+"""Checks what the program says on standard error of wrong words and inputs, by a table: the place, what was awaited there, and what was read; and that it exits with the status that it has.
 
-Each row is a call's words, its input, the status that definitions/program.md gives it, and the line of standard error. Of words that are no form the first line is compared, and that each
-form follows in a line of its own. The lines that `gnb` itself says of an unproved program are left out.
+Each row is a call's words, its input, the status that definitions/program.md gives it, and the line of standard error. The last line of the output has the same status, and the line that
+standard error names as its place. Of words that are no form the first line is compared, and that each form follows in a line of its own; a word too many makes no form of any form.
+A call whose output is a device that is always full ends with the status of a failed write, whatever its words and input are, and one whose input is a folder with that of a failed read.
+The lines that `gnb` itself says of an unproved program are left out.
 
 Usage: tools/wrong_inputs_check.py
 """
 
 import argparse
+import contextlib
+import os
+import re
 import subprocess
 import sys
 
 import other_reading
+import program
 from whole_calls import CONFIRM, LIMIT, OFFERED, PLACED, TRANSCRIPT, without
 
 HEAD = "module builtin\n"
@@ -104,43 +110,105 @@ ROWS = [
     ("duplicate 12 4", "carry 3\n", 4, "line 1: awaited a leg, 1 or 2, as word 2, and it is '3'"),
     ("duplicate 12 4", "mode none\n", 4, "line 1: awaited a mode, both, 1 or 2, as word 2, and it is 'none'"),
 ]
+NO_WORD = "no word was given, or one that is not UTF-8"
 USAGES = [
-    ("", "no word was given, or one that is not UTF-8; awaited one of these:"),
-    ("ran", "'ran' is no form of the program; awaited one of these:"),
-    ("um 13 2", "'um' with 3 words is no form of the program, or a word after it is out of its range; awaited one of these:"),
+    ("", NO_WORD),
+    ("run \udcff", NO_WORD),
+    ("ran", "'ran' is no form of the program"),
+]
+# forms with a word out of its range, and forms with a word more
+NO_FORMS = ["um 13 2", "um 12 1001", "duplicate 12 3", "generate 0", "generate 100001", "profile 1"]
+NO_FORMS += ["run run", "check 2", "profile 2 2", "generate 1 1", "encode T T", "decode T T", "um 12 2 2", "duplicate 12 4 4"]
+LONGEST = 16_777_216
+# other ends: the words, the input, the last line of the output, and the line of standard error
+ENDS = [
+    ("um 12 2", "offer 45\n" * 2049, "stop 5 2049 0", "after line 2049 more than half a space of COUNTs is outstanding: 2049 2048"),
+    ("run", HEAD + (";" * 1023 + "\n") * (LONGEST // 1024), f"stop 11 {LONGEST + 1} 0", "the input is longer than 16,777,216 bytes"),
 ]
 
+# ---- what can't be written, and what can't be read
+FULL, FOLDER = "/dev/full", "/"
+WRITES = [
+    ("run", HEAD + "static u1 A 1 1 12 1 64\n"),
+    ("generate 1", ""),
+    ("check", SMALL),
+    ("profile", ""),
+    ("profile 2", ""),
+    ("encode T", SMALL + '{"number":1}\n'),
+    ("decode T", SMALL + "0001\n"),
+    ("um 12 2", "offer 45\n"),
+    ("duplicate 12 4", "offer 45\n"),
+    # the status of what was wrong before is lost with its line
+    ("ran", ""),
+    ("run run", ""),
+    ("run", HEAD + "jump\n"),
+    ("check", BAD_MODULE),
+    ("decode T", SMALL + "0G\n"),
+]
+READS = ["run", "check", "encode T", "decode T", "um 12 2", "duplicate 12 4"]
 
-def said_of(words, given):
-    """The status of a call, and what it says on standard error, without what `gnb` says of an unproved program."""
-    ran = subprocess.run([*other_reading.PROGRAM, *words.split()], input=given.encode(), capture_output=True, check=False)
-    lines = [line for line in ran.stderr.decode().splitlines() if not line.startswith("gnb: nothing is proved")]
-    return ran.returncode, lines
+
+def said_of(words, given="", source=None, sink=None):
+    """The status of a call, the last line of its output, and what it says on standard error, without what `gnb` says of an unproved program. `source` and `sink` are what it reads and writes in
+    place of its input and of a pipe."""
+    with contextlib.ExitStack() as handles:
+        streams = {"stdout": handles.enter_context(open(sink, "wb"))} if sink else {"stdout": subprocess.PIPE}
+        if source:
+            streams["stdin"] = os.open(source, os.O_RDONLY)
+            handles.callback(os.close, streams["stdin"])
+        else:
+            streams["input"] = given.encode()
+        ran = subprocess.run([*program.command(), *words.split()], stderr=subprocess.PIPE, check=False, **streams)
+    lines = [line.removeprefix("gnb: ") for line in ran.stderr.decode().splitlines() if not line.startswith("gnb: nothing is proved")]
+    return ran.returncode, (ran.stdout or b"").decode().rpartition("\n")[0].rpartition("\n")[2], lines
 
 
 def wrong_rows():
     """The rows of which something else is said: what is said, and what is awaited. A row's line that ends with a blank is a beginning."""
     for words, given, status, awaited in ROWS:
-        ended, lines = said_of(words, given)
-        line = lines[0].removeprefix("gnb: ") if len(lines) == 1 else "\n".join(lines)
+        ended, stop, lines = said_of(words, given)
+        line, place = "\n".join(lines), re.search(r"\bline ([0-9]+)", awaited)
         is_said = line.startswith(awaited) and len(line) > len(awaited) if awaited.endswith(" ") else line == awaited
-        if (ended, is_said) != (status, True):
-            yield f"{words}, of an input of {len(given)} characters that ends with {given[-40:]!r}: status {ended}, {line!r}, and not {status}, {awaited!r}"
-    for words, awaited in USAGES:
-        ended, lines = said_of(words, "")
-        forms = [line.removeprefix("gnb:   gnb ") for line in lines[1:]]
-        if ended != 2 or lines[:1] != [f"gnb: {awaited}"] or not all(any(line.startswith(form) for line in forms) for form in FORMS):
-            yield f"the words '{words}': status {ended}, and\n" + "\n".join(lines)
+        is_told = stop.startswith(f"stop {status} {place[1] if place else 0} ")
+        if (ended, is_said, is_told) != (status, True, True):
+            yield f"{words}, of an input that ends with {given[-40:]!r}: status {ended}, {stop!r}, {line!r}, and not {status}, {awaited!r}"
+    for words, given, awaited, said in ENDS:
+        if said_of(words, given) != (int(awaited.split()[1]), awaited, [said]):
+            yield f"{words}, of an input that ends with {given[-40:]!r}: {said_of(words, given)}, and not {awaited!r}, {said!r}"
+
+
+def wrong_usages():
+    """The words that are no form of which something else is said."""
+    said = [(words, f"'{words.split()[0]}' with {len(words.split())} words is no form of the program, or a word after it is out of its range") for words in NO_FORMS]
+    for words, awaited in [*USAGES, *said]:
+        ended, stop, lines = said_of(words)
+        forms = [line.removeprefix("  gnb ") for line in lines[1:]]
+        has_forms = all(any(line.startswith(form) for line in forms) for form in FORMS)
+        if (ended, stop, lines[:1]) != (2, "stop 2 0 0", [f"{awaited}; awaited one of these:"]) or not has_forms:
+            yield f"the words {words!r}: status {ended}, {stop!r}, and\n" + "\n".join(lines)
+
+
+def wrong_streams():
+    """The calls that don't report what can't be written or read."""
+    for words, given in WRITES:
+        if (ended := said_of(words, given, sink=FULL)) != (7, "", ["a write failed"]):
+            yield f"{words}, of an input that ends with {given[-40:]!r}, with a full output: {ended}"
+    for words in READS:
+        if (ended := said_of(words, source=FOLDER)) != (6, "stop 6 0 0", ["a read failed after 0 bytes"]):
+            yield f"{words}, where the input is a folder: {ended}"
+        if (ended := said_of(words, source=FOLDER, sink=FULL)) != (7, "", ["a write failed"]):
+            yield f"{words}, where the input is a folder, with a full output: {ended}"
 
 
 def main():
     argparse.ArgumentParser(description=__doc__, formatter_class=argparse.RawDescriptionHelpFormatter).parse_args()
-    subprocess.run([*other_reading.PROGRAM, "profile"], stdin=subprocess.DEVNULL, stdout=subprocess.DEVNULL, check=True)  # builds it, where it isn't
-    wrong = list(wrong_rows())
+    program.prepare()
+    wrong = [*wrong_rows(), *wrong_usages(), *(wrong_streams() if os.path.exists(FULL) else [])]
     for text in wrong:
         print(text)
     if not wrong:
-        print(f"{len(ROWS) + len(USAGES)} wrong inputs are reported with their place, what was awaited and what was read")
+        print(f"{len(ROWS) + len(ENDS) + len(USAGES) + len(NO_FORMS)} wrong inputs are reported with their place, what was awaited and what was read")
+        print(f"{len(WRITES) + 2 * len(READS)} calls report a write or a read that failed" if os.path.exists(FULL) else f"{FULL} isn't here: no write is made to fail")
     return 1 if wrong else 0
 
 
