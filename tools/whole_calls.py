@@ -1,7 +1,7 @@
 """Whole calls of the program: the words, the input, and all that is printed. The status of a call is the one in its last line, `stop STATUS ..`, or 0.
 
 The rows of `check`, `verify`, `um`, `duplicate`, `encode` and `decode` were worked by hand. tools/whole_calls_check.py compares the program with all of them, and
-tools/failing_allocations.py lets each request for memory fail in those of `encode`, `decode` and `verify`.
+tools/failing_allocations.py lets each request for memory fail in those of `encode` and `decode`, and in three of `verify`.
 """
 
 import pathlib

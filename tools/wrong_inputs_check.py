@@ -96,7 +96,7 @@ ROWS = [
     ("verify", without(TRANSCRIPT, 11), 12,
      "line 11 breaks rule 6: awaited that a packet that is put was offered before, and one that is delivered was got by its receiver before, and it is 'deliver u1 b1 dl 0 45'"),
     ("verify", CONFIRM[:-1] + "00\n", 12,
-     "line 2 breaks rule 7: awaited that the octets of a control message are the one spelling of a message of the profile, and it is '(a long text)'"),
+     "line 2 breaks rule 7: awaited that the octets of a control message are the one spelling of a message of the profile, and it is 'put #1 B.cp A.cp u1 0005000E000002000100010000020002000200'"),
     ("verify", PLACED, 12, "there is no line 2: awaited that the text ends with 'end' or 'stop'"),
     # the other words
     ("um 12 2", "offer 4\n", 4, "line 1: awaited an even number of hexadecimal digits as word 2, and it is '4'"),
