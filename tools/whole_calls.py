@@ -592,7 +592,7 @@ VERIFIED = [
     ("verify", "\n", unsound(1, 1)),
     ("verify", "; a remark\n" + TRANSCRIPT, unsound(1, 1)),
     ("verify", TRANSCRIPT.replace("\n", "\r\n"), unsound(1, 1)),
-    ("verify", "\x00\xff", unsound(1, 1)),
+    ("verify", "\x00\x7f", unsound(1, 1)),
     ("verify", "differs Quota\nstop 3 0 20\n", unsound(1, 1)),
     ("verify", "refused Empty\nend 0\n", unsound(1, 1)),
     ("verify", "end 1\n", unsound(1, 1)),
