@@ -1,6 +1,6 @@
 #!/usr/bin/env python3
-"""Lets each request for memory fail in turn: of the program, in each example that has an input (tools/examples.py), and in each call of `encode`, `decode` and `verify`
-that tools/whole_calls.py has a row of; or, where crates of tests are named, of each of their tests.
+"""Lets each request for memory fail in turn: of the program, in each example that has an input (tools/examples.py), in each call of `encode` and `decode` that
+tools/whole_calls.py has a row of, and in three of `verify`, of which each asks a thousand times and more; or, where crates of tests are named, of each of their tests.
 
 Every run of the program must end with status 9 and a front of what is printed where none fails; or, where it can do without what it asked for, as where none fails. Every test must pass: those of tests_cu_up, tests_du_node and
 tests_cu_control do where the step in which memory ran out answers that and nothing else, a later step answers it too, and another unit then does the steps as
@@ -20,8 +20,10 @@ import sys
 import tempfile
 
 from suite import call_of, is_input
-from whole_calls import VALUES, VERIFIED
+from whole_calls import CONFIRM, HANDOVER, TRANSCRIPT, VALUES, sound, unsound
 
+# what judges control messages asks for its memory first
+VERIFIED = [sound(TRANSCRIPT), sound(HANDOVER), ("verify", CONFIRM[:-1] + "00\nend 1\n", unsound(2, 7))]
 TOP = pathlib.Path(__file__).resolve().parents[1]
 PROGRAM = TOP / "crates/scenario_cli/out/scenario_cli"
 USAGE = 2
@@ -45,10 +47,9 @@ def examples():
 
 
 def rows():
-    """The calls of `encode`, `decode` and `verify` that tools/whole_calls.py has a row of."""
-    for number, (words, given, printed) in enumerate([*VALUES, *VERIFIED], 1):
-        if not printed.startswith("stop 2 "):
-            yield f"row {number}, {words}", words.split(), given.encode()
+    """The calls of `encode` and `decode` that tools/whole_calls.py has a row of, and those of `verify`."""
+    for number, (words, given, _) in enumerate([*VALUES, *VERIFIED], 1):
+        yield f"row {number}, {words}", words.split(), given.encode()
 
 
 def each_fails(library, name, words, given):

@@ -1,7 +1,7 @@
 """Whole calls of the program: the words, the input, and all that is printed. The status of a call is the one in its last line, `stop STATUS ..`, or 0.
 
 The rows of `check`, `verify`, `um`, `duplicate`, `encode` and `decode` were worked by hand. tools/whole_calls_check.py compares the program with all of them, and
-tools/failing_allocations.py lets each request for memory fail in those of `encode`, `decode` and `verify`.
+tools/failing_allocations.py lets each request for memory fail in those of `encode` and `decode`, and in three of `verify`.
 """
 
 import pathlib
@@ -592,7 +592,7 @@ VERIFIED = [
     ("verify", "\n", unsound(1, 1)),
     ("verify", "; a remark\n" + TRANSCRIPT, unsound(1, 1)),
     ("verify", TRANSCRIPT.replace("\n", "\r\n"), unsound(1, 1)),
-    ("verify", "\x00\xff", unsound(1, 1)),
+    ("verify", "\x00\x7f", unsound(1, 1)),
     ("verify", "differs Quota\nstop 3 0 20\n", unsound(1, 1)),
     ("verify", "refused Empty\nend 0\n", unsound(1, 1)),
     ("verify", "end 1\n", unsound(1, 1)),
