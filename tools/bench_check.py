@@ -14,6 +14,7 @@ import shlex
 import sys
 import tempfile
 
+import bench
 import program
 import stories
 
@@ -125,7 +126,7 @@ def ratios():
     ran = stories.run_tool("bench", "--part", "10", "--program", shlex.join(program.command()), "--other", "")
     assert ran.returncode == 0, ran.stderr
     rows = [[cell.strip() for cell in line.split("|")[1:-1]] for line in ran.stdout.splitlines()[2:]]
-    assert len(rows) == 10 and all(len(cells) == 10 for cells in rows), ran.stdout
+    assert len(rows) == 2 * len(bench.ROWS) and all(len(cells) == 10 for cells in rows), ran.stdout
     return {cells[0]: float(cells[3]) for cells in rows[1::2]}
 
 
