@@ -1,3 +1,4 @@
 pub mod Deciding
 pub mod Verified
+pub mod Wires
 pub mod Worked

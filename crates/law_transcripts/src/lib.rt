@@ -15,6 +15,8 @@ ghost use Rattle.transcript_defs.specs.Lines.{text_of, IsProper};
 ghost use Rattle.transcript_defs.specs.Rules.{Spelling};
 ghost use Rattle.transcript_defs.specs.Sound.{AreSound, Sound, IsUnsound};
 ghost use Rattle.transcript_defs.specs.declared.rule.Rule.TheVariants as rules;
+ghost use Rattle.run_defs.specs.Said.{Wires};
+ghost use Rattle.law_transcripts.specs.OfRuns.{lines_of_run};
 ghost use Rattle.law_transcripts.specs.Worked.{first_packet, counts_no_event, takes_nothing, puts_for_nobody, delivers_no_offer, is_quiet_without_offers, delivers_unseen, spells_nothing, ends_early};
 
 /// A text is sound, or breaks a rule at a first place: it can't be that neither holds.
@@ -54,6 +56,12 @@ pub fn a_quiet_bearer_has_delivered_all()
         → AreSound encode (Printed (Quiet ue bearer downlink uplink) ∷ past) → (dir : Dir)
         → delivered (record { ue = ue; bearer = bearer; dir = dir }) past
         ≡ offered (record { ue = ue; bearer = bearer; dir = dir }) (accepted (Printed (Quiet ue bearer downlink uplink)) past) }
+{}
+
+/// A sound transcript keeps the wires as a run does: what is taken from a tunnel or radio is the oldest item put there that was neither taken
+/// nor lost, control messages are numbered 1, 2, .. as they are put, and what is given repeats the message of its number.
+pub fn a_sound_transcript_keeps_the_wires()
+    ensures { (encode : Spelling) (past : List TextLine) → AreSound encode past → Wires (lines_of_run past) }
 {}
 
 /// The transcript of the first packet of a static terminal is sound.
