@@ -1,3 +1,4 @@
+pub mod Counts
 pub mod Deciding
 pub mod Verified
 pub mod Wires
