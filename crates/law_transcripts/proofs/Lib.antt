@@ -1,3 +1,5 @@
+pub mod Counts
 pub mod Deciding
 pub mod Verified
+pub mod Wires
 pub mod Worked

@@ -1,7 +1,7 @@
 //! Laws of sound transcripts. Each function does nothing: its contract is the law.
 #![tactic(auto)]
 
-ghost use Rattle.std.specs.Prelude.{◌≡◌, ℕ, List, [], ◌∷◌, ◌++◌};
+ghost use Rattle.std.specs.Prelude.{◌≡◌, ℕ, List, [], ◌∷◌, ◌++◌, length};
 ghost use Rattle.transcript_defs.specs.declared.rule.Rule.{Rule};
 ghost use Rattle.gnb_types.specs.declared.names.UeId.{UeId};
 ghost use Rattle.gnb_types.specs.declared.names.BearerId.{BearerId};
@@ -15,6 +15,9 @@ ghost use Rattle.transcript_defs.specs.Lines.{text_of, IsProper};
 ghost use Rattle.transcript_defs.specs.Rules.{Spelling};
 ghost use Rattle.transcript_defs.specs.Sound.{AreSound, Sound, IsUnsound};
 ghost use Rattle.transcript_defs.specs.declared.rule.Rule.TheVariants as rules;
+ghost use Rattle.std.specs.List.{flat_map, range_with_len};
+ghost use Rattle.run_defs.specs.Said.{Wires, counts_of};
+ghost use Rattle.law_transcripts.specs.OfRuns.{lines_of_run};
 ghost use Rattle.law_transcripts.specs.Worked.{first_packet, counts_no_event, takes_nothing, puts_for_nobody, delivers_no_offer, is_quiet_without_offers, delivers_unseen, spells_nothing, ends_early};
 
 /// A text is sound, or breaks a rule at a first place: it can't be that neither holds.
@@ -54,6 +57,18 @@ pub fn a_quiet_bearer_has_delivered_all()
         → AreSound encode (Printed (Quiet ue bearer downlink uplink) ∷ past) → (dir : Dir)
         → delivered (record { ue = ue; bearer = bearer; dir = dir }) past
         ≡ offered (record { ue = ue; bearer = bearer; dir = dir }) (accepted (Printed (Quiet ue bearer downlink uplink)) past) }
+{}
+
+/// A sound transcript keeps the wires as a run does: what is taken from a tunnel or radio is the oldest item put there that was neither taken
+/// nor lost, control messages are numbered 1, 2, .. as they are put, and what is given repeats the message of its number.
+pub fn a_sound_transcript_keeps_the_wires()
+    ensures { (encode : Spelling) (past : List TextLine) → AreSound encode past → Wires (lines_of_run past) }
+{}
+
+/// In a sound transcript the packets that were delivered on a bearer and direction show the COUNTs 0, 1, 2 and so on, in this order.
+pub fn counts_are_places()
+    ensures { (encode : Spelling) (key : EntityKey) (past : List TextLine) → AreSound encode past
+        → flat_map (counts_of key) (lines_of_run past) ≡ range_with_len 0 (length (delivered key past)) }
 {}
 
 /// The transcript of the first packet of a static terminal is sound.
