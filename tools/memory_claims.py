@@ -101,7 +101,7 @@ USE = re.compile(r"^\s*(?:pub )?use [^;]*;", re.MULTILINE)
 CONTRACT = re.compile(r"\b(?:ensures|requires|decreases|invariant)\b(?: +[\w-]+)? *\{")
 CONVERSION = re.compile(r"\bimpl(?:<[^{}]*?>)? From<(?:[a-z_]\w*::)*(?:Memory|NoMemory|AllocError|AllocFailed<[^{}]*?>)> for [^{]*\{")
 FUNCTION = re.compile(r"\bfn (" + IDENTIFIER + r")")
-# What stands behind a pattern.
+# What stands after a pattern.
 PATTERN_END = re.compile(r"[\s)]*(?:\|[^={};]*|if\b[^={};]*)?(?:=>|=(?![=>]))")
 COMPARED = re.compile(r"[=!]= *(?:Err\(|Some\()*$")
 # (the second word of `matches!` is a pattern)
@@ -266,12 +266,12 @@ TOLD = (
 
 
 def planted_faults():
-    """The planted bodies that are judged wrong, each put behind every file in turn of a few."""
+    """The planted bodies that are judged wrong, each put at the end of every file in turn of a few."""
     for name, text in list(sources())[::40]:
         for body in PLANTED + TOLD:
             seen = claims_in(name, text + "\n" + body)[Place(name, "planted")]
             if seen != (1 if body in PLANTED else 0):
-                yield f"a planted body behind {name} counts {seen} times:\n{body}"
+                yield f"a planted body at the end of {name} counts {seen} times:\n{body}"
 
 
 def differences(found):
